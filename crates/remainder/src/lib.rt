@@ -1,0 +1,1 @@
+// Polynomials over two elements: definitions and laws alone (specs/, proofs/), which the two header checks share.
