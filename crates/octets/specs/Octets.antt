@@ -24,3 +24,8 @@ splice b k v = take k b ++ v ++ drop (k + length v) b
 -- n elements of b from place k on
 abbrev pub part : {A : Type 0} → List A → ℕ → ℕ → List A
 part b k n = take n (drop k b)
+
+-- the bytes of a list of things, one after the other
+unfoldable pub cat : {A : Type 0} → (A → List ℕ) → List A → List ℕ
+cat f [] = []
+cat f (a ∷ rest) = f a ++ cat f rest

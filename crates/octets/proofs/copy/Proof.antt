@@ -1,49 +1,56 @@
+-- `octets::copy` meets its contract. Assumes nothing.
+use mathlib.Core.Path.{_≡_, refl, _∙_}
+use Prim.Native.Nat.{_≤_, _-_}
+use native.Mathlib.Numerals.{add-one}
+use lib.ListN.{length, length-set}
+use lib.Seq.{paste, paste-zero, paste-suc, take-length}
+use native.Mathlib.Omega.{arith}
+use borrow.Author.Needs.{needs}
 use Rattle.octets.proofs.copy.Statement.{statement}
 use Rattle.octets.proofs.copy.Tie as tie
-use Rattle.octets.proofs.copy.Reads as reads
-use Rattle.octets.proofs.copy.Lts as lts
 
 abbrev Inv-loop : tie.InvT-loop
-Inv-loop v b₀ k i₀ b i = ?
+Inv-loop v b₀ k i₀ b i = (i ≤ length v) × (b ≡ paste b₀ k v i) × (length b ≡ length b₀)
 
 abbrev μ-loop : tie.MeasureT-loop
-μ-loop v b₀ k i₀ b i = ?
+μ-loop v b₀ k i₀ b i = length v - i
 
--- src/lib.rt:29:5
 loop-holds : tie.Need-loop-holds Inv-loop μ-loop
-loop-holds c = ?
+loop-holds c = (omega arith, paste-zero _ (c .args .k) (c .args .v .now), refl)
 
--- src/lib.rt:30:20
 shared-slice-read-b : tie.Need-shared-slice-read-b Inv-loop μ-loop
-shared-slice-read-b c = ?
+shared-slice-read-b c = search needs
 
--- src/lib.rt:30:11
 add-b : tie.Need-add-b Inv-loop μ-loop
-add-b c = ?
+add-b c = search needs
 
--- src/lib.rt:30:9
 slice-write-b : tie.Need-slice-write-b Inv-loop μ-loop
-slice-write-b c = ?
+slice-write-b c = search needs
 
--- src/lib.rt:31:9
 add-i : tie.Need-add-i Inv-loop μ-loop
-add-i c = ?
+add-i c = search needs
 
--- src/lib.rt:29:5
 loop-less : tie.Need-loop-less Inv-loop μ-loop
-loop-less c = ?
+loop-less c = search needs
 
--- src/lib.rt:29:5
 loop-again : tie.Need-loop-again Inv-loop μ-loop
-loop-again c = ?
+loop-again c =
+    let l = c .before .before in
+    let a = l .before .args in (
+      omega arith,
+      rw (l .loop .inv .1, add-one) (paste-suc (a .b .now) (a .k) (a .v .now) (l .loop .i) 0 (omega arith) (omega arith)),
+      simp length-set (l .loop .inv .2),
+    )
 
--- src/lib.rt:24:1
 same-length : tie.Need-same-length Inv-loop μ-loop
-same-length c = ?
+same-length c = c .before .loop .inv .2
 
--- src/lib.rt:24:1
 returns : tie.Need-returns Inv-loop μ-loop
-returns c = ?
+returns c =
+    let l = c .before in
+    let a = l .before .args in
+    let e : l .loop .i ≡ length (a .v .now) = omega arith in
+    l .loop .inv .1 ∙ rw (e, take-length)
 
 pub copy-spec : {M : Type 1} → statement M
 copy-spec =

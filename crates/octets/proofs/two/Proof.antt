@@ -1,38 +1,31 @@
+-- `octets::two` meets its contract. Assumes nothing.
+use Prim.Native.Nat.{_+_}
+use native.Mathlib.Omega.{arith}
 use borrow.Author.Needs.{needs}
 use Rattle.octets.proofs.two.Statement.{statement}
 use Rattle.octets.proofs.two.Tie as tie
-use Rattle.octets.proofs.two.Reads as reads
-use Rattle.octets.proofs.two.Lts as lts
 
--- src/lib.rt:12:6
 shared-slice-read-result : tie.Need-shared-slice-read-result
 shared-slice-read-result c = search needs
 
--- src/lib.rt:12:6
 cast-result : tie.Need-cast-result
-cast-result c = ?
+cast-result c = omega (arith, c .shared-slice-known .given (c .before .args .k))
 
--- src/lib.rt:12:5
 mul-result : tie.Need-mul-result
-mul-result c = ?
+mul-result c = omega (arith, c .shared-slice-known .given (c .before .args .k))
 
--- src/lib.rt:12:30
 add-result : tie.Need-add-result
 add-result c = search needs
 
--- src/lib.rt:12:28
 shared-slice-read-result-2 : tie.Need-shared-slice-read-result-2
 shared-slice-read-result-2 c = search needs
 
--- src/lib.rt:12:28
 cast-result-2 : tie.Need-cast-result-2
-cast-result-2 c = ?
+cast-result-2 c = omega (arith, c .shared-slice-known2 .given (c .before .before .args .k + 1))
 
--- src/lib.rt:12:5
 add-result-2 : tie.Need-add-result-2
-add-result-2 c = ?
+add-result-2 c = omega (arith, c .before .shared-slice-known .given (c .before .before .args .k), c .shared-slice-known2 .given (c .before .before .args .k + 1))
 
--- src/lib.rt:8:1
 returns : tie.Need-returns
 returns c = search needs
 
