@@ -1,13 +1,11 @@
 -- Reading undoes writing and writing undoes reading, at either link; and the check byte by byte. Assumes nothing.
-use mathlib.Core.Path.{_≡_, refl, sym, ap, ap₂, _∙_}
-use mathlib.Core.List.{List, [], _∷_, _++_, append-nil}
+use mathlib.Core.Path.{_≡_, refl, ap, _∙_}
+use mathlib.Core.List.{[], _∷_}
 use Prim.Native.Nat.{ℕ, _+_, _*_, _/_, _%_, _^_, _<_}
-use native.Mathlib.Nat.{mod-lt, mod-eq-of-lt}
+use native.Mathlib.Nat.{mod-lt, mod-eq-of-lt, div-one}
 use native.Mathlib.Omega.{arith}
 use lib.Bits.{bitXor}
-use Rattle.remainder.specs.Bits.{bits, number, bitsOf}
-use Rattle.remainder.specs.Division.{remainder, residue}
-use Rattle.remainder.proofs.Digits.{bits-append, bits-mod}
+use Rattle.remainder.specs.Division.{residue}
 use Rattle.remainder.proofs.Laws.{passed, by-symbols}
 use Rattle.header.specs.Fields.{pathsOf, fields, topOf, word}
 use Rattle.header.specs.Check.{divisor, check}
@@ -96,22 +94,10 @@ fields-word link h f =
       clp = join-clp t (h .vci) (h .pt) (h .clp) ht (f .vci) (f .pt) (f .clp) i;
     })
 
--- a header's bits are its bytes' bits
-byte : (n : ℕ) → bits 8 n ≡ bits 8 (n % 256)
-byte n = sym (bits-mod 8 n)
-
-four-bytes : (w : ℕ) → bits 32 w ≡ bitsOf 8 (w / 16777216 % 256 ∷ w / 65536 % 256 ∷ w / 256 % 256 ∷ w % 256 ∷ [])
-unfolding bitsOf
-four-bytes w =
-    bits-append 8 24 w
-    ∙ ap₂ _++_ (byte (w / 16777216))
-    (bits-append 8 16 w
-    ∙ ap₂ _++_ (byte (w / 65536)) (bits-append 8 8 w ∙ ap₂ _++_ (byte (w / 256)) (byte w ∙ sym (append-nil (bits 8 (w % 256))))))
-
 -- the check, byte by byte
 pub check-bytes : (w : ℕ) → check w ≡ bitXor (passed (residue divisor 8) 0 (w / 16777216 % 256 ∷ w / 65536 % 256 ∷ w / 256 % 256 ∷ w % 256 ∷ [])) 0x55
-unfolding check residue
+unfolding check
 check-bytes w =
     ap (λ r. bitXor r 0x55)
-    (ap (λ b. number (remainder divisor b)) (four-bytes w)
-    ∙ by-symbols divisor 8 refl (w / 16777216 % 256) (w / 65536 % 256 ∷ w / 256 % 256 ∷ w % 256 ∷ []))
+    (by-symbols divisor 8 refl 3 w
+    ∙ ap (λ n. passed (residue divisor 8) 0 (w / 16777216 % 256 ∷ w / 65536 % 256 ∷ w / 256 % 256 ∷ n % 256 ∷ [])) (div-one w))

@@ -1,13 +1,11 @@
 -- The table of `header::pass` holds each byte's remainder: one test over the whole of it. Assumes nothing.
 use mathlib.Core.Path.{_≡_}
-use mathlib.Core.Bool.{Bool}
 use mathlib.Core.List.{List, [], _∷_}
 use Prim.Native.Nat.{ℕ, _<_}
-use lib.Dec.{eqb, eqb→eq}
-use lib.ListN.{getD, length}
+use lib.ListN.{getD}
 use Rattle.remainder.specs.Bits.{bits, number}
 use Rattle.remainder.specs.Division.{minus, divide, remainder, residue}
-use Rattle.remainder.proofs.Every.{entry}
+use Rattle.remainder.proofs.Every.{residue-at}
 use Rattle.header.specs.Check.{divisor}
 
 abbrev pub remainders : List ℕ
@@ -29,9 +27,6 @@ remainders =
     174 ∷ 169 ∷ 160 ∷ 167 ∷ 178 ∷ 181 ∷ 188 ∷ 187 ∷ 150 ∷ 145 ∷ 152 ∷ 159 ∷ 138 ∷ 141 ∷ 132 ∷ 131 ∷
     222 ∷ 217 ∷ 208 ∷ 215 ∷ 194 ∷ 197 ∷ 204 ∷ 203 ∷ 230 ∷ 225 ∷ 232 ∷ 239 ∷ 250 ∷ 253 ∷ 244 ∷ 243 ∷ []
 
-right : ℕ → ℕ → Bool
-right k x = eqb x (residue divisor 8 k)
-
 pub remainder-at : (k : ℕ) → k < 256 → getD remainders k 0 ≡ residue divisor 8 k
-unfolding right bits number minus divide remainder residue
-remainder-at k h = eqb→eq (getD remainders k 0) (residue divisor 8 k) (entry right remainders tt k h)
+unfolding bits number minus divide remainder residue
+remainder-at = residue-at divisor 8 remainders tt

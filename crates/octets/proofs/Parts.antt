@@ -1,9 +1,9 @@
 -- What a splice keeps and what it leaves alone; and a list of things of one size in bytes, one after the other: what stands at a thing's
 -- place, and what a splice there makes of it. It holds for any size and any layout. Assumes nothing.
-use mathlib.Core.Path.{_≡_, refl, sym, ap, _∙_}
+use mathlib.Core.Path.{_≡_, refl, sym, ap, ap₂, _∙_}
 use mathlib.Core.List.{List, [], _∷_, _++_, append-assoc}
 use Prim.Native.Nat.{ℕ, zero, suc, _+_, _*_, _≤_, _<_, _-_}
-use native.Mathlib.Nat.{le-of-suc-le-suc, not-suc-le-zero, mul-suc, mul-zero, add-comm, add-assoc, zero-add}
+use native.Mathlib.Nat.{le-of-suc-le-suc, not-suc-le-zero, mul-suc, mul-zero, add-comm, add-assoc, zero-add, add-zero}
 use native.Mathlib.Omega.{arith}
 use lib.ListN.{length, getD, take, drop, set, length-append, length-drop, take-append-drop}
 use lib.Seq.{take-at, drop-at, take-append-add, drop-append-add, take-append-le, drop-append-le, length-take-le, drop-drop}
@@ -56,6 +56,12 @@ splice-behind p q v n =
     rw (add-assoc, take-append-add, drop-append-add)
     (append-assoc (p ++ take n q) v (drop (n + length v) q) ∙ append-assoc p (take n q) (v ++ drop (n + length v) q)
     ∙ ap (λ x. p ++ x) (sym (append-assoc (take n q) v (drop (n + length v) q))))
+
+-- a list written from the front: what stands in b up to place k, then v
+pub written : {A : Type 0} (b p q v : List A) (k : ℕ) → b ≡ p ++ q → length p ≡ k → splice b k v ≡ (p ++ v) ++ drop (length v) q
+written b p q v k e l =
+    ap₂ (λ x n. splice x n v) e (sym l ∙ sym (add-zero (length p))) ∙ splice-behind p q v 0
+    ∙ ap (λ x. p ++ x) (ap (λ n. v ++ drop n q) (zero-add (length v))) ∙ sym (append-assoc p v (drop (length v) q))
 
 module _ {A : Type 0} (size : ℕ) (f : A → List ℕ) (len : (a : A) → length (f a) ≡ size) where
   -- the place of the next thing

@@ -4,13 +4,13 @@ use mathlib.Core.Path.{_≡_, refl, sym, ap, ap₂, _∙_}
 use mathlib.Core.Bool.{Bool, true, false, cond}
 use mathlib.Core.List.{List, [], _∷_, _++_, append-assoc, append-nil}
 use Prim.Native.Nat.{ℕ, zero, suc, _+_, _*_, _/_, _%_, _^_, _<_, _≤_}
-use native.Mathlib.Nat.{suc-add, add-suc, zero-add, le-of-suc-le-suc, not-suc-le-zero}
+use native.Mathlib.Nat.{suc-add, add-suc, zero-add, le-of-suc-le-suc, not-suc-le-zero, mul-zero, mul-suc, add-comm}
 use native.Mathlib.Omega.{arith}
 use lib.ListN.{length, length-append, replicate, length-replicate}
 use lib.Bits.{bitXor, xor-lt}
 use Rattle.remainder.specs.Bits.{bits, number, bitsOf}
 use Rattle.remainder.specs.Division.{less, minus, divide, zeros, remainder, residue}
-use Rattle.remainder.proofs.Digits.{bits-length, bits-xor, number-of, number-lt, bits-number}
+use Rattle.remainder.proofs.Digits.{bits-length, bits-xor, bits-append, bits-mod, number-of, number-lt, bits-number}
 
 -- subtracting
 less-less : (a b c : Bool) → less (less a b) c ≡ less (less a c) b
@@ -118,29 +118,55 @@ abbrev pub passed : (ℕ → ℕ) → ℕ → List ℕ → ℕ
 passed t r [] = r
 passed t r (x ∷ xs) = passed t (t (bitXor r x)) xs
 
+-- a remainder has as many bits as the divisor's lower part
+pub residue-lt : (g : List Bool) (v n : ℕ) → residue g v n < 2 ^ length g
+unfolding residue
+residue-lt g v n = rw (remainder-length g (bits v n)) at (number-lt (remainder g (bits v n)))
+
+-- the k symbols of w bits that a number has, the highest first
+abbrev pub symbols : ℕ → ℕ → ℕ → List ℕ
+symbols w zero n = []
+symbols w (suc k) n = n / 2 ^ (w * k) % 2 ^ w ∷ symbols w k n
+
+bits-symbols : (w k n : ℕ) → bits (w * k) n ≡ bitsOf w (symbols w k n)
+unfolding bits bitsOf
+bits-symbols w zero n = ap (λ j. bits j n) (mul-zero w)
+bits-symbols w (suc k) n =
+    ap (λ j. bits j n) (mul-suc w k ∙ add-comm (w * k) w) ∙ bits-append w (w * k) n
+    ∙ ap₂ _++_ (sym (bits-mod w (n / 2 ^ (w * k)))) (bits-symbols w k n)
+
 module _ (g : List Bool) (w : ℕ) (e : length g ≡ w) where
   residue-bits : (x : ℕ) → bits w (residue g w x) ≡ remainder g (bits w x)
   unfolding residue
   residue-bits x = ap (λ k. bits k (number (remainder g (bits w x)))) (sym e ∙ sym (remainder-length g (bits w x))) ∙ bits-number (remainder g (bits w x))
 
-  pub residue-lt : (x : ℕ) → residue g w x < 2 ^ w
-  unfolding residue
-  residue-lt x = rw (remainder-length g (bits w x), e) at (number-lt (remainder g (bits w x)))
+  residue-below : (x : ℕ) → residue g w x < 2 ^ w
+  residue-below x = rw e at (residue-lt g w x)
 
   pub passed-lt : (r : ℕ) (xs : List ℕ) → r < 2 ^ w → passed (residue g w) r xs < 2 ^ w
   passed-lt r [] h = h
-  passed-lt r (x ∷ xs) h = passed-lt (residue g w (bitXor r x)) xs (residue-lt (bitXor r x))
+  passed-lt r (x ∷ xs) h = passed-lt (residue g w (bitXor r x)) xs (residue-below (bitXor r x))
 
   two-symbols : (x y : ℕ) (m : List Bool) → remainder g (bits w x ++ (bits w y ++ m)) ≡ remainder g (bits w (bitXor (residue g w x) y) ++ m)
   two-symbols x y m =
       joined g (bits w x) (bits w y) m (bits-length w y ∙ sym e)
       ∙ ap (λ p. remainder g (p ++ m)) (ap (λ q. minus q (bits w y)) (sym (residue-bits x)) ∙ sym (bits-xor w (residue g w x) y))
 
-  symbols : (x : ℕ) (xs : List ℕ) → remainder g (bitsOf w (x ∷ xs)) ≡ bits w (passed (residue g w) (residue g w x) xs)
+  message : (x : ℕ) (xs : List ℕ) → remainder g (bitsOf w (x ∷ xs)) ≡ bits w (passed (residue g w) (residue g w x) xs)
   unfolding bitsOf
-  symbols x [] = ap (remainder g) (append-nil (bits w x)) ∙ sym (residue-bits x)
-  symbols x (y ∷ ys) = two-symbols x y (bitsOf w ys) ∙ symbols (bitXor (residue g w x) y) ys
+  message x [] = ap (remainder g) (append-nil (bits w x)) ∙ sym (residue-bits x)
+  message x (y ∷ ys) = two-symbols x y (bitsOf w ys) ∙ message (bitXor (residue g w x) y) ys
 
-  -- the remainder of a message is worked out symbol by symbol
-  pub by-symbols : (x : ℕ) (xs : List ℕ) → number (remainder g (bitsOf w (x ∷ xs))) ≡ passed (residue g w) 0 (x ∷ xs)
-  by-symbols x xs = ap number (symbols x xs) ∙ number-of w _ (passed-lt (residue g w x) xs (residue-lt x))
+  -- the remainder of a number of k + 1 symbols is worked out symbol by symbol
+  pub by-symbols : (k n : ℕ) → residue g (w * suc k) n ≡ passed (residue g w) 0 (symbols w (suc k) n)
+  unfolding residue
+  by-symbols k n =
+      let x = n / 2 ^ (w * k) % 2 ^ w in
+      let xs = symbols w k n in
+      ap (λ b. number (remainder g b)) (bits-symbols w (suc k) n)
+      ∙ ap number (message x xs) ∙ number-of w (passed (residue g w) (residue g w x) xs) (passed-lt (residue g w x) xs (residue-below x))
+
+  -- what stands above a symbol does not count
+  pub residue-mod : (n : ℕ) → residue g w (n % 2 ^ w) ≡ residue g w n
+  unfolding residue
+  residue-mod n = ap (λ b. number (remainder g b)) (bits-mod w n)
