@@ -1,2 +1,4 @@
 pub mod Table
 pub mod Laws
+pub mod Wire
+pub mod Sheets

@@ -1,2 +1,3 @@
 pub mod Routing
 pub mod Frame
+pub mod Sheet
