@@ -1,25 +1,17 @@
--- The routing header's check four bits at a time; reading undoes writing; a sealed cell is heard as its routing header says. Assumes nothing.
-use mathlib.Core.Path.{_≡_, refl, sym, ap, ap₂, _∙_}
-use mathlib.Core.Bool.{Bool, true, false, cond}
+-- What the functions of this room write and test. Assumes nothing.
+use mathlib.Core.Path.{_≡_, refl, ap, _∙_}
 use mathlib.Core.List.{List, [], _∷_, _++_, append-nil}
-use Prim.Native.Nat.{ℕ, _+_, _*_, _/_, _%_, _^_, _<_, _≤_}
-use native.Mathlib.Nat.{div-one, zero-add}
+use Prim.Native.Nat.{ℕ}
+use native.Mathlib.Nat.{zero-add}
+use native.Mathlib.Omega.{arith}
 use lib.ListN.{length, getD, take, drop, set, length-drop, drop-of-length-le}
 use lib.Seq.{drop-cons, set-at}
-use native.Mathlib.Omega.{arith}
-use Rattle.remainder.specs.Division.{residue}
-use Rattle.remainder.proofs.Laws.{passed, by-symbols, residue-lt}
-use borrow.Author.Tests.{eq-eqb, ne-eqb, le-leb}
+use borrow.Author.Tests.{eq-eqb, ne-eqb}
 use Rattle.octets.specs.Octets.{be2, be4, two, four, splice}
 use Rattle.octets.proofs.Parts.{written}
+use Rattle.routing.specs.Routing.{address}
 use Rattle.bus.specs.Frame.{cell, parity, sealed, delivered, heard}
-use Rattle.bus.specs.declared.Heard.the-variants.{Length, Damaged, Cell}
-use Rattle.bus.specs.Routing.{divisor, check, kindOf, numberOf, upper, routing, kindIn, classIn, numberIn, address}
-
--- the check, four bits at a time
-pub check-nibbles : (u : ℕ) → check u ≡ passed (residue divisor 4) 0 (u / 256 % 16 ∷ u / 16 % 16 ∷ u % 16 ∷ [])
-unfolding check
-check-nibbles u = by-symbols divisor 4 refl 2 u ∙ ap (λ n. passed (residue divisor 4) 0 (u / 256 % 16 ∷ u / 16 % 16 ∷ n % 16 ∷ [])) (div-one u)
+use Rattle.bus.specs.declared.Heard.the-variants.{Length, Damaged}
 
 -- what is written one after the other is the cell
 pub composed : (r h : ℕ) (payload b : List ℕ) → length payload ≡ 48 → length b ≡ 56 → splice (splice (splice (splice b 0 (be2 r)) 2 (be2 0)) 4 (be4 h)) 8 payload ≡ cell r 0 h payload

@@ -1,4 +1,2 @@
-pub mod Table
 pub mod Laws
 pub mod Wire
-pub mod Sheets

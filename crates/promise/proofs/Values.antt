@@ -4,7 +4,7 @@ use Rattle.remainder.specs.Bits.{bits, number}
 use Rattle.remainder.specs.Division.{minus, divide, remainder, residue}
 use Rattle.header.specs.Fields.{fields}
 use Rattle.header.specs.Check.{check as header-check}
-use Rattle.bus.specs.Routing.{check as routing-check, upper, routing}
+use Rattle.routing.specs.Routing.{check as routing-check, upper, routing}
 use Rattle.promise.specs.Starred.{holds, all-hold, starred}
 
 pub starred-hold : T (all-hold starred)

@@ -7,9 +7,9 @@ use Rattle.header.specs.Fields.{fields}
 use Rattle.header.specs.Check.{check}
 use Rattle.header.specs.declared.Link.{Link}
 use Rattle.header.specs.declared.Link.the-variants.{Uni, Nni}
-use Rattle.bus.specs.Routing.{routing}
-use Rattle.bus.specs.declared.Target.{Target}
-use Rattle.bus.specs.declared.Target.the-variants.{Unit as unit, Session as session}
+use Rattle.routing.specs.Routing.{routing}
+use Rattle.routing.specs.declared.Target.{Target}
+use Rattle.routing.specs.declared.Target.the-variants.{Unit as unit, Session as session}
 
 -- a case, and the value that the document gives
 pub data Case : Type 0 where

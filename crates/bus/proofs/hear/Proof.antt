@@ -2,9 +2,9 @@
 use mathlib.Core.Path.{_≡_, sym, ap, ap₂, _∙_}
 use lib.Seq.{length-take-le}
 use Rattle.octets.specs.Octets.{two, four}
-use Rattle.bus.specs.Routing.{address}
+use Rattle.routing.specs.Routing.{address}
 use Rattle.bus.specs.Frame.{delivered}
-use Rattle.bus.specs.declared.Address.the-variants.{Bad, To}
+use Rattle.routing.specs.declared.Address.the-variants.{Bad, To}
 use Rattle.bus.proofs.Laws.{heard-length, heard-parity, heard-address}
 use native.Mathlib.Omega.{arith}
 use borrow.Author.Needs.{needs}
@@ -29,8 +29,8 @@ returns-2 c = sym (heard-parity (c .before .before .before .before .before .befo
 two-requires : tie.Need-two-requires
 two-requires c κs = search needs
 
-addressed-requires : tie.Need-addressed-requires
-addressed-requires c κs = search needs
+read-requires : tie.Need-read-requires
+read-requires c κs = search needs
 
 enum-known-target : tie.Need-enum-known-target
 enum-known-target c = search needs
@@ -41,7 +41,7 @@ enum-told c = search needs
 returns-3 : tie.Need-returns-3
 returns-3 c =
     let f = c .before .before .before .before .before .before .before .before .before .before .args .frame .now in
-    let a : address (two f 0) ≡ Bad = sym (c .before .before .addressed .ensures ∙ ap address (c .before .before .before .two .ensures)) ∙ c .enum-told .given .1 in
+    let a : address (two f 0) ≡ Bad = sym (c .before .before .read .ensures ∙ ap address (c .before .before .before .two .ensures)) ∙ c .enum-told .given .1 in
     sym (heard-address f (c .before .before .before .before .before .before .before .before .if1 .left) (sym (c .before .before .before .before .before .before .parity .ensures) ∙ c .before .before .before .before .if2 .left) ∙ ap (λ a. delivered a (four f 4)) a)
 
 four-requires : tie.Need-four-requires
@@ -51,7 +51,7 @@ returns-4 : tie.Need-returns-4
 returns-4 c =
     let f = c .before .before .before .before .before .before .before .before .before .before .before .before .args .frame .now in
     let t = c .before .before .target .given in
-    let a : address (two f 0) ≡ To (t .0 .0) (t .0 .1 .0) = sym (c .before .before .before .before .addressed .ensures ∙ ap address (c .before .before .before .before .before .two .ensures)) ∙ t .1 in
+    let a : address (two f 0) ≡ To (t .0 .0) (t .0 .1 .0) = sym (c .before .before .before .before .read .ensures ∙ ap address (c .before .before .before .before .before .two .ensures)) ∙ t .1 in
     sym (heard-address f (c .before .before .before .before .before .before .before .before .before .before .if1 .left) (sym (c .before .before .before .before .before .before .before .before .parity .ensures) ∙ c .before .before .before .before .before .before .if2 .left) ∙ ap₂ delivered a (sym (c .four .ensures)))
 
 pub hear-spec : {M : Type 1} → statement M
@@ -64,7 +64,7 @@ hear-spec =
     shared-slice-read-if2
     returns-2
     two-requires
-    addressed-requires
+    read-requires
     enum-known-target
     enum-told
     returns-3

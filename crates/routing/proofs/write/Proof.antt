@@ -1,10 +1,10 @@
--- `bus::routing` meets its contract. Assumes nothing.
+-- `routing::write` meets its contract. Assumes nothing.
 use Rattle.remainder.proofs.Laws.{residue-lt}
-use Rattle.bus.specs.Routing.{divisor, check, routing}
+use Rattle.routing.specs.Routing.{divisor, check, routing}
 use native.Mathlib.Omega.{arith}
 use borrow.Author.Needs.{needs}
-use Rattle.bus.proofs.routing.Statement.{statement}
-use Rattle.bus.proofs.routing.Tie as tie
+use Rattle.routing.proofs.write.Statement.{statement}
+use Rattle.routing.proofs.write.Tie as tie
 
 upper-requires : tie.Need-upper-requires
 upper-requires c κs = search needs
@@ -26,6 +26,6 @@ returns : tie.Need-returns
 unfolding routing
 returns c = rw (c .check .ensures, c .before .upper .ensures .0)
 
-pub routing-spec : {M : Type 1} → statement M
-routing-spec =
+pub write-spec : {M : Type 1} → statement M
+write-spec =
     tie.close (tie.spec upper-requires mul-result check-requires cast-result add-result returns)

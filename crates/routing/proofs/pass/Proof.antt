@@ -1,15 +1,15 @@
--- `bus::pass` meets its contract. Assumes nothing.
+-- `routing::pass` meets its contract. Assumes nothing.
 use mathlib.Core.Path.{refl, _∙_}
 use Prim.Native.Nat.{_%_}
 use native.Mathlib.Nat.{mod-lt}
 use lib.Bits.{bitXor}
 use Rattle.remainder.proofs.Laws.{residue-mod}
-use Rattle.bus.specs.Routing.{divisor}
-use Rattle.bus.proofs.Table.{remainder-at}
+use Rattle.routing.specs.Routing.{divisor}
+use Rattle.routing.proofs.Table.{remainder-at}
 use native.Mathlib.Omega.{arith}
 use borrow.Author.Needs.{needs}
-use Rattle.bus.proofs.pass.Statement.{statement}
-use Rattle.bus.proofs.pass.Tie as tie
+use Rattle.routing.proofs.pass.Statement.{statement}
+use Rattle.routing.proofs.pass.Tie as tie
 
 cast-at : tie.Need-cast-at
 cast-at c = search needs

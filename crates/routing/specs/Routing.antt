@@ -5,10 +5,10 @@ use mathlib.Core.Bool.{Bool, true, false, cond}
 use mathlib.Core.List.{List, [], _∷_}
 use lib.Dec.{eqb, leb}
 use Rattle.remainder.specs.Division.{residue}
-use Rattle.bus.specs.declared.Target.{Target}
-use Rattle.bus.specs.declared.Target.the-variants.{Unit, Session, All}
-use Rattle.bus.specs.declared.Address.{Address}
-use Rattle.bus.specs.declared.Address.the-variants.{Bad, To}
+use Rattle.routing.specs.declared.Target.{Target}
+use Rattle.routing.specs.declared.Target.the-variants.{Unit, Session, All}
+use Rattle.routing.specs.declared.Address.{Address}
+use Rattle.routing.specs.declared.Address.the-variants.{Bad, To}
 
 -- "The check is the remainder of the upper 12 bits times x^4 by x^4+x+1": the coefficients of x+1 below x^4
 abbrev pub divisor : List Bool
@@ -45,11 +45,13 @@ classIn r = r / 2 ^ 12 % 4
 abbrev pub numberIn : ℕ → ℕ
 numberIn r = r / 2 ^ 4 % 2 ^ 8
 
--- "bad check, kind 3, unicast above 31 or broadcast address not 0 is damaged"
+-- "kind 3, unicast above 31 or broadcast address not 0 is damaged"
+abbrev pub said : ℕ → ℕ → ℕ → Address
+said kind class number =
+    cond (eqb kind 0) (cond (leb number 31) (To (Unit number) class) Bad)
+    (cond (eqb kind 1) (To (Session number) class)
+    (cond (eqb kind 2) (cond (eqb number 0) (To All class) Bad) Bad))
+
+-- "bad check" is damaged too
 unfoldable pub address : ℕ → Address
-address r =
-    cond (eqb (check (r / 2 ^ 4)) (r % 2 ^ 4))
-    (cond (eqb (kindIn r) 0) (cond (leb (numberIn r) 31) (To (Unit (numberIn r)) (classIn r)) Bad)
-    (cond (eqb (kindIn r) 1) (To (Session (numberIn r)) (classIn r))
-    (cond (eqb (kindIn r) 2) (cond (eqb (numberIn r) 0) (To All (classIn r)) Bad) Bad)))
-    Bad
+address r = cond (eqb (check (r / 2 ^ 4)) (r % 2 ^ 4)) (said (kindIn r) (classIn r) (numberIn r)) Bad

@@ -1,9 +1,9 @@
--- `bus::check` meets its contract. Assumes nothing.
+-- `routing::check` meets its contract. Assumes nothing.
 use mathlib.Core.Path.{sym}
-use Rattle.bus.proofs.Laws.{check-nibbles}
+use Rattle.routing.proofs.Laws.{check-nibbles}
 use borrow.Author.Needs.{needs}
-use Rattle.bus.proofs.check.Statement.{statement}
-use Rattle.bus.proofs.check.Tie as tie
+use Rattle.routing.proofs.check.Statement.{statement}
+use Rattle.routing.proofs.check.Tie as tie
 
 cast-pass : tie.Need-cast-pass
 cast-pass c = search needs

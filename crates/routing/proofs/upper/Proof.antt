@@ -1,9 +1,9 @@
--- `bus::upper` meets its contract. Assumes nothing.
-use Rattle.bus.specs.Routing.{upper}
+-- `routing::upper` meets its contract. Assumes nothing.
+use Rattle.routing.specs.Routing.{upper}
 use native.Mathlib.Omega.{arith}
 use borrow.Author.Needs.{needs}
-use Rattle.bus.proofs.upper.Statement.{statement}
-use Rattle.bus.proofs.upper.Tie as tie
+use Rattle.routing.proofs.upper.Statement.{statement}
+use Rattle.routing.proofs.upper.Tie as tie
 
 mul-queue : tie.Need-mul-queue
 mul-queue c = search needs

@@ -6,7 +6,6 @@ use mathlib.Core.List.{List, [], _∷_}
 use Rattle.remainder.specs.Bits.{bit, number}
 
 infixl 60 _⊕_
-
 abbrev _⊕_ : Bool → Bool → Bool
 _⊕_ = xor
 

@@ -1,4 +1,4 @@
--- The table of `bus::pass` holds the remainder of each four bits: one test over the whole of it. Assumes nothing.
+-- The table of `routing::pass` holds the remainder of each four bits: one test over the whole of it. Assumes nothing.
 use mathlib.Core.Path.{_≡_}
 use mathlib.Core.List.{List, [], _∷_}
 use Prim.Native.Nat.{ℕ, _<_}
@@ -6,7 +6,7 @@ use lib.ListN.{getD}
 use Rattle.remainder.specs.Bits.{bits, number}
 use Rattle.remainder.specs.Division.{minus, divide, remainder, residue}
 use Rattle.remainder.proofs.Every.{residue-at}
-use Rattle.bus.specs.Routing.{divisor}
+use Rattle.routing.specs.Routing.{divisor}
 
 abbrev pub remainders : List ℕ
 remainders = 0 ∷ 3 ∷ 6 ∷ 5 ∷ 12 ∷ 15 ∷ 10 ∷ 9 ∷ 11 ∷ 8 ∷ 13 ∷ 14 ∷ 7 ∷ 4 ∷ 1 ∷ 2 ∷ []
