@@ -10,7 +10,7 @@ use Rattle.card.specs.declared.Card.the-variants.{Narrow, Wide}
 use Rattle.record.specs.declared.Record as R
 use Rattle.record.specs.declared.Record.the-variants.{Empty, Drop, Route, Page}
 use Rattle.record.specs.declared.Got.{Got}
-use Rattle.record.specs.declared.Got.the-variants.{Is, Unknown, Outside}
+use Rattle.record.specs.declared.Got.the-variants.{Is, Nothing}
 
 -- "8 bytes a record", and the most bytes that a table's records take
 abbrev pub size : ℕ
@@ -53,7 +53,7 @@ recordIn card b =
     cond (eqb (getD b 0 0) 0) (Is Empty)
     (cond (eqb (getD b 0 0) 1) (Is Drop)
     (cond (eqb (getD b 0 0) 2) (Is (Route (two b 1) (vpiIn card b) (two b 4)))
-    (cond (eqb (getD b 0 0) 3) (Is (Page (two b 1) (four b 4))) Unknown)))
+    (cond (eqb (getD b 0 0) 3) (Is (Page (two b 1) (four b 4))) Nothing)))
 
 -- whether a record at a place is wholly inside a memory
 abbrev pub inside : List ℕ → ℕ → Bool
@@ -61,7 +61,7 @@ inside memory at = leb (at + size) (length memory)
 
 -- what stands at a place of a memory, and the memory with a record written there
 unfoldable pub recordAt : Card → List ℕ → ℕ → Got
-recordAt card memory at = cond (inside memory at) (recordIn card (part memory at size)) Outside
+recordAt card memory at = cond (inside memory at) (recordIn card (part memory at size)) Nothing
 
 unfoldable pub written : Card → List ℕ → ℕ → R.Record → List ℕ
 written card memory at r = cond (inside memory at) (splice memory at (bytesOf card r)) memory

@@ -17,11 +17,10 @@ pub enum Record {
     Page { top: u16, place: u32 },
 }
 
-// What stands at a place of a memory.
+// What stands at a place of a memory: a record, or nothing, where the place is not wholly inside or the kind is unknown.
 pub enum Got {
     Is(Record),
-    Unknown,
-    Outside,
+    Nothing,
 }
 
 // The bytes of a route: the outgoing VPI is byte 3 on the narrow card, bytes 6 and 7 on the wide one.
@@ -118,7 +117,7 @@ fn read(card: Card, b: &[u8]) -> Got
         let place = octets::four(b, 4);
         return Got::Is(Record::Page { top, place });
     }
-    Got::Unknown
+    Got::Nothing
 }
 
 // What stands at a place of a memory.
@@ -126,10 +125,10 @@ pub fn get(card: Card, memory: &[u8], at: usize) -> Got
     ensures { λ r. ⌜ r ≡ recordAt card (now (memory .entry)) at ⌝ }
 {
     if memory.len() < SIZE {
-        return Got::Outside;
+        return Got::Nothing;
     }
     if memory.len() - SIZE < at {
-        return Got::Outside;
+        return Got::Nothing;
     }
     read(card, &memory[at..at + SIZE])
 }

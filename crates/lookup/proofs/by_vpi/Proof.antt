@@ -1,0 +1,86 @@
+-- `lookup::by_vpi` meets its contract. Assumes nothing.
+use mathlib.Core.Path.{ap, _∙_}
+use borrow.Author.Tests.{lt-ltb, le-ltb}
+use Rattle.lookup.specs.Lookup.{byVci, byVpi}
+use borrow.Author.Needs.{needs}
+use Rattle.lookup.proofs.by_vpi.Statement.{statement}
+use Rattle.lookup.proofs.by_vpi.Tie as tie
+
+enum-told : tie.Need-enum-told
+enum-told c = search needs
+
+enum-told-2 : tie.Need-enum-told-2
+enum-told-2 c = search needs
+
+enum-known-r : tie.Need-enum-known-r
+enum-known-r c = search needs
+
+goes-requires : tie.Need-goes-requires
+goes-requires c κs = search needs
+
+enum-known-r-2 : tie.Need-enum-known-r-2
+enum-known-r-2 c = search needs
+
+returns : tie.Need-returns
+unfolding byVpi
+returns c =
+    let p = c .before .before .before .r2 .given in
+    rw (p .1, lt-ltb (p .0 .0) (c .before .before .before .before .before .before .args .h .vci) (c .if1 .taken))
+
+cast-at : tie.Need-cast-at
+cast-at c = search needs
+
+cast-at-2 : tie.Need-cast-at-2
+cast-at-2 c = search needs
+
+mul-at : tie.Need-mul-at
+mul-at c = search needs
+
+add-at : tie.Need-add-at
+add-at c = search needs
+
+get-requires : tie.Need-get-requires
+get-requires c κs = search needs
+
+by-vci-requires : tie.Need-by-vci-requires
+by-vci-requires c κs = search needs
+
+returns-2 : tie.Need-returns-2
+unfolding byVpi
+returns-2 c = rw (c .enum-told .given .1)
+
+returns-3 : tie.Need-returns-3
+unfolding byVpi
+returns-3 c = rw (c .enum-told2 .given .1)
+
+returns-4 : tie.Need-returns-4
+unfolding byVpi
+returns-4 c = c .goes .ensures ∙ rw (c .before .before .r .given .1)
+
+returns-5 : tie.Need-returns-5
+unfolding byVpi
+returns-5 c =
+    let a = c .before .before .before .before .before .before .before .before .before .args in
+    let p = c .before .before .before .before .before .before .r2 .given in
+    c .by-vci .ensures ∙ ap (λ g. byVci g (a .h)) (c .before .get .ensures) ∙ rw (p .1, le-ltb (p .0 .0) (a .h .vci) (c .before .before .before .if1 .left))
+
+pub by-vpi-spec : {M : Type 1} → statement M
+by-vpi-spec =
+    tie.close
+    (tie.spec
+    enum-told
+    enum-told-2
+    enum-known-r
+    goes-requires
+    enum-known-r-2
+    returns
+    cast-at
+    cast-at-2
+    mul-at
+    add-at
+    get-requires
+    by-vci-requires
+    returns-2
+    returns-3
+    returns-4
+    returns-5)
