@@ -1,0 +1,53 @@
+-- The state of a shelf: its declared units, a fresh one, which unit has a number. Assumes nothing.
+use Prim.Native.Nat.{ℕ, suc}
+use mathlib.Core.Bool.{Bool, false, cond}
+use mathlib.Core.List.{List, [], _∷_, map}
+use lib.Dec.{eqb}
+use lib.ListN.{take, replicate}
+use Rattle.header.specs.declared.Link.the-variants.{Uni}
+use Rattle.outlet.specs.Outlets.{empty, fresh as freshOutlet, one}
+use Rattle.outlet.specs.declared.Limits.{Limits}
+use Rattle.arbiter.specs.Arbitration.{nobody, fresh as freshArbiter}
+use Rattle.shelf.specs.declared.Settings.{Settings}
+use Rattle.shelf.specs.declared.Unit as U
+use Rattle.shelf.specs.declared.Shelf.{Shelf}
+use Rattle.shelf.specs.declared.Found.{Found}
+use Rattle.shelf.specs.declared.Found.the-variants.{At, Nothing}
+
+-- a freshly declared unit: "A good load .. starts with all queues empty"
+abbrev pub unit : Settings → Limits → ℕ → U.Unit
+unit settings limits place =
+    record { settings = settings; outlet = freshOutlet limits; inlet = empty; place = place; sessions = replicate 4 0 }
+
+-- a place without a unit
+abbrev pub blank : U.Unit
+blank =
+    record {
+      settings = record { number = 0; link = Uni; top = 0; priority = 0 };
+      outlet = one 0 false;
+      inlet = empty;
+      place = 0;
+      sessions = replicate 4 0;
+    }
+
+-- a bus without a unit, as "a fresh 16 bus with no units"
+abbrev pub fresh : ℕ → Shelf
+fresh bus = record { bus = bus; count = 0; units = replicate 32 blank; arbiter = freshArbiter; granted = nobody; frame = 0 }
+
+-- the declared units, in `unit` line order, and their numbers
+abbrev pub declared : Shelf → List U.Unit
+declared shelf = take (shelf .count) (shelf .units)
+
+abbrev pub numberOf : U.Unit → ℕ
+numberOf u = u .settings .number
+
+abbrev pub numbers : List U.Unit → List ℕ
+numbers units = map numberOf units
+
+-- the place of the first of these numbers that is this one, counted from a place on
+unfoldable pub placeFrom : ℕ → List ℕ → ℕ → Found
+placeFrom i [] number = Nothing
+placeFrom i (n ∷ ns) number = cond (eqb n number) (At i) (placeFrom (suc i) ns number)
+
+unfoldable pub findIn : List U.Unit → ℕ → Found
+findIn units number = placeFrom 0 (numbers units) number

@@ -1,0 +1,4 @@
+pub mod Tabulate
+pub mod Regions
+pub mod Fits
+pub mod Grown

@@ -1,0 +1,79 @@
+-- The lines of a table, each judged against the lines before it; the first faulty one ends it. Assumes nothing.
+use Prim.Native.Nat.{ℕ, _+_, _*_}
+use mathlib.Core.Bool.{Bool, true, false}
+use mathlib.Core.List.{List, [], _∷_}
+use mathlib.Core.Option.{Option, none, some}
+use Rattle.card.specs.declared.Card.{Card}
+use Rattle.record.specs.Record.{size}
+use Rattle.record.specs.declared.Got.the-variants.{Is}
+use Rattle.line.specs.declared.Line.{Line}
+use Rattle.line.specs.declared.Line.the-variants.{Bus, Unit as L·Unit, Vp, Drop, Page, Vc, Mc}
+use Rattle.line.specs.declared.Wrong.{Wrong}
+use Rattle.line.specs.declared.Reading.{Reading}
+use Rattle.line.specs.declared.Reading.the-variants.{Good, Bad}
+use Rattle.table.specs.declared.Verdict.{Verdict}
+use Rattle.table.specs.declared.Verdict.the-variants.{Fine, Form, Order, Twice, Wide, Room}
+use Rattle.table.specs.Judge.{judgeBus, judgeUnit, judgeVp, judgeDrop, judgePage, judgeVc, judgeMc}
+use Rattle.table.specs.Told.{ofUnit, ofPage, topOf, hearsIn, total, recordOf, shelfOf}
+
+-- "first line is not `bus`"
+abbrev pub started : List Line → Verdict → Verdict
+started [] rest = Order 1
+started (l ∷ told) rest = rest
+
+abbrev pub isFirst : List Line → Bool
+isFirst [] = true
+isFirst (l ∷ told) = false
+
+-- "unit not declared before use": a declared unit has a top VPI
+abbrev pub owned : Option ℕ → (ℕ → Verdict) → Verdict
+owned none rest = Order 2
+owned (some top) rest = rest top
+
+abbrev pub isDeclared : Option ℕ → Bool
+isDeclared none = false
+isDeclared (some top) = true
+
+-- Order, Twice, Wide or Room against the lines so far, in a memory with room for so many bytes
+unfoldable pub judge : Card → ℕ → List Line → Line → Verdict
+judge card room told (Bus bus) = judgeBus card (isFirst told) bus
+judge card room told (L·Unit settings limits) =
+    started told
+    (judgeUnit card (shelfOf told .bus) (isDeclared (topOf told (ofUnit (settings .number)))) room (size * total told) (settings .number) (settings .link)
+    (settings .top))
+judge card room told (Vp u v target class outvpi) =
+    started told (owned (topOf told (ofUnit u)) λ top. judgeVp card (shelfOf told .bus) top v (Is (recordOf told (ofUnit u) v)) target outvpi)
+judge card room told (Drop u v) = started told (owned (topOf told (ofUnit u)) λ top. judgeDrop top v (Is (recordOf told (ofUnit u) v)))
+judge card room told (Page u v topvci) =
+    started told (owned (topOf told (ofUnit u)) λ top. judgePage room (size * total told) top v (Is (recordOf told (ofUnit u) v)) topvci)
+judge card room told (Vc u v w target class outvpi outvci) =
+    started told
+    (owned (topOf told (ofUnit u)) λ top.
+    judgeVc card (shelfOf told .bus) top v (Is (recordOf told (ofUnit u) v)) w (Is (recordOf told (ofPage u v) w)) target outvpi)
+judge card room told (Mc u session) = started told (owned (topOf told (ofUnit u)) λ top. judgeMc (hearsIn told u session))
+
+-- what reading lines comes to: all are good, or the first that is not, counted from 1, and why
+pub data Ran : Type 0 where
+  done : List Line → Ran
+  stopped : ℕ → Verdict → Ran
+
+-- a line that cannot be read is Form; one that can is judged
+abbrev pub verdictOn : Card → ℕ → List Line → Reading → Verdict
+verdictOn card room told (Good l) = judge card room told l
+verdictOn card room told (Bad wrong) = Form wrong
+
+abbrev pub with : Reading → List Line → List Line
+with (Good l) told = l ∷ told
+with (Bad wrong) told = told
+
+abbrev pub unless : Verdict → ℕ → Ran → Ran
+unless Fine n rest = rest
+unless (Form wrong) n rest = stopped n (Form wrong)
+unless (Order field) n rest = stopped n (Order field)
+unless (Twice field) n rest = stopped n (Twice field)
+unless Wide n rest = stopped n Wide
+unless Room n rest = stopped n Room
+
+unfoldable pub run : Card → ℕ → List Line → ℕ → List Reading → Ran
+run card room told n [] = done told
+run card room told n (r ∷ rs) = unless (verdictOn card room told r) (n + 1) (run card room (with r told) (n + 1) rs)
