@@ -1,9 +1,10 @@
 -- The state of a shelf: its declared units, a fresh one, which unit has a number. Assumes nothing.
-use Prim.Native.Nat.{ℕ, suc}
+use Prim.Native.Nat.{ℕ, suc, _<_}
+use mathlib.Core.Path.{_≡_}
 use mathlib.Core.Bool.{Bool, false, cond}
 use mathlib.Core.List.{List, [], _∷_, map}
 use lib.Dec.{eqb}
-use lib.ListN.{take, replicate}
+use lib.ListN.{length, getD, take, replicate}
 use Rattle.header.specs.declared.Link.the-variants.{Uni}
 use Rattle.outlet.specs.Outlets.{empty, fresh as freshOutlet, one}
 use Rattle.outlet.specs.declared.Limits.{Limits}
@@ -51,3 +52,13 @@ placeFrom i (n ∷ ns) number = cond (eqb n number) (At i) (placeFrom (suc i) ns
 
 unfoldable pub findIn : List U.Unit → ℕ → Found
 findIn units number = placeFrom 0 (numbers units) number
+
+-- a unit with this number stands at this place, and none does before it
+pub record FoundAt (units : List U.Unit) (number i : ℕ) : Type 0 where
+  pub inside : i < length units
+  pub named : numberOf (getD units i blank) ≡ number
+  pub first : (j : ℕ) → j < i → numberOf (getD units j blank) ≡ number → ⊥
+
+-- none has it
+abbrev pub FoundNowhere : List U.Unit → ℕ → Type 0
+FoundNowhere units number = (j : ℕ) → j < length units → numberOf (getD units j blank) ≡ number → ⊥

@@ -47,6 +47,9 @@ pub enum Found {
 }
 
 impl Unit {
+    // how many cells an inlet holds
+    pub const INLET: u8 = 4;
+
     // A freshly declared unit: all queues empty, no session heard.
     pub fn declared(settings: Settings, limits: Limits, place: u32) -> Unit
         ensures { λ r. ⌜ r ≡ unitOf settings limits place ⌝ }

@@ -2,3 +2,4 @@ pub mod Tabulate
 pub mod Regions
 pub mod Fits
 pub mod Grown
+pub mod Shelved
