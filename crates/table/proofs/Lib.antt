@@ -2,4 +2,5 @@ pub mod Tabulate
 pub mod Regions
 pub mod Fits
 pub mod Grown
+pub mod Memory
 pub mod Shelved

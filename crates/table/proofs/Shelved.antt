@@ -32,7 +32,8 @@ use Rattle.table.specs.Lines.{isFirst, judge}
 use Rattle.table.proofs.Tabulate.{some-inj, none-some}
 use Rattle.table.proofs.Regions.{start, firstOf}
 use Rattle.table.proofs.Fits.{UnitFine, fine-bus, fine-unit, fine-mc}
-use Rattle.table.proofs.Grown.{decide, eqb-sym}
+use Rattle.table.proofs.Grown.{decide}
+use Rattle.table.proofs.Memory.{Ranged}
 
 -- how many of the numbers below n are not declared
 vacancy : Option ℕ → ℕ
@@ -316,16 +317,6 @@ module _ (told : List Line) (settings : Settings) (limits : Limits) (small : set
   shelved-unit : Shelved (L·Unit settings limits ∷ told)
   unfolding shelfOf shelfBy
   shelved-unit = record { long = next-long; counted = next-count; here = unit-here; gone = unit-gone; deaf = unit-deaf }
-
--- the numbers of a line that the reader keeps in range
-abbrev pub Ranged : Line → Type 0
-Ranged (Bus bus) = Unit {0}
-Ranged (L·Unit settings limits) = settings .number < 32
-Ranged (Vp u v target class outvpi) = Unit {0}
-Ranged (Drop u v) = Unit {0}
-Ranged (Page u v top) = Unit {0}
-Ranged (Vc u v w target class outvpi outvci) = Unit {0}
-Ranged (Mc u session) = session < 256
 
 bus-first : (told : List Line) (bus : ℕ) → isFirst told ≡ true → Shelved (Bus bus ∷ told)
 unfolding shelfOf shelfBy topOf opens hearsIn hearsBy vacancies vacancy findIn placeFrom

@@ -1,12 +1,13 @@
 -- What the good lines of a table say. A list of lines has the latest first. Assumes nothing.
-use Prim.Native.Nat.{ℕ, zero, suc, _+_, _*_}
+use Prim.Native.Nat.{ℕ, zero, suc, _+_, _-_, _*_}
 use mathlib.Core.Bool.{Bool, true, false, cond, _&&_, _||_}
 use mathlib.Core.List.{List, [], _∷_, _++_}
 use mathlib.Core.Option.{Option, none, some}
 use lib.Dec.{eqb}
-use lib.ListN.{getD, set}
+use lib.ListN.{getD, set, drop, replicate}
 use Rattle.routing.specs.Routing.{routing}
-use Rattle.record.specs.Record.{size}
+use Rattle.card.specs.declared.Card.{Card}
+use Rattle.record.specs.Record.{size, usable, image}
 use Rattle.record.specs.declared.Record as R
 use Rattle.record.specs.declared.Record.the-variants.{Empty, Drop as R·Drop, Route, Page as R·Page}
 use Rattle.shelf.specs.Shelves.{unit, fresh, declared, findIn, blank}
@@ -176,3 +177,8 @@ shelfBy (Mc a session) place shelf = joinAt shelf (findIn (declared shelf) a) se
 unfoldable pub shelfOf : List Line → Shelf
 shelfOf [] = fresh 16
 shelfOf (l ∷ told) = shelfBy l (size * total told) (shelfOf told)
+
+-- E. the memory: "All other bytes are zero, so are all bytes past the last record up to 262,144 or the memory's end; later bytes are
+-- untouched."
+unfoldable pub memoryOf : Card → List ℕ → List Line → List ℕ
+memoryOf card memory told = image card (records told) ++ (replicate (usable memory - size * total told) 0 ++ drop (usable memory) memory)
