@@ -127,7 +127,7 @@ grown-unit told settings limits new w =
 
 -- a page
 module _ (told : List Line) (a b top : ℕ) (p : AtPath told a b) (w : Grown told) where
-  page-new : topOf told (ofPage a b) ≡ none
+  pub page-new : topOf told (ofPage a b) ≡ none
   page-new = not-opened (topOf told (ofPage a b)) (λ t e. page-empty (sym (p .vacant) ∙ w .given a b t e))
 
   page-opened : (u v t q : ℕ) → recordOf (Page a b top ∷ told) (ofUnit u) v ≡ R·Page t q → (topOf (Page a b top ∷ told) (ofPage u v) ≡ some t) × (q ≡ size * start (Page a b top ∷ told) (ofPage u v))

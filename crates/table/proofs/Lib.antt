@@ -4,3 +4,4 @@ pub mod Fits
 pub mod Grown
 pub mod Memory
 pub mod Shelved
+pub mod Agree
