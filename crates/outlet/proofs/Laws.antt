@@ -34,9 +34,10 @@ given-in-iff One l c v =
     let e = and-iff (and-iff (eq-iff l 0) (eq-iff c 0)) (and-iff (le-iff 1 v) (le-iff v 123)) in
     (λ t. let w = e .0 t in (w .0 .0, w .0 .1, w .1 .0, w .1 .1), λ w. e .1 ((w .0, w .1), (w .2, w .3)))
 given-in-iff Four l c v =
-    let e = and-iff (and-iff (and-iff (le-iff 1 l) (le-iff l 88)) (and-iff (le-iff 1 c) (le-iff c l))) (and-iff (le-iff 1 v) (le-iff v (89 - l))) in
-    (λ t. let w = e .0 t in (w .0 .0 .0, w .0 .0 .1, w .0 .1 .0, w .0 .1 .1, w .1 .0, w .1 .1),
-    λ w. e .1 (((w .0, w .1), (w .2, w .3)), (w .4, w .5)))
+    let e = and-iff (and-iff (and-iff (le-iff 1 l) (le-iff l 88)) (and-iff (le-iff 1 c) (le-iff c l))) (and-iff (le-iff 1 v) (le-iff v (89 - l))) in (
+      λ t. let w = e .0 t in (w .0 .0 .0, w .0 .0 .1, w .0 .1 .0, w .0 .1 .1, w .1 .0, w .1 .1),
+      λ w. e .1 (((w .0, w .1), (w .2, w .3)), (w .4, w .5)),
+    )
 
 pub given-iff : (limits : Limits) → (given limits ≡ true) ↔ Given limits
 unfolding given
@@ -54,14 +55,15 @@ capacity-all limits g = all-in (limits .mode) (limits .cbrlength) (limits .cbrli
 -- the test of a ring, in one line and as a fact
 ring-iff : (ring : Ring) (k : ℕ) → (((ltb (ring .head) k || eqb (ring .head) 0) && leb (ring .count) k) ≡ true) ↔ RingFits ring k
 ring-iff ring k =
-    let e = and-iff (or-iff (lt-iff (ring .head) k) (eq-iff (ring .head) 0)) (le-iff (ring .count) k) in
-    (λ t. let w = e .0 t in
-    record {
-      place = λ h. ⊎-elim (λ x. x) (λ x. omega arith) (w .0);
-      nowhere = λ h. ⊎-elim (λ x. omega arith) (λ x. x) (w .0);
-      held = w .1;
-    },
-    λ f. e .1 (elim k as (λ n. (0 < n → ring .head < n) → (n ≡ 0 → ring .head ≡ 0) → (ring .head < n) ⊎ (ring .head ≡ 0)) [ zero ↦ λ x y. inr (y refl) | suc n ↦ λ x y. inl (x (omega arith)) ] (f .place) (f .nowhere), f .held))
+    let e = and-iff (or-iff (lt-iff (ring .head) k) (eq-iff (ring .head) 0)) (le-iff (ring .count) k) in (
+      λ t. let w = e .0 t in
+          record {
+            place = λ h. ⊎-elim (λ x. x) (λ x. omega arith) (w .0);
+            nowhere = λ h. ⊎-elim (λ x. omega arith) (λ x. x) (w .0);
+            held = w .1;
+          },
+      λ f. e .1 (elim k as (λ n. (0 < n → ring .head < n) → (n ≡ 0 → ring .head ≡ 0) → (ring .head < n) ⊎ (ring .head ≡ 0)) [ zero ↦ λ x y. inr (y refl) | suc n ↦ λ x y. inl (x (omega arith)) ] (f .place) (f .nowhere), f .held),
+    )
 
 pub fits-iff : (ring : Ring) (k : ℕ) → (ringFits ring k ≡ true) ↔ RingFits ring k
 unfolding ringFits
@@ -81,19 +83,20 @@ pub rings-iff : (outlet : Outlet) → (ringsFit outlet ≡ true) ↔ RingsFit ou
 unfolding ringsFit queueFits
 rings-iff outlet =
     let f : (q : ℕ) → (ringFits (queue outlet q) (capacity (outlet .limits) q) ≡ true) ↔ RingFits (queue outlet q) (capacity (outlet .limits) q) =
-        λ q. fits-iff (queue outlet q) (capacity (outlet .limits) q) in
-    let e = and-iff (and-iff (and-iff (f 0) (f 1)) (f 2)) (f 3) in
-    (λ t. let w = e .0 t in
-    record {
-      each = λ q. elim q [
-        zero ↦ λ h. w .0 .0 .0
-        | suc zero ↦ λ h. w .0 .0 .1
-        | suc (suc zero) ↦ λ h. w .0 .1
-        | suc (suc (suc zero)) ↦ λ h. w .1
-        | suc (suc (suc (suc n))) ↦ λ h. absurd (omega arith)
-      ];
-    },
-    λ r. e .1 (((r .each 0 (omega arith), r .each 1 (omega arith)), r .each 2 (omega arith)), r .each 3 (omega arith)))
+    λ q. fits-iff (queue outlet q) (capacity (outlet .limits) q) in
+    let e = and-iff (and-iff (and-iff (f 0) (f 1)) (f 2)) (f 3) in (
+      λ t. let w = e .0 t in
+          record {
+            each = λ q. elim q [
+              | zero ↦ λ h. w .0 .0 .0
+              | suc zero ↦ λ h. w .0 .0 .1
+              | suc (suc zero) ↦ λ h. w .0 .1
+              | suc (suc (suc zero)) ↦ λ h. w .1
+              | suc (suc (suc (suc n))) ↦ λ h. absurd (omega arith)
+            ];
+          },
+      λ r. e .1 (((r .each 0 (omega arith), r .each 1 (omega arith)), r .each 2 (omega arith)), r .each 3 (omega arith)),
+    )
 
 pub empty-fits : (k : ℕ) → RingFits empty k
 empty-fits k = record { place = λ h. h; nowhere = λ h. refl; held = omega arith }
@@ -103,7 +106,7 @@ fresh-fits limits =
     rings-iff (fresh limits) .1
     (record {
       each = λ q. elim q [
-        zero ↦ λ h. empty-fits (capacity limits 0)
+        | zero ↦ λ h. empty-fits (capacity limits 0)
         | suc zero ↦ λ h. empty-fits (capacity limits 1)
         | suc (suc zero) ↦ λ h. empty-fits (capacity limits 2)
         | suc (suc (suc zero)) ↦ λ h. empty-fits (capacity limits 3)

@@ -41,7 +41,9 @@ impl Outlet {
     pub const ONE: u8 = 123;
     // mode four: class 0, what CBR and VBR share, ABR
     pub const CONTROL: u8 = 2;
+
     pub const SHARED: u8 = 89;
+
     pub const ABR: u8 = 32;
 
     // All queues empty.
@@ -98,13 +100,7 @@ pub fn capacity(limits: Limits, queue: u8) -> u8
 {
     let mode = limits.mode;
     match mode {
-        Mode::One => {
-            if queue == 0 {
-                Outlet::ONE
-            } else {
-                0
-            }
-        }
+        Mode::One => { if queue == 0 { Outlet::ONE } else { 0 } }
         Mode::Four => match queue {
             0 => Outlet::CONTROL,
             1 => limits.cbrlength,

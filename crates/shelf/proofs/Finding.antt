@@ -96,13 +96,15 @@ module _ (number : ℕ) where
       pick false t rest e =
           let r = rest e in
           let f = r .2 in
-          let w = f .inside in
-          (suc (r .0), omega (arith, r .1),
-          record {
-            inside = omega arith;
-            named = f .named;
-            first = λ j. elim j [ zero ↦ λ h x. eqb-false (numberOf u) number t x | suc m ↦ λ h x. f .first m (omega arith) x ];
-          })
+          let w = f .inside in (
+            suc (r .0),
+            omega (arith, r .1),
+            record {
+              inside = omega arith;
+              named = f .named;
+              first = λ j. elim j [ zero ↦ λ h x. eqb-false (numberOf u) number t x | suc m ↦ λ h x. f .first m (omega arith) x ];
+            },
+          )
 
   at-from : (us : List U.Unit) (k i : ℕ) → FoundAt us number i → placeFrom k (numbers us) number ≡ At (k + i)
   unfolding placeFrom
@@ -130,9 +132,10 @@ module _ (number : ℕ) where
 
   pub find-at : (us : List U.Unit) (i : ℕ) → (findIn us number ≡ At i) ↔ FoundAt us number i
   unfolding findIn
-  find-at us i =
-      (λ e. let r = found-from us 0 i e in let q : r .0 ≡ i = omega (arith, r .1) in subst (λ n. FoundAt us number n) q (r .2),
-      λ f. at-from us 0 i f ∙ ap At (zero-add i))
+  find-at us i = (
+    λ e. let r = found-from us 0 i e in let q : r .0 ≡ i = omega (arith, r .1) in subst (λ n. FoundAt us number n) q (r .2),
+    λ f. at-from us 0 i f ∙ ap At (zero-add i),
+  )
 
   pub find-nothing : (us : List U.Unit) → (findIn us number ≡ Nothing) ↔ FoundNowhere us number
   unfolding findIn

@@ -104,11 +104,7 @@ impl Shelf {
 pub fn held(count: u8) -> usize
     ensures { λ r. ⌜ r ≡ min count 32 ⌝ }
 {
-    if count < 32 {
-        count as usize
-    } else {
-        32
-    }
+    if count < 32 { count as usize } else { 32 }
 }
 
 // Where the unit with this number stands.

@@ -28,8 +28,8 @@ use Rattle.table.specs.declared.Verdict.the-variants.{Fine, Order, Twice
 use Rattle.table.specs.Judge.{asked, roomFor, offBus, taken, inPage, judgeBus, judgeUnit, judgeVp, judgeDrop, judgePage, judgeVc, judgeMc}
 use Rattle.table.specs.Told.{Whose, ofUnit, ofPage, opens, gives, topOf, total, recordOf, hearsIn, shelfOf, memoryOf}
 use Rattle.table.specs.Lines.{started, isFirst, owned, isDeclared, judge}
-use Rattle.table.specs.Enact as E
-use Rattle.table.specs.Enact.{ownerAt, ownerOf, spot, second, isAt, judgeAt, putBy, putIn, putVc, memoryBy}
+
+use Rattle.table.specs.Enact.{ownerAt, ownerOf, ownedBy, spot, second, isAt, judgeAt, putBy, putIn, putVc, memoryBy}
 use Rattle.table.proofs.Regions.{start}
 use Rattle.table.proofs.Fits.{AtPath, AtCircuit, fine-unit, fine-vp, fine-drop, fine-page, fine-vc}
 use Rattle.table.proofs.Grown.{decide, Grown, page-empty, page-new}
@@ -53,7 +53,8 @@ module _ (card : Card) (memory : List ℕ) (told : List Line) (w : Grown told) (
   abbrev at : (u top : ℕ) → topOf told (ofUnit u) ≡ some top → U.Unit
   at u top e = getD (shelfOf told .units) (s .here u top e .i) blank
 
-  owner-is : (u top : ℕ) (e : topOf told (ofUnit u) ≡ some top) → ownerOf (shelfOf told) u ≡ E.owner (at u top e)
+  owner-is : (u top : ℕ) (e : topOf told (ofUnit u) ≡ some top) → ownerOf (shelfOf told) u ≡ record { known = true; unit = at u top e }
+  unfolding ownerOf
   owner-is u top e = ap (ownerAt (shelfOf told)) (s .here u top e .found)
 
   -- a declared unit's record
@@ -67,12 +68,17 @@ module _ (card : Card) (memory : List ℕ) (told : List Line) (w : Grown told) (
       ap (λ q. stands (q + size * c)) (o .1) ∙ stands-at card memory told hold (ofPage u v) t c (o .0) h
 
   -- by the owner
-  owned-agree : (u : ℕ) (f : U.Unit → Verdict) (g : ℕ → Verdict) → ((top : ℕ) (e : topOf told (ofUnit u) ≡ some top) → f (at u top e) ≡ g top) → E.owned (ownerOf (shelfOf told) u) f ≡ owned (topOf told (ofUnit u)) g
+  nobody : (u : ℕ) → topOf told (ofUnit u) ≡ none → ownerOf (shelfOf told) u ≡ ownerAt (shelfOf told) Nothing
+  unfolding ownerOf
+  nobody u e = ap (ownerAt (shelfOf told)) (s .gone u e)
+
+  owned-agree : (u : ℕ) (f : U.Unit → Verdict) (g : ℕ → Verdict) → ((top : ℕ) (e : topOf told (ofUnit u) ≡ some top) → f (at u top e) ≡ g top) → ownedBy (ownerOf (shelfOf told) u) f ≡ owned (topOf told (ofUnit u)) g
+  unfolding ownedBy
   owned-agree u f g h = go (topOf told (ofUnit u)) refl
     where
-      go : (o : Option ℕ) → topOf told (ofUnit u) ≡ o → E.owned (ownerOf (shelfOf told) u) f ≡ owned o g
-      go none e = ap (λ o. E.owned o f) (ap (ownerAt (shelfOf told)) (s .gone u e))
-      go (some top) e = ap (λ o. E.owned o f) (owner-is u top e) ∙ h top e
+      go : (o : Option ℕ) → topOf told (ofUnit u) ≡ o → ownedBy (ownerOf (shelfOf told) u) f ≡ owned o g
+      go none e = ap (λ o. ownedBy o f) (nobody u e)
+      go (some top) e = ap (λ o. ownedBy o f) (owner-is u top e) ∙ h top e
 
   declared-agree : (u : ℕ) → isAt (findIn (declared (shelfOf told)) u) ≡ isDeclared (topOf told (ofUnit u))
   declared-agree u = go (topOf told (ofUnit u)) refl
@@ -89,6 +95,7 @@ module _ (card : Card) (memory : List ℕ) (told : List Line) (w : Grown told) (
 
   -- the page, and its VCI
   page-agree : (u v c : ℕ) (r : R.Record) → recordOf told (ofUnit u) v ≡ r → (f : Got → Verdict) → inPage (Is r) c (f (second stands (Is r) c)) ≡ inPage (Is r) c (f (Is (recordOf told (ofPage u v) c)))
+  unfolding second
   page-agree u v c Empty e f = refl
   page-agree u v c R·Drop e f = refl
   page-agree u v c (Route h o x) e f = refl
@@ -119,12 +126,13 @@ module _ (card : Card) (memory : List ℕ) (told : List Line) (w : Grown told) (
 
   -- what it writes
   put-path : (u top : ℕ) (e : topOf told (ofUnit u) ≡ some top) (v : ℕ) (r : R.Record) → putBy card (memoryOf card memory told) (ownerOf (shelfOf told) u) v r ≡ written card (memoryOf card memory told) (size * start told (ofUnit u) + size * v) r
+  unfolding putBy
   put-path u top e v r =
       ap (λ o. putBy card (memoryOf card memory told) o v r) (owner-is u top e)
       ∙ ap (λ p. written card (memoryOf card memory told) (p + size * v) r) (s .here u top e .starts)
 
   pub memory-agree : (l : Line) → judge card (usable memory) told l ≡ Fine → memoryBy card (memoryOf card memory told) (shelfOf told) (size * total told) l ≡ memoryOf card memory (l ∷ told)
-  unfolding memoryBy opens gives
+  unfolding memoryBy opens gives putVc putIn
   memory-agree (Bus bus) e = memory-still card memory told w (Bus bus) refl refl
   memory-agree (L·Unit settings limits) e =
       let f = fine-unit card (usable memory) told settings limits e in

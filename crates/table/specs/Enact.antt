@@ -18,31 +18,27 @@ use Rattle.shelf.specs.declared.Found.{Found}
 use Rattle.shelf.specs.declared.Found.the-variants.{At, Nothing}
 use Rattle.line.specs.declared.Line.{Line}
 use Rattle.line.specs.declared.Line.the-variants.{Bus, Unit as L·Unit, Vp, Drop, Page, Vc, Mc}
+use Rattle.table.specs.declared.Owner.{Owner}
 use Rattle.table.specs.declared.Verdict.{Verdict}
 use Rattle.table.specs.declared.Verdict.the-variants.{Order}
 use Rattle.table.specs.Judge.{judgeBus, judgeUnit, judgeVp, judgeDrop, judgePage, judgeVc, judgeMc}
 
--- the declared unit with this number, or none
-pub data Owner : Type 0 where
-  owner : U.Unit → Owner
-  nobody : Owner
-
+-- the declared unit with this number, where there is one
 abbrev pub ownerAt : Shelf → Found → Owner
-ownerAt shelf (At i) = owner (getD (shelf .units) i blank)
-ownerAt shelf Nothing = nobody
+ownerAt shelf (At i) = record { known = true; unit = getD (shelf .units) i blank }
+ownerAt shelf Nothing = record { known = false; unit = getD (shelf .units) 0 blank }
 
-abbrev pub ownerOf : Shelf → ℕ → Owner
+unfoldable pub ownerOf : Shelf → ℕ → Owner
 ownerOf shelf u = ownerAt shelf (findIn (declared shelf) u)
 
-abbrev pub owned : Owner → (U.Unit → Verdict) → Verdict
-owned (owner unit) rest = rest unit
-owned nobody rest = Order 2
+unfoldable pub ownedBy : Owner → (U.Unit → Verdict) → Verdict
+ownedBy o rest = cond (o .known) (rest (o .unit)) (Order 2)
 
 -- the place of a unit's record for a VPI, and of the VCI's record in the page that stands there
 abbrev pub spot : U.Unit → ℕ → ℕ
 spot unit vpi = unit .place + size * vpi
 
-abbrev pub second : (ℕ → Got) → Got → ℕ → Got
+unfoldable pub second : (ℕ → Got) → Got → ℕ → Got
 second stands (Is Empty) vci = Got·Nothing
 second stands (Is R·Drop) vci = Got·Nothing
 second stands (Is (Route header outvpi outvci)) vci = Got·Nothing
@@ -60,33 +56,31 @@ judgeAt card room first stands shelf used (L·Unit settings limits) =
     cond first (Order 1)
     (judgeUnit card (shelf .bus) (isAt (findIn (declared shelf) (settings .number))) room used (settings .number) (settings .link) (settings .top))
 judgeAt card room first stands shelf used (Vp u v target class outvpi) =
-    cond first (Order 1) (owned (ownerOf shelf u) λ unit. judgeVp card (shelf .bus) (unit .settings .top) v (stands (spot unit v)) target outvpi)
+    cond first (Order 1) (ownedBy (ownerOf shelf u) λ unit. judgeVp card (shelf .bus) (unit .settings .top) v (stands (spot unit v)) target outvpi)
 judgeAt card room first stands shelf used (Drop u v) =
-    cond first (Order 1) (owned (ownerOf shelf u) λ unit. judgeDrop (unit .settings .top) v (stands (spot unit v)))
+    cond first (Order 1) (ownedBy (ownerOf shelf u) λ unit. judgeDrop (unit .settings .top) v (stands (spot unit v)))
 judgeAt card room first stands shelf used (Page u v top) =
-    cond first (Order 1) (owned (ownerOf shelf u) λ unit. judgePage room used (unit .settings .top) v (stands (spot unit v)) top)
+    cond first (Order 1) (ownedBy (ownerOf shelf u) λ unit. judgePage room used (unit .settings .top) v (stands (spot unit v)) top)
 judgeAt card room first stands shelf used (Vc u v w target class outvpi outvci) =
     cond first (Order 1)
-    (owned (ownerOf shelf u) λ unit.
+    (ownedBy (ownerOf shelf u) λ unit.
     judgeVc card (shelf .bus) (unit .settings .top) v (stands (spot unit v)) w (second stands (stands (spot unit v)) w) target outvpi)
 judgeAt card room first stands shelf used (Mc u session) =
-    cond first (Order 1) (owned (ownerOf shelf u) λ unit. judgeMc (hears (unit .sessions) session))
+    cond first (Order 1) (ownedBy (ownerOf shelf u) λ unit. judgeMc (hears (unit .sessions) session))
 
 -- the memory after it
-abbrev pub putBy : Card → List ℕ → Owner → ℕ → R.Record → List ℕ
-putBy card memory (owner unit) vpi r = written card memory (spot unit vpi) r
-putBy card memory nobody vpi r = memory
+unfoldable pub putBy : Card → List ℕ → Owner → ℕ → R.Record → List ℕ
+putBy card memory o vpi r = cond (o .known) (written card memory (spot (o .unit) vpi) r) memory
 
-abbrev pub putIn : Card → List ℕ → Got → ℕ → R.Record → List ℕ
+unfoldable pub putIn : Card → List ℕ → Got → ℕ → R.Record → List ℕ
 putIn card memory (Is Empty) vci r = memory
 putIn card memory (Is R·Drop) vci r = memory
 putIn card memory (Is (Route header outvpi outvci)) vci r = memory
 putIn card memory (Is (R·Page top place)) vci r = written card memory (place + size * vci) r
 putIn card memory Got·Nothing vci r = memory
 
-abbrev pub putVc : Card → List ℕ → Owner → ℕ → ℕ → R.Record → List ℕ
-putVc card memory (owner unit) vpi vci r = putIn card memory (recordAt card memory (spot unit vpi)) vci r
-putVc card memory nobody vpi vci r = memory
+unfoldable pub putVc : Card → List ℕ → Owner → ℕ → ℕ → R.Record → List ℕ
+putVc card memory o vpi vci r = cond (o .known) (putIn card memory (recordAt card memory (spot (o .unit) vpi)) vci r) memory
 
 unfoldable pub memoryBy : Card → List ℕ → Shelf → ℕ → Line → List ℕ
 memoryBy card memory shelf used (Bus bus) = memory

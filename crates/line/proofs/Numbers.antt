@@ -1,0 +1,132 @@
+-- The laws of numbers that the readers cite: each answer from what was found, and one turn of each loop. Assumes nothing.
+use mathlib.Core.Path.{_≡_, refl, sym, ap, _∙_}
+use mathlib.Core.Bool.{Bool, true, false, not, _&&_, cond, and-false}
+use mathlib.Core.List.{List, [], _∷_}
+use Prim.Native.Nat.{ℕ, zero, suc, _+_, _*_, _-_, _≤_, _<_}
+use native.Mathlib.Nat.{le-refl, le-trans}
+use native.Mathlib.Numerals.{add-one}
+use native.Mathlib.Omega.{arith}
+use lib.Dec.{leb, eqb}
+use lib.ListN.{length, getD, drop, drop-of-length-le}
+use lib.Seq.{drop-cons}
+use borrow.Author.Tests.{leb-true, le-leb, lt-leb, eq-eqb, ne-eqb}
+use Rattle.line.specs.declared.Wrong.the-variants.{Number, Range}
+use Rattle.line.specs.declared.Num.{Num}
+use Rattle.line.specs.declared.Num.the-variants.{Is, NoNum}
+use Rattle.line.specs.Digits.{digit, digits, plain, decimalOf, value, ranged}
+
+-- digits, byte by byte
+module _ (s : List ℕ) (i : ℕ) (h : i < length s) where
+  pub digits-stop : digit (getD s i 0) ≡ false → digits (drop i s) ≡ false
+  unfolding digits
+  digits-stop e = rw (drop-cons s i 0, e)
+
+  pub digits-on : digit (getD s i 0) ≡ true → digits (drop i s) ≡ digits (drop (i + 1) s)
+  unfolding digits
+  digits-on e = rw (add-one, drop-cons s i 0, e)
+
+  pub value-on : (v : ℕ) → value v (drop i s) ≡ value (v * 10 + (getD s i 0 - 48)) (drop (i + 1) s)
+  unfolding value
+  value-on v = rw (add-one, drop-cons s i 0)
+
+pub digits-end : (s : List ℕ) (i : ℕ) → length s ≤ i → digits (drop i s) ≡ true
+unfolding digits
+digits-end s i h = rw (drop-of-length-le s h)
+
+pub value-end : (v : ℕ) (s : List ℕ) (i : ℕ) → length s ≤ i → value v (drop i s) ≡ v
+unfolding value
+value-end v s i h = rw (drop-of-length-le s h)
+
+pub below : (b : ℕ) → b < 48 → digit b ≡ false
+unfolding digit
+below b h = simp (lt-leb _ _ h)
+
+pub above : (b : ℕ) → 57 < b → digit b ≡ false
+unfolding digit
+above b h = simp (lt-leb _ _ h, and-false)
+
+pub within : (b : ℕ) → 48 ≤ b → b ≤ 57 → digit b ≡ true
+unfolding digit
+within b h k = simp (le-leb _ _ h, le-leb _ _ k)
+
+-- a text that is no plain number, and one that is
+pub empty : (s : List ℕ) → length s ≡ 0 → false ≡ decimalOf s
+unfolding decimalOf plain
+empty [] h = refl
+empty (b ∷ r) h = absurd (omega arith)
+
+pub needless : (s : List ℕ) → getD s 0 0 ≡ 48 → 1 < length s → false ≡ decimalOf s
+unfolding decimalOf plain
+needless [] e h = absurd (omega arith)
+needless (b ∷ []) e h = absurd (omega arith)
+needless (b ∷ c ∷ r) e h = simp (eq-eqb _ _ e)
+
+pub one-digit : (s : List ℕ) → (length s ≡ 0 → ⊥) → length s ≤ 1 → digits s ≡ decimalOf s
+unfolding decimalOf plain
+one-digit [] h k = absurd (omega arith)
+one-digit (b ∷ []) h k = refl
+one-digit (b ∷ c ∷ r) h k = absurd (omega arith)
+
+pub no-zero : (s : List ℕ) → (length s ≡ 0 → ⊥) → (getD s 0 0 ≡ 48 → ⊥) → digits s ≡ decimalOf s
+unfolding decimalOf plain
+no-zero [] h k = absurd (omega arith)
+no-zero (b ∷ []) h k = refl
+no-zero (b ∷ c ∷ r) h k = simp (ne-eqb _ _ k)
+
+-- the parts of a test of two
+pub second : (a b : Bool) → a && b ≡ true → b ≡ true
+second true b e = e
+second false b e = cc
+
+pub first : (a b : Bool) → a && b ≡ true → a ≡ true
+first true b e = refl
+first false b e = e
+
+-- what a decimal number has: digits, and a digit at each place
+pub has-digits : (s : List ℕ) → decimalOf s ≡ true → digits s ≡ true
+unfolding decimalOf
+has-digits s e = second (plain s) (digits s) e
+
+pub digit-at : (s : List ℕ) (i : ℕ) → i < length s → digits (drop i s) ≡ true → digit (getD s i 0) ≡ true
+unfolding digits
+digit-at s i h e = first _ _ (rw (drop-cons s i 0) at e)
+
+pub at-least : (b : ℕ) → digit b ≡ true → (48 ≤ b) × (b ≤ 57)
+unfolding digit
+at-least b e = (leb-true 48 b (first _ _ e), leb-true b 57 (second (leb 48 b) _ e))
+
+-- more digits make no smaller number
+pub grows : (v : ℕ) (r : List ℕ) → v ≤ value v r
+unfolding value
+grows v [] = le-refl v
+grows v (b ∷ r) = le-trans (omega arith) (grows (v * 10 + (b - 48)) r)
+
+-- each answer
+module _ (f lo hi : ℕ) (s : List ℕ) where
+  pub no-number : decimalOf s ≡ false → NoNum (Number f) ≡ ranged f lo hi s
+  unfolding ranged
+  no-number d = simp d
+
+  pub too-big : decimalOf s ≡ true → hi < value 0 s → NoNum (Range f) ≡ ranged f lo hi s
+  unfolding ranged
+  too-big d h = simp (d, lt-leb _ _ h, and-false)
+
+  pub too-small : decimalOf s ≡ true → value 0 s < lo → NoNum (Range f) ≡ ranged f lo hi s
+  unfolding ranged
+  too-small d h = simp (d, lt-leb _ _ h)
+
+  pub in-range : (v : ℕ) → decimalOf s ≡ true → value 0 s ≡ v → lo ≤ v → v ≤ hi → Is v ≡ ranged f lo hi s
+  unfolding ranged
+  in-range v d e h k = simp (d, e, le-leb _ _ h, le-leb _ _ k)
+
+  -- a number that is read is in its range
+  pub ranged-in : {n : ℕ} → ranged f lo hi s ≡ Is n → (lo ≤ n) × (n ≤ hi)
+  unfolding ranged
+  ranged-in {n} e = go (decimalOf s) _ refl e
+    where
+      go : (d t : Bool) → leb lo (value 0 s) && leb (value 0 s) hi ≡ t → cond d (cond t (Is (value 0 s)) (NoNum (Range f))) (NoNum (Number f)) ≡ Is n → (lo ≤ n) × (n ≤ hi)
+      go true true p q =
+          let z : value 0 s ≡ n = cc in
+          (rw z at (leb-true lo (value 0 s) (first _ _ p)), rw z at (leb-true (value 0 s) hi (second (leb lo (value 0 s)) _ p)))
+      go true false p q = absurd (let z : _≡_ {A = ℕ} 0 1 = cc in omega arith)
+      go false t p q = absurd (let z : _≡_ {A = ℕ} 0 1 = cc in omega arith)

@@ -1,0 +1,27 @@
+-- `line::drop_line` meets its contract. Assumes nothing.
+use mathlib.Core.Path.{sym, _∙_}
+use Rattle.line.specs.Lines.{dropLine}
+use borrow.Author.Needs.{needs}
+use Rattle.line.proofs.drop_line.Statement.{statement}
+use Rattle.line.proofs.drop_line.Tie as tie
+
+key-of-requires : tie.Need-key-of-requires
+key-of-requires c κs = search needs
+
+enum-known-unit : tie.Need-enum-known-unit
+enum-known-unit c = search needs
+
+enum-known-wrong : tie.Need-enum-known-wrong
+enum-known-wrong c = search needs
+
+returns : tie.Need-returns
+unfolding dropLine
+returns c = simp (sym (c .before .before .before .key-of .ensures) ∙ c .before .unit .given .1)
+
+returns-2 : tie.Need-returns-2
+unfolding dropLine
+returns-2 c = simp (sym (c .before .before .before .key-of .ensures) ∙ c .before .wrong .given .1)
+
+pub drop-line-spec : {M : Type 1} → statement M
+drop-line-spec =
+    tie.close (tie.spec key-of-requires enum-known-unit enum-known-wrong returns returns-2)

@@ -1,0 +1,60 @@
+-- `line::read` meets its contract. Assumes nothing.
+use mathlib.Core.Path.{sym, ap, _∙_}
+use borrow.Author.Tests.{not-true, not-false, eq-eqb, ne-eqb}
+use Rattle.line.specs.Lines.{wordOf, readingOf, spoken}
+use borrow.Author.Needs.{needs}
+use Rattle.line.proofs.read.Statement.{statement}
+use Rattle.line.proofs.read.Tie as tie
+
+returns : tie.Need-returns
+unfolding readingOf
+returns c = simp (not-true (c .before .before .args .ended) (c .if1 .taken))
+
+field-requires : tie.Need-field-requires
+field-requires c κs = search needs
+
+word-of-requires : tie.Need-word-of-requires
+word-of-requires c κs = search needs
+
+enum-known-kind : tie.Need-enum-known-kind
+enum-known-kind c = search needs
+
+count-requires : tie.Need-count-requires
+count-requires c κs = search needs
+
+fields-in-requires : tie.Need-fields-in-requires
+fields-in-requires c κs = search needs
+
+returns-2 : tie.Need-returns-2
+unfolding readingOf spoken
+returns-2 c = simp (not-false (c .before .before .before .before .before .before .before .before .before .before .args .ended) (c .before .before .before .before .before .before .before .before .if1 .left), sym (c .before .before .before .before .before .before .word-of .ensures ∙ ap wordOf (c .before .before .before .before .before .before .before .field .ensures)) ∙ c .before .before .before .before .kind .given .1, ne-eqb _ _ (λ e. c .if2 .taken (c .before .before .count .ensures ∙ e ∙ sym (c .before .fields-in .ensures))))
+
+line-of-requires : tie.Need-line-of-requires
+line-of-requires c κs = search needs
+
+enum-told : tie.Need-enum-told
+enum-told c = search needs
+
+returns-3 : tie.Need-returns-3
+unfolding readingOf spoken
+returns-3 c = c .line-of .ensures ∙ simp (not-false (c .before .before .before .before .before .before .before .before .before .before .before .args .ended) (c .before .before .before .before .before .before .before .before .before .if1 .left), sym (c .before .before .before .before .before .before .before .word-of .ensures ∙ ap wordOf (c .before .before .before .before .before .before .before .before .field .ensures)) ∙ c .before .before .before .before .before .kind .given .1, eq-eqb _ _ (sym (c .before .before .before .count .ensures) ∙ c .before .if2 .left ∙ c .before .before .fields-in .ensures))
+
+returns-4 : tie.Need-returns-4
+unfolding readingOf spoken
+returns-4 c = simp (not-false (c .before .before .before .before .before .before .args .ended) (c .before .before .before .before .if1 .left), sym (c .before .before .word-of .ensures ∙ ap wordOf (c .before .before .before .field .ensures)) ∙ c .enum-told .given .1)
+
+pub read-spec : {M : Type 1} → statement M
+read-spec =
+    tie.close
+    (tie.spec
+    returns
+    field-requires
+    word-of-requires
+    enum-known-kind
+    count-requires
+    fields-in-requires
+    returns-2
+    line-of-requires
+    enum-told
+    returns-3
+    returns-4)

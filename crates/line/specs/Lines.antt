@@ -1,0 +1,198 @@
+-- What each line says: "Text, one record a line, fields parted by one tab, each line ended by a newline." Assumes nothing.
+use Prim.Native.Nat.{ℕ, _-_}
+use mathlib.Core.Bool.{Bool, true, false, cond}
+use mathlib.Core.List.{List}
+use lib.ListN.{length}
+use lib.Dec.{eqb}
+use Rattle.header.specs.declared.Link.{Link}
+use Rattle.header.specs.declared.Link.the-variants.{Uni, Nni}
+use Rattle.routing.specs.declared.Target.{Target}
+use Rattle.outlet.specs.declared.Mode.{Mode}
+use Rattle.outlet.specs.declared.Mode.the-variants.{One, Four}
+use Rattle.outlet.specs.declared.Limits.{Limits}
+use Rattle.shelf.specs.declared.Settings.{Settings}
+use Rattle.line.specs.declared.Line.{Line}
+use Rattle.line.specs.declared.Line.the-variants.{Bus, Unit as U·, Vp, Drop, Page, Vc, Mc}
+use Rattle.line.specs.declared.Wrong.{Wrong}
+use Rattle.line.specs.declared.Wrong.the-variants.{Newline, Word as Unspoken, Fields, Number, Range}
+use Rattle.line.specs.declared.Reading.{Reading}
+use Rattle.line.specs.declared.Reading.the-variants.{Good, Bad}
+use Rattle.line.specs.declared.Kind.{Kind}
+use Rattle.line.specs.declared.Kind.the-variants.{Bus as K·Bus, Unit as K·Unit, Vp as K·Vp, Drop as K·Drop, Page as K·Page, Vc as K·Vc, Mc as K·Mc}
+use Rattle.line.specs.declared.Word.{Word}
+use Rattle.line.specs.declared.Word.the-variants.{Known, Unknown}
+use Rattle.line.specs.declared.Num.{Num}
+use Rattle.line.specs.declared.Aim.{Aim}
+use Rattle.line.specs.declared.Key.{Key}
+use Rattle.line.specs.declared.Key.the-variants.{On, NoKey}
+use Rattle.line.specs.declared.Way.{Way}
+use Rattle.line.specs.declared.Way.the-variants.{To, NoWay}
+use Rattle.line.specs.declared.Front.{Front}
+use Rattle.line.specs.declared.Front.the-variants.{Set, NoFront}
+use Rattle.line.specs.declared.Back.{Back}
+use Rattle.line.specs.declared.Back.the-variants.{Held, NoBack}
+use Rattle.line.specs.Words.{wBus, wUnit, wVp, wDrop, wPage, wVc, wMc, wUni, wNni, wOne, wFour}
+use Rattle.line.specs.Text.{fieldsOf, fieldOf, same}
+use Rattle.line.specs.Digits.{ranged, num, aimOf, aim}
+
+-- the number in field f, from lo to hi; and the target in field f
+abbrev pub numberIn : List (List ℕ) → ℕ → ℕ → ℕ → Num
+numberIn fs f lo hi = ranged f lo hi (fieldOf f fs)
+
+abbrev pub aimIn : List (List ℕ) → ℕ → Aim
+aimIn fs f = aimOf f (fieldOf f fs)
+
+-- Each kind of line, "leftmost fault first". "`bus` 16 or 32."
+unfoldable pub busLine : List (List ℕ) → Reading
+busLine fs = num (numberIn fs 2 16 32) Bad λ n. cond (eqb n 16) (Good (Bus n)) (cond (eqb n 32) (Good (Bus n)) (Bad (Range 2)))
+
+-- "`unit` number, `uni` or `nni`, top VPI, priority 1 to 3, mode, CBR length, CBR limit, VBR limit, mark 0 or 1."
+-- "Top VPI is at most 255 for uni, 4,095 for nni."
+abbrev pub topOf : Link → ℕ
+topOf Uni = 255
+topOf Nni = 4095
+
+-- its settings after the link
+unfoldable pub settingsOn : List (List ℕ) → ℕ → Link → Front
+settingsOn fs number link =
+    num (numberIn fs 4 0 (topOf link)) NoFront λ top.
+    num (numberIn fs 5 1 3) NoFront λ priority.
+    Set (record { number = number; link = link; top = top; priority = priority })
+
+-- its settings
+unfoldable pub settingsOf : List (List ℕ) → Front
+settingsOf fs =
+    num (numberIn fs 2 0 31) NoFront λ number.
+    cond (same (fieldOf 3 fs) wUni) (settingsOn fs number Uni)
+    (cond (same (fieldOf 3 fs) wNni) (settingsOn fs number Nni) (NoFront (Range 3)))
+
+-- "Mode `one`: CBR length and limit 0, VBR limit 1 to 123. Mode `four`: CBR length 1 to 88, CBR limit 1 to that length, VBR limit 1 to
+-- 89 less that length."
+abbrev pub least : Mode → ℕ
+least One = 0
+least Four = 1
+
+abbrev pub mostLength : Mode → ℕ
+mostLength One = 0
+mostLength Four = 88
+
+abbrev pub mostLimit : Mode → ℕ → ℕ
+mostLimit One length = 0
+mostLimit Four length = length
+
+abbrev pub mostVbr : Mode → ℕ → ℕ
+mostVbr One length = 123
+mostVbr Four length = 89 - length
+
+-- its limits after the mode
+unfoldable pub limitsIn : List (List ℕ) → Mode → Back
+limitsIn fs mode =
+    num (numberIn fs 7 (least mode) (mostLength mode)) NoBack λ cbrlength.
+    num (numberIn fs 8 (least mode) (mostLimit mode cbrlength)) NoBack λ cbrlimit.
+    num (numberIn fs 9 1 (mostVbr mode cbrlength)) NoBack λ vbrlimit.
+    num (numberIn fs 10 0 1) NoBack λ mark.
+    Held (record { mode = mode; cbrlength = cbrlength; cbrlimit = cbrlimit; vbrlimit = vbrlimit; mark = eqb mark 1 })
+
+-- its limits: the mode is `one` or `four`
+unfoldable pub limitsOf : List (List ℕ) → Back
+limitsOf fs =
+    cond (same (fieldOf 6 fs) wOne) (limitsIn fs One)
+    (cond (same (fieldOf 6 fs) wFour) (limitsIn fs Four) (NoBack (Range 6)))
+
+-- the line of its settings and its limits
+abbrev pub front : Front → (Settings → Reading) → Reading
+front (Set settings) good = good settings
+front (NoFront wrong) good = Bad wrong
+
+abbrev pub back : Back → (Limits → Reading) → Reading
+back (Held limits) good = good limits
+back (NoBack wrong) good = Bad wrong
+
+unfoldable pub unitLine : List (List ℕ) → Reading
+unitLine fs = front (settingsOf fs) λ settings. back (limitsOf fs) λ limits. Good (U· settings limits)
+
+-- "Classes are 0 to 3, units 0 to 31, VPIs 0 to 4,095, VCIs 0 to 65,535."
+-- The unit and the VPI, which four kinds of line begin with
+unfoldable pub keyOf : List (List ℕ) → Key
+keyOf fs = num (numberIn fs 2 0 31) NoKey λ unit. num (numberIn fs 3 0 4095) NoKey λ vpi. On unit vpi
+
+abbrev pub key : Key → (ℕ → ℕ → Reading) → Reading
+key (On unit vpi) good = good unit vpi
+key (NoKey wrong) good = Bad wrong
+
+-- target, class and outgoing VPI, in the fields a, b and c
+unfoldable pub wayOf : List (List ℕ) → ℕ → ℕ → ℕ → Way
+wayOf fs a b c =
+    aim (aimIn fs a) NoWay λ target.
+    num (numberIn fs b 0 3) NoWay λ class.
+    num (numberIn fs c 0 4095) NoWay λ outvpi.
+    To target class outvpi
+
+abbrev pub way : Way → (Target → ℕ → ℕ → Reading) → Reading
+way (To target class outvpi) good = good target class outvpi
+way (NoWay wrong) good = Bad wrong
+
+-- "`vp` unit, VPI, target, class, outgoing VPI."
+unfoldable pub vpLine : List (List ℕ) → Reading
+vpLine fs = key (keyOf fs) λ unit vpi. way (wayOf fs 4 5 6) λ target class outvpi. Good (Vp unit vpi target class outvpi)
+
+-- "`drop` unit, VPI."
+unfoldable pub dropLine : List (List ℕ) → Reading
+dropLine fs = key (keyOf fs) λ unit vpi. Good (Drop unit vpi)
+
+-- "`page` unit, VPI, top VCI."
+unfoldable pub pageLine : List (List ℕ) → Reading
+pageLine fs = key (keyOf fs) λ unit vpi. num (numberIn fs 4 0 65535) Bad λ top. Good (Page unit vpi top)
+
+-- "`vc` unit, VPI, VCI, target, class, outgoing VPI, outgoing VCI.": what comes after the VPI, and the whole
+unfoldable pub vcOn : List (List ℕ) → ℕ → ℕ → Reading
+vcOn fs unit vpi =
+    num (numberIn fs 4 0 65535) Bad λ vci.
+    way (wayOf fs 5 6 7) λ target class outvpi.
+    num (numberIn fs 8 0 65535) Bad λ outvci.
+    Good (Vc unit vpi vci target class outvpi outvci)
+
+unfoldable pub vcLine : List (List ℕ) → Reading
+vcLine fs = key (keyOf fs) λ unit vpi. vcOn fs unit vpi
+
+-- "`mc` unit, session: the unit hears that session."
+unfoldable pub mcLine : List (List ℕ) → Reading
+mcLine fs = num (numberIn fs 2 0 31) Bad λ unit. num (numberIn fs 3 0 255) Bad λ session. Good (Mc unit session)
+
+-- the line of each kind, and how many fields it has
+unfoldable pub lineOf : Kind → List (List ℕ) → Reading
+lineOf K·Bus fs = busLine fs
+lineOf K·Unit fs = unitLine fs
+lineOf K·Vp fs = vpLine fs
+lineOf K·Drop fs = dropLine fs
+lineOf K·Page fs = pageLine fs
+lineOf K·Vc fs = vcLine fs
+lineOf K·Mc fs = mcLine fs
+
+abbrev pub countOf : Kind → ℕ
+countOf K·Bus = 2
+countOf K·Unit = 10
+countOf K·Vp = 6
+countOf K·Drop = 3
+countOf K·Page = 4
+countOf K·Vc = 8
+countOf K·Mc = 3
+
+-- the kind that a line's word names
+unfoldable pub wordOf : List ℕ → Word
+wordOf w =
+    cond (same w wBus) (Known K·Bus)
+    (cond (same w wUnit) (Known K·Unit)
+    (cond (same w wVp) (Known K·Vp)
+    (cond (same w wDrop) (Known K·Drop)
+    (cond (same w wPage) (Known K·Page)
+    (cond (same w wVc) (Known K·Vc)
+    (cond (same w wMc) (Known K·Mc) Unknown))))))
+
+-- "tried as Newline, Word, Fields, then 23 or 24 by field"
+unfoldable pub spoken : Word → List (List ℕ) → Reading
+spoken Unknown fs = Bad Unspoken
+spoken (Known kind) fs = cond (eqb (length fs) (countOf kind)) (lineOf kind fs) (Bad Fields)
+
+unfoldable pub readingOf : List ℕ → Bool → Reading
+readingOf text ended = cond ended (spoken (wordOf (fieldOf 1 (fieldsOf text))) (fieldsOf text)) (Bad Newline)

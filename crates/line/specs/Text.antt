@@ -1,0 +1,34 @@
+-- A line's text: fields parted by one byte, and words. Assumes nothing.
+use Prim.Native.Nat.{ℕ, _-_}
+use mathlib.Core.Bool.{Bool, true, false, _&&_, cond}
+use mathlib.Core.List.{List, [], _∷_, tail}
+use lib.ListN.{getD}
+use lib.Dec.{eqb}
+
+-- the field at place k, and the empty text where there is none
+abbrev pub at : List (List ℕ) → ℕ → List ℕ
+at fs k = getD fs k []
+
+-- b in front of the first field
+abbrev pub push : ℕ → List (List ℕ) → List (List ℕ)
+push b fs = (b ∷ at fs 0) ∷ tail fs
+
+-- "fields parted by one tab": one field more than there are tabs
+unfoldable pub split : ℕ → List ℕ → List (List ℕ)
+split tab [] = [] ∷ []
+split tab (b ∷ r) = cond (eqb b tab) ([] ∷ split tab r) (push b (split tab r))
+
+-- the fields of a line: a tab is byte 9
+abbrev pub fieldsOf : List ℕ → List (List ℕ)
+fieldsOf text = split 9 text
+
+-- field f, "counted from the word as 1"
+abbrev pub fieldOf : ℕ → List (List ℕ) → List ℕ
+fieldOf f fs = at fs (f - 1)
+
+-- whether two texts are the same
+unfoldable pub same : List ℕ → List ℕ → Bool
+same [] [] = true
+same [] (c ∷ t) = false
+same (b ∷ s) [] = false
+same (b ∷ s) (c ∷ t) = eqb b c && same s t

@@ -1,0 +1,4 @@
+pub mod Turns
+pub mod Pass
+pub mod Facts
+pub mod Witness

@@ -1,0 +1,44 @@
+-- The tests of the code, one at a time. Assumes nothing.
+use mathlib.Core.Path.{_≡_, refl, sym, ap, ap₂, _∙_}
+use mathlib.Core.Bool.{Bool, true, false, not, _&&_, _||_, cond, and-true, or-false, and-assoc}
+use mathlib.Core.List.{List, [], _∷_}
+use Prim.Native.Nat.{ℕ, suc, _+_, _-_, _≤_, _<_}
+use native.Mathlib.Nat.{sub-zero}
+use native.Mathlib.Numerals.{add-one}
+use native.Mathlib.Omega.{arith}
+use lib.Dec.{eqb, leb, ltb}
+use lib.ListN.{length, getD, drop, List·getD-eq-default, drop-of-length-le}
+use lib.Seq.{drop-cons}
+use borrow.Author.Tests.{ne-eqb}
+use Rattle.outlet.proofs.Truth.{same, le-iff, and-iff}
+use Rattle.soundness.specs.State.{besides, askHeld, waitsAt, nobodyOr, asksKnown}
+
+-- a cell besides a granted one
+besides-flat : (granted : Bool) (cells : ℕ) → (leb 1 cells && (not granted || leb 2 cells)) ≡ leb 1 (cells - cond granted 1 0)
+besides-flat false cells = and-true (leb 1 cells) ∙ ap (leb 1) (sym (sub-zero cells))
+besides-flat true cells =
+    let e = and-iff (le-iff 1 cells) (le-iff 2 cells) in
+    let f = le-iff 1 (cells - 1) in
+    same (leb 1 cells && leb 2 cells) (leb 1 (cells - 1)) (λ t. let w = e .0 t in f .1 (omega arith)) (λ t. let w = f .0 t in e .1 (omega arith))
+
+pub waits-flat : (granted ask number priority cells : ℕ) → ((not (eqb number granted) || leb 1 cells) && (eqb ask 0 || eqb ask priority && (leb 1 cells && (not (eqb number granted) || leb 2 cells)))) ≡ waitsAt granted ask number priority cells
+unfolding waitsAt
+waits-flat granted ask number priority cells =
+    ap (λ b. (not (eqb number granted) || leb 1 cells) && (eqb ask 0 || eqb ask priority && b)) (besides-flat (eqb number granted) cells)
+
+-- nobody, or one of those seen, of whom there are 32
+pub nobody-in : (seen : List Bool) (number : ℕ) → number < 32 → getD seen number false ≡ nobodyOr (λ n. getD seen n false) number
+nobody-in seen number h = rw (ne-eqb number 255 (λ e. omega arith))
+
+pub nobody-out : (seen : List Bool) (number : ℕ) → length seen ≡ 32 → 32 ≤ number → eqb number 255 ≡ nobodyOr (λ n. getD seen n false) number
+nobody-out seen number l h = rw (List·getD-eq-default seen false {n = number} (omega arith)) (sym (or-false (eqb number 255)))
+
+-- the requests, one at a time
+module _ (known : ℕ → Bool) (asks : List ℕ) (i : ℕ) where
+  pub ask-next : (good : Bool) → i < length asks → (good && asksKnown known i (drop i asks)) ≡ (good && (eqb (getD asks i 0) 0 || known i) && asksKnown known (i + 1) (drop (i + 1) asks))
+  unfolding asksKnown
+  ask-next good h = rw (add-one, drop-cons asks i 0 h) (sym (and-assoc good (eqb (getD asks i 0) 0 || known i) (asksKnown known (suc i) (drop (suc i) asks))))
+
+  pub ask-last : (good : Bool) → length asks ≤ i → (good && asksKnown known i (drop i asks)) ≡ good
+  unfolding asksKnown
+  ask-last good h = rw (drop-of-length-le asks {i = i} h) (and-true good)
