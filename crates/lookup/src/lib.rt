@@ -80,14 +80,7 @@ fn by_vpi(card: Card, memory: &[u8], r: Record, h: Header) -> Looked
 }
 
 // What becomes of a cell with this header at a unit with this link, top VPI and place of its records.
-pub fn translate(
-    card: Card,
-    link: Link,
-    top: u16,
-    place: u32,
-    memory: &[u8],
-    word: u32,
-) -> Looked
+pub fn translate(card: Card, link: Link, top: u16, place: u32, memory: &[u8], word: u32) -> Looked
     ensures { λ l. ⌜ l ≡ translated (recordAt card (now (memory .entry))) link top place word ⌝ }
 {
     let h = header::read(link, word);

@@ -12,8 +12,8 @@ use lib.Seq.{set-append-left, getD-append-add}
 use borrow.Author.Tests.{eqb-true, eq-eqb}
 use Rattle.record.specs.declared.Record as R
 use Rattle.line.specs.declared.Line.{Line}
-use Rattle.table.specs.Told.{Whose, ofUnit, ofPage, same, Opening, opens, either, only, topBy, topOf, takes, total, tabulate, regionBy, regions}
-use Rattle.table.proofs.Tabulate.{some-inj, none-some, only-true, only-is, only-false, either-left, either-right, set-behind, tabulate-length, tabulate-at, tabulate-same, tabulate-put}
+use Rattle.told.specs.Told.{Whose, ofUnit, ofPage, same, Opening, opens, either, only, topBy, topOf, takes, total, tabulate, regionBy, regions}
+use Rattle.told.proofs.Tabulate.{some-inj, none-some, only-true, only-is, only-false, either-left, either-right, set-behind, tabulate-length, tabulate-at, tabulate-same, tabulate-put}
 
 -- the same owner
 pub same-self : (k : Whose) → same k k ≡ true

@@ -21,11 +21,11 @@ use Rattle.outlet.specs.declared.Limits.{Limits}
 use Rattle.shelf.specs.declared.Settings.{Settings}
 use Rattle.line.specs.declared.Line.{Line}
 use Rattle.line.specs.declared.Line.the-variants.{Bus, Unit as L·Unit, Vp, Drop, Page, Vc, Mc}
-use Rattle.table.specs.declared.Verdict.{Verdict}
-use Rattle.table.specs.declared.Verdict.the-variants.{Fine, Form, Order, Twice, Wide, Room}
-use Rattle.table.specs.Judge.{asked, roomFor, offBus, taken, inPage, judgeBus, judgeUnit, judgeVp, judgeDrop, judgePage, judgeVc, judgeMc}
-use Rattle.table.specs.Told.{ofUnit, ofPage, topOf, hearsIn, total, recordOf, shelfOf}
-use Rattle.table.specs.Lines.{started, isFirst, owned, isDeclared, judge}
+use Rattle.judge.specs.declared.Verdict.{Verdict}
+use Rattle.judge.specs.declared.Verdict.the-variants.{Fine, Form, Order, Twice, Wide, Room}
+use Rattle.judge.specs.Judge.{asked, roomFor, offBus, taken, pageIn, inPage, judgeBus, judgeUnit, judgeVp, judgeDrop, judgePage, judgeVc, judgeMc}
+use Rattle.told.specs.Told.{ofUnit, ofPage, topOf, hearsIn, total, recordOf, shelfOf}
+use Rattle.told.specs.Lines.{started, isFirst, owned, isDeclared, judge}
 
 -- verdicts told apart
 order-fine : {f : ℕ} → Order f ≡ Fine → ⊥
@@ -68,7 +68,7 @@ undeclared none e = refl
 undeclared (some top) e = absurd (false≢true (sym e))
 
 -- in the page: its top and place, and what was asked after
-paged : (r : R.Record) (vci : ℕ) (rest : Verdict) → inPage (Is r) vci rest ≡ Fine → (top : ℕ) × (place : ℕ) × (r ≡ R·Page top place) × (vci ≤ top) × (rest ≡ Fine)
+paged : (r : R.Record) (vci : ℕ) (rest : Verdict) → inPage (pageIn (Is r)) vci rest ≡ Fine → (top : ℕ) × (place : ℕ) × (r ≡ R·Page top place) × (vci ≤ top) × (rest ≡ Fine)
 paged Empty vci rest e = absurd (order-fine e)
 paged R·Drop vci rest e = absurd (order-fine e)
 paged (Route h v w) vci rest e = absurd (order-fine e)
@@ -146,8 +146,7 @@ module _ (card : Card) (room : ℕ) (told : List Line) where
       let o = owner (topOf told (ofUnit u)) _ (begun told _ e .1) in
       let w = past (ltb (o .0) v) (Order 3) _ order-fine (o .2) in
       let b = past (offBus (shelfOf told .bus) target) (Order 4) _ order-fine (w .1) in
-      let t = past (taken (Is (recordOf told (ofUnit u) v))) (Twice 3) _ twice-fine (b .1) in
-      (
+      let t = past (taken (Is (recordOf told (ofUnit u) v))) (Twice 3) _ twice-fine (b .1) in (
         record { top = o .0; declared = o .1; within = ltb-false _ _ (w .0); vacant = free _ (t .0) },
         kept (holds card (Out outvpi)) Fine Wide wide-fine (t .1) .0,
       )
@@ -159,8 +158,7 @@ module _ (card : Card) (room : ℕ) (told : List Line) where
       let q = past (ltb (o .0) v) (Order 3) _ order-fine (o .2) in
       let p = paged (recordOf told (ofUnit u) v) w _ (q .1) in
       let b = past (offBus (shelfOf told .bus) target) (Order 5) _ order-fine (p .4) in
-      let t = past (taken (Is (recordOf told (ofPage u v) w))) (Twice 4) _ twice-fine (b .1) in
-      (
+      let t = past (taken (Is (recordOf told (ofPage u v) w))) (Twice 4) _ twice-fine (b .1) in (
         record {
           top = o .0;
           declared = o .1;

@@ -23,18 +23,18 @@ use Rattle.shelf.specs.declared.Unit as U
 use Rattle.shelf.specs.declared.Found.the-variants.{At, Nothing}
 use Rattle.line.specs.declared.Line.{Line}
 use Rattle.line.specs.declared.Line.the-variants.{Bus, Unit as L·Unit, Vp, Drop, Page, Vc, Mc}
-use Rattle.table.specs.declared.Verdict.{Verdict}
-use Rattle.table.specs.declared.Verdict.the-variants.{Fine, Order, Twice}
-use Rattle.table.specs.Judge.{asked, roomFor, offBus, taken, inPage, judgeBus, judgeUnit, judgeVp, judgeDrop, judgePage, judgeVc, judgeMc}
-use Rattle.table.specs.Told.{Whose, ofUnit, ofPage, opens, gives, topOf, total, recordOf, hearsIn, shelfOf, memoryOf}
-use Rattle.table.specs.Lines.{started, isFirst, owned, isDeclared, judge}
-
-use Rattle.table.specs.Enact.{ownerAt, ownerOf, ownedBy, spot, second, isAt, judgeAt, putBy, putIn, putVc, memoryBy}
-use Rattle.table.proofs.Regions.{start}
-use Rattle.table.proofs.Fits.{AtPath, AtCircuit, fine-unit, fine-vp, fine-drop, fine-page, fine-vc}
-use Rattle.table.proofs.Grown.{decide, Grown, page-empty, page-new}
-use Rattle.table.proofs.Memory.{Ranged, stands-at, memory-gift, memory-still, memory-unit, memory-page}
-use Rattle.table.proofs.Shelved.{Stands, Shelved}
+use Rattle.judge.specs.declared.Verdict.{Verdict}
+use Rattle.judge.specs.declared.Verdict.the-variants.{Fine, Order, Twice}
+use Rattle.judge.specs.Judge.{asked, roomFor, offBus, taken, pageIn, inPage, judgeBus, judgeUnit, judgeVp, judgeDrop, judgePage, judgeVc, judgeMc}
+use Rattle.told.specs.Told.{Whose, ofUnit, ofPage, opens, gives, topOf, total, recordOf, hearsIn, shelfOf, memoryOf}
+use Rattle.told.specs.Lines.{started, isFirst, owned, isDeclared, judge}
+use Rattle.judge.specs.Standing.{ownerAt, ownerOf, ownedBy, spot, second, isAt, judgeAt}
+use Rattle.told.specs.Enact.{putBy, putIn, putVc, memoryBy}
+use Rattle.told.proofs.Regions.{start}
+use Rattle.told.proofs.Fits.{AtPath, AtCircuit, fine-unit, fine-vp, fine-drop, fine-page, fine-vc}
+use Rattle.told.proofs.Grown.{decide, Grown, page-empty, page-new}
+use Rattle.told.proofs.Memory.{Ranged, stands-at, memory-gift, memory-still, memory-unit, memory-page}
+use Rattle.told.proofs.Shelved.{Stands, Shelved}
 
 -- past the first line
 first-or : (told : List Line) (x y : Verdict) → x ≡ y → cond (isFirst told) (Order 1) x ≡ started told y
@@ -94,8 +94,7 @@ module _ (card : Card) (memory : List ℕ) (told : List Line) (w : Grown told) (
       ∙ under (ltb top v) (Order 3) (f (stands (spot (at u top e) v))) (f (Is (recordOf told (ofUnit u) v))) (λ n. ap f (stands-path u top e v (ltb-false top v n)))
 
   -- the page, and its VCI
-  page-agree : (u v c : ℕ) (r : R.Record) → recordOf told (ofUnit u) v ≡ r → (f : Got → Verdict) → inPage (Is r) c (f (second stands (Is r) c)) ≡ inPage (Is r) c (f (Is (recordOf told (ofPage u v) c)))
-  unfolding second
+  page-agree : (u v c : ℕ) (r : R.Record) → recordOf told (ofUnit u) v ≡ r → (f : Got → Verdict) → inPage (pageIn (Is r)) c (f (second stands (pageIn (Is r)) c)) ≡ inPage (pageIn (Is r)) c (f (Is (recordOf told (ofPage u v) c)))
   page-agree u v c Empty e f = refl
   page-agree u v c R·Drop e f = refl
   page-agree u v c (Route h o x) e f = refl
@@ -119,8 +118,8 @@ module _ (card : Card) (memory : List ℕ) (told : List Line) (w : Grown told) (
       first-or told _ _
       (owned-agree u _ _
       (λ top e.
-        below u top e v (λ g. inPage g c (f (second stands g c)))
-        ∙ ap (cond (ltb top v) (Order 3)) (page-agree u v c (recordOf told (ofUnit u) v) refl f)))
+      below u top e v (λ g. inPage (pageIn g) c (f (second stands (pageIn g) c)))
+      ∙ ap (cond (ltb top v) (Order 3)) (page-agree u v c (recordOf told (ofUnit u) v) refl f)))
   judge-agree room (Mc u session) r =
       first-or told _ _ (owned-agree u _ _ (λ top e. ap (λ b. cond b (Twice 3) Fine) (s .here u top e .hearing session r)))
 
@@ -155,7 +154,7 @@ module _ (card : Card) (memory : List ℕ) (told : List Line) (w : Grown told) (
       let m = memoryOf card memory told in
       let o = w .opened u v (p .pagetop) (p .place) (p .page) in
       ap (λ x. putVc card m x v c r) (owner-is u (p .top) (p .declared))
-      ∙ ap (λ g. putIn card m g c r) (stands-path u (p .top) (p .declared) v (p .within) ∙ ap Is (p .page))
+      ∙ ap (λ g. putIn card m (pageIn g) c r) (stands-path u (p .top) (p .declared) v (p .within) ∙ ap Is (p .page))
       ∙ ap (λ q. written card m (q + size * c) r) (o .1)
       ∙ memory-gift card memory told w (Vc u v c target class outvpi outvci) (record { whose = ofPage u v; at = c; gift = r }) refl refl (p .pagetop) (o .0) (p .inpage)
   memory-agree (Mc u session) e = memory-still card memory told w (Mc u session) refl refl

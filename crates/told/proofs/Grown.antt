@@ -16,12 +16,12 @@ use Rattle.outlet.specs.declared.Limits.{Limits}
 use Rattle.shelf.specs.declared.Settings.{Settings}
 use Rattle.line.specs.declared.Line.{Line}
 use Rattle.line.specs.declared.Line.the-variants.{Bus, Unit as L·Unit, Vp, Drop, Page, Vc, Mc}
-use Rattle.table.specs.declared.Verdict.the-variants.{Fine}
-use Rattle.table.specs.Told.{Whose, ofUnit, ofPage, same, Opening, opens, Giving, gives, only, either, else, topBy, topOf, takes, total, givenBy, recordOf}
-use Rattle.table.specs.Lines.{judge}
-use Rattle.table.proofs.Tabulate.{some-inj, none-some, only-true, only-is, only-false, either-left, either-right}
-use Rattle.table.proofs.Regions.{same-self, same-is, both-left, both-right, start, firstOf, Once}
-use Rattle.table.proofs.Fits.{AtPath, AtCircuit, fine-unit, fine-vp, fine-drop, fine-page, fine-vc}
+use Rattle.judge.specs.declared.Verdict.the-variants.{Fine}
+use Rattle.told.specs.Told.{Whose, ofUnit, ofPage, same, Opening, opens, Giving, gives, only, either, else, topBy, topOf, takes, total, givenBy, recordOf}
+use Rattle.told.specs.Lines.{judge}
+use Rattle.told.proofs.Tabulate.{some-inj, none-some, only-true, only-is, only-false, either-left, either-right}
+use Rattle.told.proofs.Regions.{same-self, same-is, both-left, both-right, start, firstOf, Once}
+use Rattle.told.proofs.Fits.{AtPath, AtCircuit, fine-unit, fine-vp, fine-drop, fine-page, fine-vc}
 
 pub decide : {P : Type 0} (b : Bool) → (b ≡ true → P) → (b ≡ false → P) → P
 decide true y n = y refl
@@ -73,8 +73,8 @@ module _ (told : List Line) (g : Giving) (top : ℕ) (declared : topOf told (g .
   gift-vacant k i e =
       decide (same k (g .whose) && eqb i (g .at))
       (λ t.
-        absurd
-        (none-some (sym e ∙ ap (topOf told) (same-is k (g .whose) (both-left (same k (g .whose)) (eqb i (g .at)) t)) ∙ declared)))
+      absurd
+      (none-some (sym e ∙ ap (topOf told) (same-is k (g .whose) (both-left (same k (g .whose)) (eqb i (g .at)) t)) ∙ declared)))
       (λ n. rw n (w .vacant k i e))
 
   gift-given : (u v t : ℕ) → topOf told (ofPage u v) ≡ some t → after g (ofUnit u) v (recordOf told (ofUnit u) v) ≡ R·Page t (size * start told (ofPage u v))

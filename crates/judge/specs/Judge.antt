@@ -14,8 +14,9 @@ use Rattle.record.specs.Record.{size}
 use Rattle.record.specs.declared.Record.the-variants.{Empty, Drop, Route, Page}
 use Rattle.record.specs.declared.Got.{Got}
 use Rattle.record.specs.declared.Got.the-variants.{Is, Nothing}
-use Rattle.table.specs.declared.Verdict.{Verdict}
-use Rattle.table.specs.declared.Verdict.the-variants.{Fine, Form, Order, Twice, Wide, Room}
+use Rattle.judge.specs.declared.Paged.{Paged}
+use Rattle.judge.specs.declared.Verdict.{Verdict}
+use Rattle.judge.specs.declared.Verdict.the-variants.{Fine, Form, Order, Twice, Wide, Room}
 
 -- Wide, "narrow card only": what the line asks of the card
 abbrev pub asked : Card → Ask → Verdict → Verdict
@@ -60,17 +61,20 @@ unfoldable pub judgePage : ℕ → ℕ → ℕ → ℕ → Got → ℕ → Verdi
 judgePage room used top vpi got topvci = cond (ltb top vpi) (Order 3) (cond (taken got) (Twice 3) (roomFor room used (topvci + 1)))
 
 -- "`vc` without its page before it or above its top VCI"; "same `vc`": got is the VPI's record, and got₂ the VCI's in its page
-abbrev pub inPage : Got → ℕ → Verdict → Verdict
-inPage (Is Empty) vci rest = Order 3
-inPage (Is Drop) vci rest = Order 3
-inPage (Is (Route header outvpi outvci)) vci rest = Order 3
-inPage (Is (Page top place)) vci rest = cond (ltb top vci) (Order 4) rest
-inPage Nothing vci rest = Order 3
+abbrev pub pageIn : Got → Paged
+pageIn (Is Empty) = record { known = false; top = 0; place = 0 }
+pageIn (Is Drop) = record { known = false; top = 0; place = 0 }
+pageIn (Is (Route header outvpi outvci)) = record { known = false; top = 0; place = 0 }
+pageIn (Is (Page top place)) = record { known = true; top = top; place = place }
+pageIn Nothing = record { known = false; top = 0; place = 0 }
+
+abbrev pub inPage : Paged → ℕ → Verdict → Verdict
+inPage page vci rest = cond (page .known) (cond (ltb (page .top) vci) (Order 4) rest) (Order 3)
 
 unfoldable pub judgeVc : Card → ℕ → ℕ → ℕ → Got → ℕ → Got → Target → ℕ → Verdict
 judgeVc card bus top vpi got vci got₂ target outvpi =
     cond (ltb top vpi) (Order 3)
-    (inPage got vci (cond (offBus bus target) (Order 5) (cond (taken got₂) (Twice 4) (asked card (Out outvpi) Fine))))
+    (inPage (pageIn got) vci (cond (offBus bus target) (Order 5) (cond (taken got₂) (Twice 4) (asked card (Out outvpi) Fine))))
 
 -- "same `mc`"
 unfoldable pub judgeMc : Bool → Verdict
@@ -84,3 +88,12 @@ numberOf (Order field) = 3
 numberOf (Twice field) = 4
 numberOf Wide = 5
 numberOf Room = 6
+
+-- whether a line is fine
+abbrev pub isFine : Verdict → Bool
+isFine Fine = true
+isFine (Form wrong) = false
+isFine (Order field) = false
+isFine (Twice field) = false
+isFine Wide = false
+isFine Room = false

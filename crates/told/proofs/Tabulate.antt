@@ -10,7 +10,7 @@ use lib.Dec.{eqb}
 use lib.ListN.{length, getD, set, length-append, List·getD-append}
 use lib.Seq.{getD-at, set-at, set-append-left}
 use borrow.Author.Tests.{eqb-true, eqb-false, eq-eqb, ne-eqb}
-use Rattle.table.specs.Told.{tabulate, only, either}
+use Rattle.told.specs.Told.{tabulate, only, either}
 
 -- options
 pub some-inj : {A : Type 0} {a b : A} → some a ≡ some b → a ≡ b

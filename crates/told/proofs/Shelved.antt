@@ -26,14 +26,14 @@ use Rattle.shelf.proofs.Finding.{orElse, find-declared, find-kept}
 use Rattle.shelf.proofs.Hearing.{hears-with, hears-none}
 use Rattle.line.specs.declared.Line.{Line}
 use Rattle.line.specs.declared.Line.the-variants.{Bus, Unit as L·Unit, Vp, Drop, Page, Vc, Mc}
-use Rattle.table.specs.declared.Verdict.the-variants.{Fine}
-use Rattle.table.specs.Told.{Whose, ofUnit, ofPage, same, opens, only, either, topBy, topOf, total, hearsBy, hearsIn, declare, hearing, joinAt, shelfBy, shelfOf}
-use Rattle.table.specs.Lines.{isFirst, judge}
-use Rattle.table.proofs.Tabulate.{some-inj, none-some}
-use Rattle.table.proofs.Regions.{start, firstOf}
-use Rattle.table.proofs.Fits.{UnitFine, fine-bus, fine-unit, fine-mc}
-use Rattle.table.proofs.Grown.{decide}
-use Rattle.table.proofs.Memory.{Ranged}
+use Rattle.judge.specs.declared.Verdict.the-variants.{Fine}
+use Rattle.told.specs.Told.{Whose, ofUnit, ofPage, same, opens, only, either, topBy, topOf, total, hearsBy, hearsIn, declare, hearing, joinAt, shelfBy, shelfOf}
+use Rattle.told.specs.Lines.{isFirst, judge}
+use Rattle.told.proofs.Tabulate.{some-inj, none-some}
+use Rattle.told.proofs.Regions.{start, firstOf}
+use Rattle.told.proofs.Fits.{UnitFine, fine-bus, fine-unit, fine-mc}
+use Rattle.told.proofs.Grown.{decide}
+use Rattle.told.proofs.Memory.{Ranged}
 
 -- how many of the numbers below n are not declared
 vacancy : Option ℕ → ℕ
@@ -56,16 +56,16 @@ module _ (f g : ℕ → Option ℕ) (u top : ℕ) (new : f u ≡ none) (now : g 
   one-less (suc n) h =
       decide (eqb n u)
       (λ t.
-        let e = eqb-true n u t in
-        let k = vacant-below n (omega arith) in
-        let x : vacancy (f n) ≡ 1 = ap (λ m. vacancy (f m)) e ∙ ap vacancy new in
-        let y : vacancy (g n) ≡ 0 = ap (λ m. vacancy (g m)) e ∙ ap vacancy now in
-        omega (arith, x, y, k))
+      let e = eqb-true n u t in
+      let k = vacant-below n (omega arith) in
+      let x : vacancy (f n) ≡ 1 = ap (λ m. vacancy (f m)) e ∙ ap vacancy new in
+      let y : vacancy (g n) ≡ 0 = ap (λ m. vacancy (g m)) e ∙ ap vacancy now in
+      omega (arith, x, y, k))
       (λ t.
-        let d = eqb-false n u t in
-        let k = one-less n (omega (arith, d)) in
-        let x : vacancy (g n) ≡ vacancy (f n) = ap vacancy (others n d) in
-        omega (arith, x, k))
+      let d = eqb-false n u t in
+      let k = one-less n (omega (arith, d)) in
+      let x : vacancy (g n) ≡ vacancy (f n) = ap vacancy (others n d) in
+      omega (arith, x, k))
 
 -- a unit as the lines have it: where it is found, its top VPI, its first record, its sessions
 pub record Stands (shelf : Shelf) (u top first : ℕ) (heard : ℕ → Bool) : Type 0 where
@@ -134,8 +134,8 @@ module _ (shelf : Shelf) (n : U.Unit) (room : shelf .count < length (shelf .unit
       record {
         i = shelf .count;
         found =
-          find-more (numberOf n) ∙ ap (λ f. orElse f (cond (eqb (numberOf n) (numberOf n)) (At (shelf .count)) Nothing)) lost
-          ∙ rw (eq-eqb (numberOf n) (numberOf n) refl);
+            find-more (numberOf n) ∙ ap (λ f. orElse f (cond (eqb (numberOf n) (numberOf n)) (At (shelf .count)) Nothing)) lost
+            ∙ rw (eq-eqb (numberOf n) (numberOf n) refl);
         inside = omega arith;
         named = ap numberOf new;
         tops = ap (λ x. x .settings .top) new;
@@ -200,37 +200,37 @@ module _ (told : List Line) (a session top : ℕ) (hs : session < 256) (w : Shel
       let f = find-joined (shelfOf told) i session (at-a .inside) (w .long) fits u ∙ s .found in
       decide (eqb (s .i) i)
       (λ t.
-        let e = eqb-true (s .i) i t in
-        let same : a ≡ u = sym (at-a .named) ∙ ap (λ j. numberOf (getD (shelfOf told .units) j blank)) (sym e) ∙ s .named in
-        let g : getD (after .units) (s .i) blank ≡ hearing (getD (shelfOf told .units) (s .i) blank) session =
-          ap (λ j. getD (after .units) j blank) e ∙ joined-here (shelfOf told) i session (at-a .inside) (w .long) fits
-          ∙ ap (λ j. hearing (getD (shelfOf told .units) j blank) session) (sym e) in
-        record {
-          i = s .i;
-          found = f;
-          inside = omega (arith, s .inside);
-          named = ap numberOf g ∙ s .named;
-          tops = ap (λ x. x .settings .top) g ∙ s .tops;
-          starts = ap (λ x. x .place) g ∙ s .starts;
-          four = ap (λ x. length (x .sessions)) g ∙ withSession-length (getD (shelfOf told .units) (s .i) blank .sessions) session ∙ s .four;
-          hearing = λ n h.
+      let e = eqb-true (s .i) i t in
+      let same : a ≡ u = sym (at-a .named) ∙ ap (λ j. numberOf (getD (shelfOf told .units) j blank)) (sym e) ∙ s .named in
+      let g : getD (after .units) (s .i) blank ≡ hearing (getD (shelfOf told .units) (s .i) blank) session =
+      ap (λ j. getD (after .units) j blank) e ∙ joined-here (shelfOf told) i session (at-a .inside) (w .long) fits
+      ∙ ap (λ j. hearing (getD (shelfOf told .units) j blank) session) (sym e) in
+      record {
+        i = s .i;
+        found = f;
+        inside = omega (arith, s .inside);
+        named = ap numberOf g ∙ s .named;
+        tops = ap (λ x. x .settings .top) g ∙ s .tops;
+        starts = ap (λ x. x .place) g ∙ s .starts;
+        four = ap (λ x. length (x .sessions)) g ∙ withSession-length (getD (shelfOf told .units) (s .i) blank .sessions) session ∙ s .four;
+        hearing = λ n h.
             ap (λ x. hears (x .sessions) n) g ∙ hears-with (getD (shelfOf told .units) (s .i) blank .sessions) (s .four) session n hs h
             ∙ ap (λ b. eqb session n || b) (s .hearing n h) ∙ rw (eq-eqb a u same);
-        })
+      })
       (λ t.
-        let d = eqb-false (s .i) i t in
-        let differ : a ≡ u → ⊥ = λ e. d (at-inj (sym (s .found) ∙ ap (findIn (declared (shelfOf told))) (sym e) ∙ at-a .found)) in
-        let g = joined-other (shelfOf told) i session (at-a .inside) (w .long) fits (s .i) d in
-        record {
-          i = s .i;
-          found = f;
-          inside = omega (arith, s .inside);
-          named = ap numberOf g ∙ s .named;
-          tops = ap (λ x. x .settings .top) g ∙ s .tops;
-          starts = ap (λ x. x .place) g ∙ s .starts;
-          four = ap (λ x. length (x .sessions)) g ∙ s .four;
-          hearing = λ n h. ap (λ x. hears (x .sessions) n) g ∙ s .hearing n h ∙ rw (ne-eqb a u differ);
-        })
+      let d = eqb-false (s .i) i t in
+      let differ : a ≡ u → ⊥ = λ e. d (at-inj (sym (s .found) ∙ ap (findIn (declared (shelfOf told))) (sym e) ∙ at-a .found)) in
+      let g = joined-other (shelfOf told) i session (at-a .inside) (w .long) fits (s .i) d in
+      record {
+        i = s .i;
+        found = f;
+        inside = omega (arith, s .inside);
+        named = ap numberOf g ∙ s .named;
+        tops = ap (λ x. x .settings .top) g ∙ s .tops;
+        starts = ap (λ x. x .place) g ∙ s .starts;
+        four = ap (λ x. length (x .sessions)) g ∙ s .four;
+        hearing = λ n h. ap (λ x. hears (x .sessions) n) g ∙ s .hearing n h ∙ rw (ne-eqb a u differ);
+      })
 
   mc-after : shelfOf (Mc a session ∷ told) ≡ after
   unfolding shelfOf shelfBy joined
@@ -290,11 +290,11 @@ module _ (told : List Line) (settings : Settings) (limits : Limits) (small : set
   unit-here u top e =
       decide (eqb (settings .number) u)
       (λ t.
-        let x = rw t at e in
-        let y = eqb-true (settings .number) u t in
-        rw (← y, eq-eqb (settings .number) (settings .number) refl, ← some-inj x)
-        (stands (shelfOf told) n room (total told) (hearsIn told (settings .number)) (w .gone (settings .number) lost) refl refl
-        (λ s h. hears-none s ∙ sym (w .deaf (settings .number) s lost))))
+      let x = rw t at e in
+      let y = eqb-true (settings .number) u t in
+      rw (← y, eq-eqb (settings .number) (settings .number) refl, ← some-inj x)
+      (stands (shelfOf told) n room (total told) (hearsIn told (settings .number)) (w .gone (settings .number) lost) refl refl
+      (λ s h. hears-none s ∙ sym (w .deaf (settings .number) s lost))))
       (λ t. rw t (stood (shelfOf told) n room u top (start told (ofUnit u)) (hearsIn told u) (w .here u top (rw t at e))))
 
   unit-gone : (u : ℕ) → g u ≡ none → findIn (declared next) u ≡ Nothing

@@ -27,13 +27,13 @@ use Rattle.outlet.specs.declared.Limits.{Limits}
 use Rattle.shelf.specs.declared.Settings.{Settings}
 use Rattle.line.specs.declared.Line.{Line}
 use Rattle.line.specs.declared.Line.the-variants.{Bus, Unit as L·Unit, Vp, Drop, Page, Vc, Mc}
-use Rattle.table.specs.declared.Verdict.the-variants.{Fine}
-use Rattle.table.specs.Told.{Whose, ofUnit, ofPage, same, Opening, opens, Giving, gives, only, else, topOf, takes, total, givenBy, recordOf, tabulate, regionBy, regions, records, memoryOf}
-use Rattle.table.specs.Lines.{judge}
-use Rattle.table.proofs.Tabulate.{tabulate-same}
-use Rattle.table.proofs.Regions.{same-self, start, start-lt, regions-length, regions-at, regions-put, Once}
-use Rattle.table.proofs.Fits.{AtPath, AtCircuit, fine-unit, fine-vp, fine-drop, fine-page, fine-vc}
-use Rattle.table.proofs.Grown.{Good, Grown, grown}
+use Rattle.judge.specs.declared.Verdict.the-variants.{Fine}
+use Rattle.told.specs.Told.{Whose, ofUnit, ofPage, same, Opening, opens, Giving, gives, only, else, topOf, takes, total, givenBy, recordOf, tabulate, regionBy, regions, records, memoryOf}
+use Rattle.told.specs.Lines.{judge}
+use Rattle.told.proofs.Tabulate.{tabulate-same}
+use Rattle.told.proofs.Regions.{same-self, start, start-lt, regions-length, regions-at, regions-put, Once}
+use Rattle.told.proofs.Fits.{AtPath, AtCircuit, fine-unit, fine-vp, fine-drop, fine-page, fine-vc}
+use Rattle.told.proofs.Grown.{Good, Grown, grown}
 
 -- the numbers of a line that the reader keeps in range
 abbrev pub Ranged : Line → Type 0
@@ -176,7 +176,7 @@ module _ (card : Card) (memory : List ℕ) (told : List Line) (w : Grown told) w
   pub memory-gift : (l : Line) (g : Giving) → opens l ≡ none → gives l (size * total told) ≡ some g → (top : ℕ) → topOf told (g .whose) ≡ some top → g .at ≤ top → written card (memoryOf card memory told) (size * start told (g .whose) + size * g .at) (g .gift) ≡ memoryOf card memory (l ∷ told)
   memory-gift l g o e top declared within =
       let rs : records (l ∷ told) ≡ set (records told) (start told (g .whose) + g .at) (g .gift) =
-        records-more l told ∙ ap₂ _++_ (gifted told l g e (w .once) top declared within) (ap (regionBy (recordOf (l ∷ told))) o) ∙ append-nil _ in
+      records-more l told ∙ ap₂ _++_ (gifted told l g e (w .once) top declared within) (ap (regionBy (recordOf (l ∷ told))) o) ∙ append-nil _ in
       let t : total (l ∷ told) ≡ total told = total-more l told ∙ ap (λ x. total told + takes x) o ∙ add-zero (total told) in
       put-with card memory told (g .whose) top (g .at) (g .gift) declared within ∙ sym (is-with card memory (l ∷ told) ∙ ap₂ (memoryWith card memory) rs t)
 
@@ -195,7 +195,7 @@ module _ (card : Card) (memory : List ℕ) (told : List Line) (w : Grown told) w
   opened : (l : Line) (o : Opening) (rs : List R.Record) → opens l ≡ some o → topOf told (o .whose) ≡ none → ((i : ℕ) → recordOf (l ∷ told) (o .whose) i ≡ recordOf told (o .whose) i) → regions (recordOf (l ∷ told)) told ≡ rs → size * total told + size * (o .top + 1) ≤ usable memory → memoryWith card memory rs (total told) ≡ memoryOf card memory (l ∷ told)
   opened l o rs e new same regions-are room =
       let more : regionBy (recordOf (l ∷ told)) (opens l) ≡ replicate (o .top + 1) Empty =
-        ap (regionBy (recordOf (l ∷ told))) e ∙ all-empty (recordOf (l ∷ told) (o .whose)) (o .top + 1) (λ i. same i ∙ w .vacant (o .whose) i new) in
+      ap (regionBy (recordOf (l ∷ told))) e ∙ all-empty (recordOf (l ∷ told) (o .whose)) (o .top + 1) (λ i. same i ∙ w .vacant (o .whose) i new) in
       let t : total (l ∷ told) ≡ total told + (o .top + 1) = total-more l told ∙ ap (λ x. total told + takes x) e in
       sym
       (is-with card memory (l ∷ told) ∙ ap₂ (memoryWith card memory) (records-more l told ∙ ap₂ _++_ regions-are more) t

@@ -1,6 +1,6 @@
 -- The lines of a table, each judged against the lines before it; the first faulty one ends it. Assumes nothing.
 use Prim.Native.Nat.{ℕ, _+_, _*_}
-use mathlib.Core.Bool.{Bool, true, false}
+use mathlib.Core.Bool.{Bool, true, false, cond}
 use mathlib.Core.List.{List, [], _∷_}
 use mathlib.Core.Option.{Option, none, some}
 use Rattle.card.specs.declared.Card.{Card}
@@ -11,10 +11,10 @@ use Rattle.line.specs.declared.Line.the-variants.{Bus, Unit as L·Unit, Vp, Dro
 use Rattle.line.specs.declared.Wrong.{Wrong}
 use Rattle.line.specs.declared.Reading.{Reading}
 use Rattle.line.specs.declared.Reading.the-variants.{Good, Bad}
-use Rattle.table.specs.declared.Verdict.{Verdict}
-use Rattle.table.specs.declared.Verdict.the-variants.{Fine, Form, Order, Twice, Wide, Room}
-use Rattle.table.specs.Judge.{judgeBus, judgeUnit, judgeVp, judgeDrop, judgePage, judgeVc, judgeMc}
-use Rattle.table.specs.Told.{ofUnit, ofPage, topOf, hearsIn, total, recordOf, shelfOf}
+use Rattle.judge.specs.declared.Verdict.{Verdict}
+use Rattle.judge.specs.declared.Verdict.the-variants.{Fine, Form, Order, Twice, Wide, Room}
+use Rattle.judge.specs.Judge.{isFine, judgeBus, judgeUnit, judgeVp, judgeDrop, judgePage, judgeVc, judgeMc}
+use Rattle.told.specs.Told.{ofUnit, ofPage, topOf, hearsIn, total, recordOf, shelfOf}
 
 -- "first line is not `bus`"
 abbrev pub started : List Line → Verdict → Verdict
@@ -52,10 +52,10 @@ judge card room told (Vc u v w target class outvpi outvci) =
     judgeVc card (shelfOf told .bus) top v (Is (recordOf told (ofUnit u) v)) w (Is (recordOf told (ofPage u v) w)) target outvpi)
 judge card room told (Mc u session) = started told (owned (topOf told (ofUnit u)) λ top. judgeMc (hearsIn told u session))
 
--- what reading lines comes to: all are good, or the first that is not, counted from 1, and why
+-- what reading lines comes to: all are good; or those before the first that is not, which line that is, counted from 1, and why
 pub data Ran : Type 0 where
   done : List Line → Ran
-  stopped : ℕ → Verdict → Ran
+  stopped : List Line → ℕ → Verdict → Ran
 
 -- a line that cannot be read is Form; one that can is judged
 abbrev pub verdictOn : Card → ℕ → List Line → Reading → Verdict
@@ -66,14 +66,7 @@ abbrev pub with : Reading → List Line → List Line
 with (Good l) told = l ∷ told
 with (Bad wrong) told = told
 
-abbrev pub unless : Verdict → ℕ → Ran → Ran
-unless Fine n rest = rest
-unless (Form wrong) n rest = stopped n (Form wrong)
-unless (Order field) n rest = stopped n (Order field)
-unless (Twice field) n rest = stopped n (Twice field)
-unless Wide n rest = stopped n Wide
-unless Room n rest = stopped n Room
-
 unfoldable pub run : Card → ℕ → List Line → ℕ → List Reading → Ran
 run card room told n [] = done told
-run card room told n (r ∷ rs) = unless (verdictOn card room told r) (n + 1) (run card room (with r told) (n + 1) rs)
+run card room told n (r ∷ rs) =
+    cond (isFine (verdictOn card room told r)) (run card room (with r told) (n + 1) rs) (stopped told (n + 1) (verdictOn card room told r))

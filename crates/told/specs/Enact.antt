@@ -1,0 +1,70 @@
+-- What a line does to a memory and a shelf as they stand. Assumes nothing.
+use Prim.Native.Nat.{ℕ, _+_, _*_, _<_}
+use mathlib.Core.Bool.{Bool, cond}
+use mathlib.Core.List.{List}
+use Rattle.routing.specs.Routing.{routing}
+use Rattle.card.specs.declared.Card.{Card}
+use Rattle.record.specs.Record.{size, recordAt, written}
+use Rattle.record.specs.declared.Record as R
+use Rattle.record.specs.declared.Record.the-variants.{Drop as R·Drop, Route, Page as R·Page}
+use Rattle.record.specs.declared.Got.{Got}
+use Rattle.shelf.specs.declared.Shelf.{Shelf}
+use Rattle.line.specs.declared.Reading.{Reading}
+use Rattle.line.specs.declared.Reading.the-variants.{Good, Bad}
+use Rattle.line.specs.declared.Line.{Line}
+use Rattle.line.specs.declared.Line.the-variants.{Bus, Unit as L·Unit, Vp, Drop, Page, Vc, Mc}
+use Rattle.judge.specs.declared.Owner.{Owner}
+use Rattle.judge.specs.declared.Paged.{Paged}
+use Rattle.judge.specs.declared.Verdict.{Verdict}
+use Rattle.judge.specs.declared.Verdict.the-variants.{Form}
+use Rattle.judge.specs.Judge.{pageIn}
+use Rattle.judge.specs.Standing.{ownerOf, spot, judgeAt}
+use Rattle.told.specs.Told.{opens, takes, shelfBy}
+
+-- the memory after it
+unfoldable pub putBy : Card → List ℕ → Owner → ℕ → R.Record → List ℕ
+putBy card memory o vpi r = cond (o .known) (written card memory (spot (o .unit) vpi) r) memory
+
+unfoldable pub putIn : Card → List ℕ → Paged → ℕ → R.Record → List ℕ
+putIn card memory page vci r = cond (page .known) (written card memory (page .place + size * vci) r) memory
+
+unfoldable pub putVc : Card → List ℕ → Owner → ℕ → ℕ → R.Record → List ℕ
+putVc card memory o vpi vci r = cond (o .known) (putIn card memory (pageIn (recordAt card memory (spot (o .unit) vpi))) vci r) memory
+
+unfoldable pub memoryBy : Card → List ℕ → Shelf → ℕ → Line → List ℕ
+memoryBy card memory shelf used (Bus bus) = memory
+memoryBy card memory shelf used (L·Unit settings limits) = memory
+memoryBy card memory shelf used (Vp u v target class outvpi) = putBy card memory (ownerOf shelf u) v (Route (routing target class) outvpi 0)
+memoryBy card memory shelf used (Drop u v) = putBy card memory (ownerOf shelf u) v R·Drop
+memoryBy card memory shelf used (Page u v top) = putBy card memory (ownerOf shelf u) v (R·Page top used)
+memoryBy card memory shelf used (Vc u v w target class outvpi outvci) =
+    putVc card memory (ownerOf shelf u) v w (Route (routing target class) outvpi outvci)
+memoryBy card memory shelf used (Mc u session) = memory
+
+-- a line that is read
+abbrev pub verdictAt : Card → ℕ → Bool → (ℕ → Got) → Shelf → ℕ → Reading → Verdict
+verdictAt card room first stands shelf used (Good l) = judgeAt card room first stands shelf used l
+verdictAt card room first stands shelf used (Bad wrong) = Form wrong
+
+abbrev pub shelfIn : Reading → ℕ → Shelf → Shelf
+shelfIn (Good l) used shelf = shelfBy l used shelf
+shelfIn (Bad wrong) used shelf = shelf
+
+abbrev pub usedIn : Reading → ℕ → ℕ
+usedIn (Good l) used = used + size * takes (opens l)
+usedIn (Bad wrong) used = used
+
+abbrev pub memoryIn : Card → List ℕ → Shelf → ℕ → Reading → List ℕ
+memoryIn card memory shelf used (Good l) = memoryBy card memory shelf used l
+memoryIn card memory shelf used (Bad wrong) = memory
+
+-- there is a place for a unit that it declares
+abbrev pub Places : Shelf → Reading → Type 0
+Places shelf (Good (Bus bus)) = Unit {0}
+Places shelf (Good (L·Unit settings limits)) = shelf .count < 32
+Places shelf (Good (Vp u v target class outvpi)) = Unit {0}
+Places shelf (Good (Drop u v)) = Unit {0}
+Places shelf (Good (Page u v top)) = Unit {0}
+Places shelf (Good (Vc u v w target class outvpi outvci)) = Unit {0}
+Places shelf (Good (Mc u session)) = Unit {0}
+Places shelf (Bad wrong) = Unit {0}
