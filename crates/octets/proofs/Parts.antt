@@ -98,3 +98,9 @@ module _ {A : Type 0} (size : ℕ) (f : A → List ℕ) (len : (a : A) → lengt
   room [] i rest h = absurd (not-suc-le-zero h)
   room (x ∷ rs) zero rest h = rw (mul-zero, append-assoc, length-append, len) (omega arith)
   room (x ∷ rs) (suc i) rest h = let k = room rs i rest (le-of-suc-le-suc h) in rw (next i x, append-assoc, length-append, len x) (omega arith)
+
+-- inside a list it does not matter what stands outside
+pub getD-any : {A : Type 0} (l : List A) (i : ℕ) (d e : A) → i < length l → getD l i d ≡ getD l i e
+getD-any [] i d e h = absurd (not-suc-le-zero h)
+getD-any (x ∷ l) zero d e h = refl
+getD-any (x ∷ l) (suc i) d e h = getD-any l i d e (le-of-suc-le-suc h)

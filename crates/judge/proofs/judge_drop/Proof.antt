@@ -1,39 +1,38 @@
+-- `judge::judge_drop` meets its contract. Assumes nothing.
+use mathlib.Core.Path.{sym, ap, _∙_}
+use Rattle.record.specs.Record.{recordAt}
+use Rattle.judge.specs.Judge.{taken}
+use Rattle.judge.proofs.Chains.{nobody, somebody, drop-above, drop-taken, drop-fine}
 use borrow.Author.Needs.{needs}
 use Rattle.judge.proofs.judge_drop.Statement.{statement}
 use Rattle.judge.proofs.judge_drop.Tie as tie
-use Rattle.judge.proofs.judge_drop.Reads as reads
-use Rattle.judge.proofs.judge_drop.Lts as lts
-use Rattle.judge.proofs.spot.Reads as spot-reads
-use Rattle.judge.proofs.taken.Reads as taken-reads
-use Rattle.record.proofs.get.Reads as get-reads
 
--- src/lib.rt:179:9
 returns : tie.Need-returns
-returns c = ?
+returns c = nobody (c .before .before .before .args .o) _ (c .if1 .taken)
 
--- src/lib.rt:183:9
 returns-2 : tie.Need-returns-2
-returns-2 c = ?
+returns-2 c =
+    let a = c .before .before .before .before .before .before .args in
+    somebody (a .o) _ _ (c .before .before .before .if1 .left) (drop-above _ (a .vpi) _ (c .if2 .taken))
 
--- src/lib.rt:185:40
 spot-requires : tie.Need-spot-requires
 spot-requires c κs = search needs
 
--- src/lib.rt:185:14
 get-requires : tie.Need-get-requires
 get-requires c κs = search needs
 
--- src/lib.rt:185:8
 taken-requires : tie.Need-taken-requires
 taken-requires c κs = search needs
 
--- src/lib.rt:186:9
 returns-3 : tie.Need-returns-3
-returns-3 c = ?
+returns-3 c =
+    let a = c .before .before .before .before .before .before .before .before .before .before .args in
+    somebody (a .o) _ _ (c .before .before .before .before .before .before .before .if1 .left) (drop-taken _ (a .vpi) _ (c .before .before .before .before .if2 .left) (sym (c .before .taken .ensures ∙ ap taken (c .before .before .get .ensures ∙ ap (recordAt (a .card) (a .memory .now)) (c .before .before .before .spot .ensures))) ∙ c .if3 .taken))
 
--- src/lib.rt:175:1
 returns-4 : tie.Need-returns-4
-returns-4 c = ?
+returns-4 c =
+    let a = c .before .before .before .before .before .before .before .before .before .before .args in
+    somebody (a .o) _ _ (c .before .before .before .before .before .before .before .if1 .left) (drop-fine _ (a .vpi) _ (c .before .before .before .before .if2 .left) (sym (c .before .taken .ensures ∙ ap taken (c .before .before .get .ensures ∙ ap (recordAt (a .card) (a .memory .now)) (c .before .before .before .spot .ensures))) ∙ c .if3 .left))
 
 pub judge-drop-spec : {M : Type 1} → statement M
 judge-drop-spec =

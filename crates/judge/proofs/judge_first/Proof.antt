@@ -1,69 +1,61 @@
+-- `judge::judge_first` meets its contract. Assumes nothing.
+use mathlib.Core.Path.{_∙_}
+use Rattle.judge.specs.Standing.{judgeFirst}
 use borrow.Author.Needs.{needs}
 use Rattle.judge.proofs.judge_first.Statement.{statement}
 use Rattle.judge.proofs.judge_first.Tie as tie
-use Rattle.judge.proofs.judge_first.Reads as reads
-use Rattle.judge.proofs.judge_first.Lts as lts
-use Rattle.judge.proofs.asks.Reads as asks-reads
 
--- src/lib.rt:300:19
 enum-known-line : tie.Need-enum-known-line
 enum-known-line c = search needs
 
--- src/lib.rt:300:27
 asks-requires : tie.Need-asks-requires
 asks-requires c κs = search needs
 
--- src/lib.rt:304:14
 enum-told : tie.Need-enum-told
 enum-told c = search needs
 
--- src/lib.rt:311:14
 enum-told-2 : tie.Need-enum-told-2
 enum-told-2 c = search needs
 
--- src/lib.rt:312:43
 enum-told-3 : tie.Need-enum-told-3
 enum-told-3 c = search needs
 
--- src/lib.rt:317:14
 enum-told-4 : tie.Need-enum-told-4
 enum-told-4 c = search needs
 
--- src/lib.rt:326:14
 enum-told-5 : tie.Need-enum-told-5
 enum-told-5 c = search needs
 
--- src/lib.rt:330:14
 enum-told-6 : tie.Need-enum-told-6
 enum-told-6 c = search needs
 
--- src/lib.rt:296:1
 returns : tie.Need-returns
-returns c = ?
+unfolding judgeFirst
+returns c = c .asks .ensures ∙ rw (c .before .before .line .given .1)
 
--- src/lib.rt:296:1
 returns-2 : tie.Need-returns-2
-returns-2 c = ?
+unfolding judgeFirst
+returns-2 c = rw (c .enum-told .given .1)
 
--- src/lib.rt:296:1
 returns-3 : tie.Need-returns-3
-returns-3 c = ?
+unfolding judgeFirst
+returns-3 c = rw (c .enum-told2 .given .1)
 
--- src/lib.rt:296:1
 returns-4 : tie.Need-returns-4
-returns-4 c = ?
+unfolding judgeFirst
+returns-4 c = rw (c .enum-told3 .given .1)
 
--- src/lib.rt:296:1
 returns-5 : tie.Need-returns-5
-returns-5 c = ?
+unfolding judgeFirst
+returns-5 c = rw (c .enum-told4 .given .1)
 
--- src/lib.rt:296:1
 returns-6 : tie.Need-returns-6
-returns-6 c = ?
+unfolding judgeFirst
+returns-6 c = rw (c .enum-told5 .given .1)
 
--- src/lib.rt:296:1
 returns-7 : tie.Need-returns-7
-returns-7 c = ?
+unfolding judgeFirst
+returns-7 c = rw (c .enum-told6 .given .1)
 
 pub judge-first-spec : {M : Type 1} → statement M
 judge-first-spec =

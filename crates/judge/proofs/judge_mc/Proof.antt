@@ -1,25 +1,28 @@
+-- `judge::judge_mc` meets its contract. Assumes nothing.
+use mathlib.Core.Path.{sym, _∙_}
+use Rattle.judge.specs.Judge.{judgeMc}
+use Rattle.judge.proofs.Chains.{nobody, somebody}
 use borrow.Author.Needs.{needs}
 use Rattle.judge.proofs.judge_mc.Statement.{statement}
 use Rattle.judge.proofs.judge_mc.Tie as tie
-use Rattle.judge.proofs.judge_mc.Reads as reads
-use Rattle.judge.proofs.judge_mc.Lts as lts
-use Rattle.shelf.proofs.hears.Reads as hears-reads
 
--- src/lib.rt:285:9
 returns : tie.Need-returns
-returns c = ?
+returns c = nobody (c .before .before .args .o) _ (c .if1 .taken)
 
--- src/lib.rt:289:8
 hears-requires : tie.Need-hears-requires
 hears-requires c κs = search needs
 
--- src/lib.rt:290:9
 returns-2 : tie.Need-returns-2
-returns-2 c = ?
+unfolding judgeMc
+returns-2 c =
+    let a = c .before .before .before .before .before .before .args in
+    somebody (a .o) _ _ (c .before .before .before .before .if1 .left) (rw (sym (c .before .hears .ensures) ∙ c .if2 .taken))
 
--- src/lib.rt:281:1
 returns-3 : tie.Need-returns-3
-returns-3 c = ?
+unfolding judgeMc
+returns-3 c =
+    let a = c .before .before .before .before .before .before .args in
+    somebody (a .o) _ _ (c .before .before .before .before .if1 .left) (rw (sym (c .before .hears .ensures) ∙ c .if2 .left))
 
 pub judge-mc-spec : {M : Type 1} → statement M
 judge-mc-spec = tie.close (tie.spec returns hears-requires returns-2 returns-3)

@@ -1,48 +1,44 @@
+-- `judge::judge_page` meets its contract. Assumes nothing.
+use mathlib.Core.Path.{sym, ap, _∙_}
+use Rattle.record.specs.Record.{recordAt}
+use Rattle.judge.specs.Judge.{taken}
+use Rattle.judge.proofs.Chains.{nobody, somebody, page-above, page-taken, page-room}
 use borrow.Author.Needs.{needs}
 use Rattle.judge.proofs.judge_page.Statement.{statement}
 use Rattle.judge.proofs.judge_page.Tie as tie
-use Rattle.judge.proofs.judge_page.Reads as reads
-use Rattle.judge.proofs.judge_page.Lts as lts
-use Rattle.judge.proofs.room_for.Reads as room-for-reads
-use Rattle.judge.proofs.spot.Reads as spot-reads
-use Rattle.judge.proofs.taken.Reads as taken-reads
-use Rattle.record.proofs.get.Reads as get-reads
 
--- src/lib.rt:204:9
 returns : tie.Need-returns
-returns c = ?
+returns c = nobody (c .before .before .before .args .o) _ (c .if1 .taken)
 
--- src/lib.rt:208:9
 returns-2 : tie.Need-returns-2
-returns-2 c = ?
+returns-2 c =
+    let a = c .before .before .before .before .before .before .args in
+    somebody (a .o) _ _ (c .before .before .before .if1 .left) (page-above _ (a .vpi) _ (a .room) (a .used) (a .top) (c .if2 .taken))
 
--- src/lib.rt:210:40
 spot-requires : tie.Need-spot-requires
 spot-requires c κs = search needs
 
--- src/lib.rt:210:14
 get-requires : tie.Need-get-requires
 get-requires c κs = search needs
 
--- src/lib.rt:210:8
 taken-requires : tie.Need-taken-requires
 taken-requires c κs = search needs
 
--- src/lib.rt:211:9
 returns-3 : tie.Need-returns-3
-returns-3 c = ?
+returns-3 c =
+    let a = c .before .before .before .before .before .before .before .before .before .before .args in
+    somebody (a .o) _ _ (c .before .before .before .before .before .before .before .if1 .left) (page-taken _ (a .vpi) _ (a .room) (a .used) (a .top) (c .before .before .before .before .if2 .left) (sym (c .before .taken .ensures ∙ ap taken (c .before .before .get .ensures ∙ ap (recordAt (a .card) (a .memory .now)) (c .before .before .before .spot .ensures))) ∙ c .if3 .taken))
 
--- src/lib.rt:213:26
 add-room-for : tie.Need-add-room-for
 add-room-for c = search needs
 
--- src/lib.rt:213:5
 room-for-requires : tie.Need-room-for-requires
 room-for-requires c κs = search needs
 
--- src/lib.rt:192:1
 returns-4 : tie.Need-returns-4
-returns-4 c = ?
+returns-4 c =
+    let a = c .before .before .before .before .before .before .before .before .before .before .before .args in
+    somebody (a .o) _ _ (c .before .before .before .before .before .before .before .before .if1 .left) (page-room _ (a .vpi) _ (a .room) (a .used) (a .top) _ (c .before .before .before .before .before .if2 .left) (sym (c .before .before .taken .ensures ∙ ap taken (c .before .before .before .get .ensures ∙ ap (recordAt (a .card) (a .memory .now)) (c .before .before .before .before .spot .ensures))) ∙ c .before .if3 .left) (c .room-for .ensures))
 
 pub judge-page-spec : {M : Type 1} → statement M
 judge-page-spec =

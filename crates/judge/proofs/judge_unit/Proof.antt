@@ -1,42 +1,41 @@
+-- `judge::judge_unit` meets its contract. Assumes nothing.
+use mathlib.Core.Path.{sym, _∙_}
+use Rattle.judge.proofs.Chains.{unit-off, unit-twice, unit-room, unit-wide}
 use borrow.Author.Needs.{needs}
 use Rattle.judge.proofs.judge_unit.Statement.{statement}
 use Rattle.judge.proofs.judge_unit.Tie as tie
-use Rattle.judge.proofs.judge_unit.Reads as reads
-use Rattle.judge.proofs.judge_unit.Lts as lts
-use Rattle.card.proofs.holds.Reads as holds-reads
-use Rattle.judge.proofs.room_for.Reads as room-for-reads
 
--- src/lib.rt:134:9
 returns : tie.Need-returns
-returns c = ?
+returns c =
+    let a = c .before .before .args in
+    unit-off (a .card) (a .bus) (a .room) (a .used) (a .settings .number) (a .settings .top) (a .settings .link) (a .declared) (c .if1 .taken)
 
--- src/lib.rt:137:9
 returns-2 : tie.Need-returns-2
-returns-2 c = ?
+returns-2 c =
+    let a = c .before .before .before .args in
+    unit-twice (a .card) (a .bus) (a .room) (a .used) (a .settings .number) (a .settings .top) (a .settings .link) (a .declared) (c .before .if1 .left) (c .if2 .taken)
 
--- src/lib.rt:140:8
 holds-requires : tie.Need-holds-requires
 holds-requires c κs = search needs
 
--- src/lib.rt:141:38
 cast-room-for : tie.Need-cast-room-for
 cast-room-for c = search needs
 
--- src/lib.rt:141:37
 add-room-for : tie.Need-add-room-for
 add-room-for c = search needs
 
--- src/lib.rt:141:9
 room-for-requires : tie.Need-room-for-requires
 room-for-requires c κs = search needs
 
--- src/lib.rt:141:9
 returns-3 : tie.Need-returns-3
-returns-3 c = ?
+returns-3 c =
+    let a = c .before .before .before .before .before .before .before .args in
+    unit-room (a .card) (a .bus) (a .room) (a .used) (a .settings .number) (a .settings .top) (a .settings .link) (a .declared) _ (c .before .before .before .before .before .if1 .left) (c .before .before .before .before .if2 .left) (sym (c .before .before .before .holds .ensures) ∙ c .before .before .if3 .taken) (c .room-for .ensures)
 
--- src/lib.rt:123:1
 returns-4 : tie.Need-returns-4
-returns-4 c = ?
+returns-4 c =
+    let a = c .before .before .before .before .before .args in
+    unit-wide (a .card) (a .bus) (a .room) (a .used) (a .settings .number) (a .settings .top) (a .settings .link) (a .declared) (c .before .before .before .if1 .left) (c .before .before .if2 .left) (sym (c .before .holds .ensures) ∙ c .if3 .left)
 
 pub judge-unit-spec : {M : Type 1} → statement M
 judge-unit-spec =

@@ -1,75 +1,80 @@
+-- `judge::judge_vc` meets its contract. Assumes nothing.
+use mathlib.Core.Path.{sym, ap, subst, _∙_}
+use Prim.Native.Nat.{_+_, _*_, _<_, _≤_}
+use borrow.Author.Tests.{not-true, not-false}
+use Rattle.record.specs.Record.{size, recordAt}
+use Rattle.judge.specs.Judge.{taken, pageIn}
+use Rattle.judge.proofs.Chains.{nobody, somebody, vc-above, vc-no-page, vc-over, vc-off, vc-taken, vc-asked}
 use borrow.Author.Needs.{needs}
 use Rattle.judge.proofs.judge_vc.Statement.{statement}
 use Rattle.judge.proofs.judge_vc.Tie as tie
-use Rattle.judge.proofs.judge_vc.Reads as reads
-use Rattle.judge.proofs.judge_vc.Lts as lts
-use Rattle.judge.proofs.asks.Reads as asks-reads
-use Rattle.judge.proofs.off_bus.Reads as off-bus-reads
-use Rattle.judge.proofs.page_in.Reads as page-in-reads
-use Rattle.judge.proofs.spot.Reads as spot-reads
-use Rattle.judge.proofs.taken.Reads as taken-reads
-use Rattle.judge.proofs.vci_spot.Reads as vci-spot-reads
-use Rattle.record.proofs.get.Reads as get-reads
 
--- src/lib.rt:258:9
 returns : tie.Need-returns
-returns c = ?
+returns c = nobody (c .before .before .before .args .o) _ (c .if1 .taken)
 
--- src/lib.rt:262:9
 returns-2 : tie.Need-returns-2
-returns-2 c = ?
+returns-2 c =
+    let a = c .before .before .before .before .before .before .args in
+    somebody (a .o) _ _ (c .before .before .before .if1 .left) (vc-above (a .card) (a .bus) _ (a .vpi) (recordAt (a .card) (a .memory .now)) (a .o .unit) (a .vci) (a .target) (a .outvpi) (c .if2 .taken))
 
--- src/lib.rt:264:50
 spot-requires : tie.Need-spot-requires
 spot-requires c κs = search needs
 
--- src/lib.rt:264:24
 get-requires : tie.Need-get-requires
 get-requires c κs = search needs
 
--- src/lib.rt:264:9
 page-in-requires : tie.Need-page-in-requires
 page-in-requires c κs = search needs
 
--- src/lib.rt:266:9
 returns-3 : tie.Need-returns-3
-returns-3 c = ?
+returns-3 c =
+    let a = c .before .before .before .before .before .before .before .before .before .before .before .args in
+    let s = recordAt (a .card) (a .memory .now) in
+    let e = c .before .before .page-in .ensures ∙ ap pageIn (c .before .before .before .get .ensures ∙ ap s (c .before .before .before .before .spot .ensures)) in
+    somebody (a .o) _ _ (c .before .before .before .before .before .before .before .before .if1 .left) (vc-no-page (a .card) (a .bus) _ (a .vpi) (recordAt (a .card) (a .memory .now)) (a .o .unit) (a .vci) (a .target) (a .outvpi) (c .before .before .before .before .before .if2 .left) (sym (ap (λ p. p .known) e) ∙ not-true _ (c .if3 .taken)))
 
--- src/lib.rt:269:9
 returns-4 : tie.Need-returns-4
-returns-4 c = ?
+returns-4 c =
+    let a = c .before .before .before .before .before .before .before .before .before .before .before .before .before .args in
+    let s = recordAt (a .card) (a .memory .now) in
+    let e = c .before .before .before .before .page-in .ensures ∙ ap pageIn (c .before .before .before .before .before .get .ensures ∙ ap s (c .before .before .before .before .before .before .spot .ensures)) in
+    somebody (a .o) _ _ (c .before .before .before .before .before .before .before .before .before .before .if1 .left) (vc-over (a .card) (a .bus) _ (a .vpi) (recordAt (a .card) (a .memory .now)) (a .o .unit) (a .vci) (a .target) (a .outvpi) (c .before .before .before .before .before .before .before .if2 .left) (sym (ap (λ p. p .known) e) ∙ not-false _ (c .before .before .if3 .left)) (subst (λ p. p .top < a .vci) e (c .if4 .taken)))
 
--- src/lib.rt:271:8
 off-bus-requires : tie.Need-off-bus-requires
 off-bus-requires c κs = search needs
 
--- src/lib.rt:272:9
 returns-5 : tie.Need-returns-5
-returns-5 c = ?
+returns-5 c =
+    let a = c .before .before .before .before .before .before .before .before .before .before .before .before .before .before .before .args in
+    let s = recordAt (a .card) (a .memory .now) in
+    let e = c .before .before .before .before .before .before .page-in .ensures ∙ ap pageIn (c .before .before .before .before .before .before .before .get .ensures ∙ ap s (c .before .before .before .before .before .before .before .before .spot .ensures)) in
+    somebody (a .o) _ _ (c .before .before .before .before .before .before .before .before .before .before .before .before .if1 .left) (vc-off (a .card) (a .bus) _ (a .vpi) (recordAt (a .card) (a .memory .now)) (a .o .unit) (a .vci) (a .target) (a .outvpi) (c .before .before .before .before .before .before .before .before .before .if2 .left) (sym (ap (λ p. p .known) e) ∙ not-false _ (c .before .before .before .before .if3 .left)) (subst (λ p. a .vci ≤ p .top) e (c .before .before .if4 .left)) (sym (c .before .off-bus .ensures) ∙ c .if5 .taken))
 
--- src/lib.rt:274:40
 vci-spot-requires : tie.Need-vci-spot-requires
 vci-spot-requires c κs = search needs
 
--- src/lib.rt:274:14
 get-requires-2 : tie.Need-get-requires-2
 get-requires-2 c κs = search needs
 
--- src/lib.rt:274:8
 taken-requires : tie.Need-taken-requires
 taken-requires c κs = search needs
 
--- src/lib.rt:275:9
 returns-6 : tie.Need-returns-6
-returns-6 c = ?
+returns-6 c =
+    let a = c .before .before .before .before .before .before .before .before .before .before .before .before .before .before .before .before .before .before .before .args in
+    let s = recordAt (a .card) (a .memory .now) in
+    let e = c .before .before .before .before .before .before .before .before .before .before .page-in .ensures ∙ ap pageIn (c .before .before .before .before .before .before .before .before .before .before .before .get .ensures ∙ ap s (c .before .before .before .before .before .before .before .before .before .before .before .before .spot .ensures)) in
+    somebody (a .o) _ _ (c .before .before .before .before .before .before .before .before .before .before .before .before .before .before .before .before .if1 .left) (vc-taken (a .card) (a .bus) _ (a .vpi) (recordAt (a .card) (a .memory .now)) (a .o .unit) (a .vci) (a .target) (a .outvpi) (c .before .before .before .before .before .before .before .before .before .before .before .before .before .if2 .left) (sym (ap (λ p. p .known) e) ∙ not-false _ (c .before .before .before .before .before .before .before .before .if3 .left)) (subst (λ p. a .vci ≤ p .top) e (c .before .before .before .before .before .before .if4 .left)) (sym (c .before .before .before .before .before .off-bus .ensures) ∙ c .before .before .before .before .if5 .left) (sym (c .before .taken .ensures ∙ ap taken (c .before .before .get2 .ensures ∙ ap s (c .before .before .before .vci-spot .ensures ∙ ap (λ p. p .place + size * a .vci) e))) ∙ c .if6 .taken))
 
--- src/lib.rt:277:5
 asks-requires : tie.Need-asks-requires
 asks-requires c κs = search needs
 
--- src/lib.rt:245:1
 returns-7 : tie.Need-returns-7
-returns-7 c = ?
+returns-7 c =
+    let a = c .before .before .before .before .before .before .before .before .before .before .before .before .before .before .before .before .before .before .before .before .args in
+    let s = recordAt (a .card) (a .memory .now) in
+    let e = c .before .before .before .before .before .before .before .before .before .before .before .page-in .ensures ∙ ap pageIn (c .before .before .before .before .before .before .before .before .before .before .before .before .get .ensures ∙ ap s (c .before .before .before .before .before .before .before .before .before .before .before .before .before .spot .ensures)) in
+    somebody (a .o) _ _ (c .before .before .before .before .before .before .before .before .before .before .before .before .before .before .before .before .before .if1 .left) (vc-asked (a .card) (a .bus) _ (a .vpi) (recordAt (a .card) (a .memory .now)) (a .o .unit) (a .vci) (a .target) (a .outvpi) _ (c .before .before .before .before .before .before .before .before .before .before .before .before .before .before .if2 .left) (sym (ap (λ p. p .known) e) ∙ not-false _ (c .before .before .before .before .before .before .before .before .before .if3 .left)) (subst (λ p. a .vci ≤ p .top) e (c .before .before .before .before .before .before .before .if4 .left)) (sym (c .before .before .before .before .before .before .off-bus .ensures) ∙ c .before .before .before .before .before .if5 .left) (sym (c .before .before .taken .ensures ∙ ap taken (c .before .before .before .get2 .ensures ∙ ap s (c .before .before .before .before .vci-spot .ensures ∙ ap (λ p. p .place + size * a .vci) e))) ∙ c .before .if6 .left) (c .asks .ensures))
 
 pub judge-vc-spec : {M : Type 1} → statement M
 judge-vc-spec =

@@ -1,53 +1,49 @@
+-- `judge::judge_vp` meets its contract. Assumes nothing.
+use mathlib.Core.Path.{sym, ap, _∙_}
+use Rattle.record.specs.Record.{recordAt}
+use Rattle.judge.specs.Judge.{taken}
+use Rattle.judge.proofs.Chains.{nobody, somebody, vp-above, vp-off, vp-taken, vp-asked}
 use borrow.Author.Needs.{needs}
 use Rattle.judge.proofs.judge_vp.Statement.{statement}
 use Rattle.judge.proofs.judge_vp.Tie as tie
-use Rattle.judge.proofs.judge_vp.Reads as reads
-use Rattle.judge.proofs.judge_vp.Lts as lts
-use Rattle.judge.proofs.asks.Reads as asks-reads
-use Rattle.judge.proofs.off_bus.Reads as off-bus-reads
-use Rattle.judge.proofs.spot.Reads as spot-reads
-use Rattle.judge.proofs.taken.Reads as taken-reads
-use Rattle.record.proofs.get.Reads as get-reads
 
--- src/lib.rt:159:9
 returns : tie.Need-returns
-returns c = ?
+returns c = nobody (c .before .before .before .args .o) _ (c .if1 .taken)
 
--- src/lib.rt:163:9
 returns-2 : tie.Need-returns-2
-returns-2 c = ?
+returns-2 c =
+    let a = c .before .before .before .before .before .before .args in
+    somebody (a .o) _ _ (c .before .before .before .if1 .left) (vp-above (a .card) (a .bus) _ (a .vpi) _ (a .target) (a .outvpi) (c .if2 .taken))
 
--- src/lib.rt:165:8
 off-bus-requires : tie.Need-off-bus-requires
 off-bus-requires c κs = search needs
 
--- src/lib.rt:166:9
 returns-3 : tie.Need-returns-3
-returns-3 c = ?
+returns-3 c =
+    let a = c .before .before .before .before .before .before .before .before .args in
+    somebody (a .o) _ _ (c .before .before .before .before .before .if1 .left) (vp-off (a .card) (a .bus) _ (a .vpi) _ (a .target) (a .outvpi) (c .before .before .if2 .left) (sym (c .before .off-bus .ensures) ∙ c .if3 .taken))
 
--- src/lib.rt:168:40
 spot-requires : tie.Need-spot-requires
 spot-requires c κs = search needs
 
--- src/lib.rt:168:14
 get-requires : tie.Need-get-requires
 get-requires c κs = search needs
 
--- src/lib.rt:168:8
 taken-requires : tie.Need-taken-requires
 taken-requires c κs = search needs
 
--- src/lib.rt:169:9
 returns-4 : tie.Need-returns-4
-returns-4 c = ?
+returns-4 c =
+    let a = c .before .before .before .before .before .before .before .before .before .before .before .before .args in
+    somebody (a .o) _ _ (c .before .before .before .before .before .before .before .before .before .if1 .left) (vp-taken (a .card) (a .bus) _ (a .vpi) _ (a .target) (a .outvpi) (c .before .before .before .before .before .before .if2 .left) (sym (c .before .before .before .before .before .off-bus .ensures) ∙ c .before .before .before .before .if3 .left) (sym (c .before .taken .ensures ∙ ap taken (c .before .before .get .ensures ∙ ap (recordAt (a .card) (a .memory .now)) (c .before .before .before .spot .ensures))) ∙ c .if4 .taken))
 
--- src/lib.rt:171:5
 asks-requires : tie.Need-asks-requires
 asks-requires c κs = search needs
 
--- src/lib.rt:147:1
 returns-5 : tie.Need-returns-5
-returns-5 c = ?
+returns-5 c =
+    let a = c .before .before .before .before .before .before .before .before .before .before .before .before .before .args in
+    somebody (a .o) _ _ (c .before .before .before .before .before .before .before .before .before .before .if1 .left) (vp-asked (a .card) (a .bus) _ (a .vpi) _ (a .target) (a .outvpi) _ (c .before .before .before .before .before .before .before .if2 .left) (sym (c .before .before .before .before .before .before .off-bus .ensures) ∙ c .before .before .before .before .before .if3 .left) (sym (c .before .before .taken .ensures ∙ ap taken (c .before .before .before .get .ensures ∙ ap (recordAt (a .card) (a .memory .now)) (c .before .before .before .before .spot .ensures))) ∙ c .before .if4 .left) (c .asks .ensures))
 
 pub judge-vp-spec : {M : Type 1} → statement M
 judge-vp-spec =
