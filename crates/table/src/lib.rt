@@ -305,12 +305,17 @@ fn read_lines(card: Card, text: &[u8], memory: &mut [u8]) -> Progress
     ensures { λ r. ⌜ r ≡ progressOf (ranOf card (usableIn (now (memory .entry))) (now (text .entry))) ⌝ }
     ensures { λ _. ⌜ now (memory .exit) ≡ memoryOf card (now (memory .entry)) (toldIn (ranOf card (usableIn (now (memory .entry))) (now (text .entry)))) ⌝ }
 {
+    if text.len() == 0 {
+        return Progress {
+            shelf: Shelf::fresh(16),
+            used: 0,
+            lines: 1,
+            verdict: Verdict::Form(Wrong::Newline),
+        };
+    }
     let room = usable(memory.len());
     let mut p = begin();
     let mut from: usize = 0;
-    if text.len() == 0 {
-        p = step(card, room, memory, p, Reading::Bad(Wrong::Newline));
-    }
     while from < text.len() {
         let end = line::field_end(text, from, 10);
         let reading = line::read(&text[from..end], end < text.len());
