@@ -5,7 +5,7 @@ use mathlib.Core.Bool.{Bool, true, false, cond, _&&_}
 use mathlib.Core.List.{List, [], _∷_, _++_, append-assoc, append-nil}
 use mathlib.Core.Option.{Option, none, some}
 use Prim.Native.Nat.{ℕ, zero, suc, _+_, _-_, _*_, _^_, _<_, _≤_}
-use native.Mathlib.Nat.{add-zero}
+use native.Mathlib.Nat.{add-zero, sub-zero}
 use native.Mathlib.Numerals.{add-one}
 use native.Mathlib.Omega.{arith}
 use lib.Dec.{eqb, leb}
@@ -17,7 +17,8 @@ use Rattle.card.specs.Cards.{holds, narrowHolds}
 use Rattle.card.specs.declared.Card.{Card}
 use Rattle.card.specs.declared.Card.the-variants.{Narrow, Wide}
 use Rattle.card.specs.declared.Ask.the-variants.{Out}
-use Rattle.record.specs.Record.{size, most, usable, recordAt, written, Holds, image}
+use Rattle.octets.specs.Octets.{cat}
+use Rattle.record.specs.Record.{size, most, usable, recordAt, written, cleared, Holds, image}
 use Rattle.record.specs.declared.Record as R
 use Rattle.record.specs.declared.Record.the-variants.{Empty, Drop as R·Drop, Route, Page as R·Page}
 use Rattle.record.specs.declared.Got.{Got}
@@ -213,3 +214,8 @@ module _ (card : Card) (memory : List ℕ) (told : List Line) (w : Grown told) w
       put-with card memory told (ofUnit u) (p .top) v (R·Page top (size * total told)) (p .declared) (p .within)
       ∙ opened (Page u v top) (record { whose = ofPage u v; top = top }) (set (records told) (start told (ofUnit u) + v) (R·Page top (size * total told))) refl new (λ i. refl)
       (gifted told (Page u v top) (record { whose = ofUnit u; at = v; gift = R·Page top (size * total told) }) refl (w .once) (p .top) (p .declared) (p .within)) room
+
+-- before the first line
+pub memory-none : (card : Card) (memory : List ℕ) → memoryOf card memory [] ≡ cleared memory
+unfolding memoryOf records regions total cleared cat
+memory-none card memory = ap (λ n. replicate n 0 ++ drop (usable memory) memory) (sub-zero (usable memory))

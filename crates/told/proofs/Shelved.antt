@@ -32,8 +32,8 @@ use Rattle.told.specs.Lines.{isFirst, judge}
 use Rattle.told.proofs.Tabulate.{some-inj, none-some}
 use Rattle.told.proofs.Regions.{start, firstOf}
 use Rattle.told.proofs.Fits.{UnitFine, fine-bus, fine-unit, fine-mc}
-use Rattle.told.proofs.Grown.{decide}
-use Rattle.told.proofs.Memory.{Ranged}
+use Rattle.told.proofs.Grown.{decide, Good}
+use Rattle.told.proofs.Memory.{Ranged, AllRanged}
 
 -- how many of the numbers below n are not declared
 vacancy : Option ℕ → ℕ
@@ -279,8 +279,8 @@ module _ (told : List Line) (settings : Settings) (limits : Limits) (small : set
   fewer : vacancies f 32 ≡ vacancies g 32 + 1
   fewer = one-less f g (settings .number) (settings .top) lost now others 32 small
 
-  room : shelfOf told .count < length (shelfOf told .units)
-  room = let c = w .counted in omega (arith, c, fewer, w .long)
+  pub room-for-one : shelfOf told .count < length (shelfOf told .units)
+  room-for-one = let c = w .counted in omega (arith, c, fewer, w .long)
 
   abbrev next : Shelf
   next = declare (shelfOf told) n
@@ -293,14 +293,14 @@ module _ (told : List Line) (settings : Settings) (limits : Limits) (small : set
       let x = rw t at e in
       let y = eqb-true (settings .number) u t in
       rw (← y, eq-eqb (settings .number) (settings .number) refl, ← some-inj x)
-      (stands (shelfOf told) n room (total told) (hearsIn told (settings .number)) (w .gone (settings .number) lost) refl refl
+      (stands (shelfOf told) n room-for-one (total told) (hearsIn told (settings .number)) (w .gone (settings .number) lost) refl refl
       (λ s h. hears-none s ∙ sym (w .deaf (settings .number) s lost))))
-      (λ t. rw t (stood (shelfOf told) n room u top (start told (ofUnit u)) (hearsIn told u) (w .here u top (rw t at e))))
+      (λ t. rw t (stood (shelfOf told) n room-for-one u top (start told (ofUnit u)) (hearsIn told u) (w .here u top (rw t at e))))
 
   unit-gone : (u : ℕ) → g u ≡ none → findIn (declared next) u ≡ Nothing
   unfolding topOf opens same
   unit-gone u e =
-      lost-still (shelfOf told) n room u (λ x. none-some (sym e ∙ ap g x ∙ now)) (w .gone u (sym (others u (λ x. none-some (sym e ∙ ap g x ∙ now))) ∙ e))
+      lost-still (shelfOf told) n room-for-one u (λ x. none-some (sym e ∙ ap g x ∙ now)) (w .gone u (sym (others u (λ x. none-some (sym e ∙ ap g x ∙ now))) ∙ e))
 
   unit-deaf : (u s : ℕ) → g u ≡ none → hearsIn (L·Unit settings limits ∷ told) u s ≡ false
   unfolding hearsIn hearsBy
@@ -332,3 +332,14 @@ shelved-from card room told (Drop u v) e r w = record { long = w .long; counted 
 shelved-from card room told (Page u v top) e r w = record { long = w .long; counted = w .counted; here = w .here; gone = w .gone; deaf = w .deaf }
 shelved-from card room told (Vc u v c target class outvpi outvci) e r w = record { long = w .long; counted = w .counted; here = w .here; gone = w .gone; deaf = w .deaf }
 shelved-from card room told (Mc u session) e r w = let k = fine-mc card room told u session e in shelved-mc told u session (k .0) r w (k .1)
+
+-- all good lines are shelved, and there is a place for a unit that is fine
+pub shelved : (card : Card) (room : ℕ) (told : List Line) → Good card room told → AllRanged told → Shelved told
+unfolding shelfOf topOf hearsIn vacancies vacancy findIn placeFrom
+shelved card room [] g r = record { long = refl; counted = refl; here = λ u top k. absurd (none-some k); gone = λ u k. refl; deaf = λ u s k. refl }
+shelved card room (l ∷ told) g r = shelved-from card room told l (g .0) (r .0) (shelved card room told (g .1) (r .1))
+
+pub place-left : (card : Card) (room : ℕ) (told : List Line) (settings : Settings) (limits : Limits) → judge card room told (L·Unit settings limits) ≡ Fine → settings .number < 32 → Shelved told → shelfOf told .count < 32
+place-left card room told settings limits e small w =
+    let h = room-for-one told settings limits small (fine-unit card room told settings limits e .new) w in
+    omega (arith, h, w .long)
