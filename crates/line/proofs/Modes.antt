@@ -1,5 +1,5 @@
 -- What the limits of a `unit` line are at most, in either mode. Assumes nothing.
-use Prim.Native.Nat.{ℕ, _-_, _≤_}
+use Prim.Native.Nat.{ℕ, _≤_}
 use native.Mathlib.Nat.{le-refl}
 use native.Mathlib.Omega.{arith}
 use Rattle.outlet.specs.declared.Mode.{Mode}

@@ -6,7 +6,7 @@ use Prim.Native.Nat.{ℕ, suc, _-_}
 use native.Mathlib.Omega.{arith}
 use lib.ListN.{length, getD, take, drop}
 use lib.Seq.{take-all}
-use borrow.Author.Tests.{eq-eqb, ne-eqb}
+use borrow.Author.Tests.{ne-eqb}
 use Rattle.routing.specs.declared.Target.the-variants.{Unit, Session, All}
 use Rattle.line.specs.declared.Wrong.the-variants.{Range}
 use Rattle.line.specs.declared.Aim.the-variants.{At, NoAim}

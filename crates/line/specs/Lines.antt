@@ -1,6 +1,6 @@
 -- What each line says: "Text, one record a line, fields parted by one tab, each line ended by a newline." Assumes nothing.
 use Prim.Native.Nat.{ℕ, _-_}
-use mathlib.Core.Bool.{Bool, true, false, cond}
+use mathlib.Core.Bool.{Bool, cond}
 use mathlib.Core.List.{List}
 use lib.ListN.{length}
 use lib.Dec.{eqb}
@@ -11,10 +11,8 @@ use Rattle.outlet.specs.declared.Mode.{Mode}
 use Rattle.outlet.specs.declared.Mode.the-variants.{One, Four}
 use Rattle.outlet.specs.declared.Limits.{Limits}
 use Rattle.shelf.specs.declared.Settings.{Settings}
-use Rattle.line.specs.declared.Line.{Line}
 use Rattle.line.specs.declared.Line.the-variants.{Bus, Unit as U·, Vp, Drop, Page, Vc, Mc}
-use Rattle.line.specs.declared.Wrong.{Wrong}
-use Rattle.line.specs.declared.Wrong.the-variants.{Newline, Word as Unspoken, Fields, Number, Range}
+use Rattle.line.specs.declared.Wrong.the-variants.{Newline, Word as Unspoken, Fields, Range}
 use Rattle.line.specs.declared.Reading.{Reading}
 use Rattle.line.specs.declared.Reading.the-variants.{Good, Bad}
 use Rattle.line.specs.declared.Kind.{Kind}

@@ -5,11 +5,11 @@ use outlet::Mode;
 use routing::Target;
 use shelf::Settings;
 ghost use mathlib.Core.Path.{_≡_};
-ghost use Prim.Native.Nat.{_+_, _-_, _≤_};
+ghost use Prim.Native.Nat.{_+_, _≤_};
 ghost use lib.ListN.{length, drop};
 ghost use Rattle.line.specs.Text.{at, split, fieldsOf, fieldOf, same};
 ghost use Rattle.line.specs.Digits.{digits as digitsOf, decimalOf, ranged, num as numGives, aimOf};
-ghost use Rattle.line.specs.Lines.{numberIn, aimIn, busLine, topOf, settingsOn, settingsOf, least as leastOf, mostLength, mostLimit, mostVbr, limitsIn, limitsOf, unitLine, keyOf, wayOf, vpLine, dropLine, pageLine, vcOn, vcLine, mcLine, lineOf, countOf, wordOf, readingOf};
+ghost use Rattle.line.specs.Lines.{numberIn, busLine, topOf, settingsOn, settingsOf, least as leastOf, mostLength, mostLimit, mostVbr, limitsIn, limitsOf, unitLine, keyOf, wayOf, vpLine, dropLine, pageLine, vcOn, vcLine, mcLine, lineOf, countOf, wordOf, readingOf};
 
 pub enum Line {
     Bus(u8),
@@ -136,7 +136,7 @@ pub fn field_end(s: &[u8], from: usize, tab: u8) -> usize
 }
 
 // Field f, counted from the word as 1, and an empty one where there is none.
-pub fn field(s: &[u8], f: u8) -> &[u8]
+fn field(s: &[u8], f: u8) -> &[u8]
     ensures { λ r. ⌜ now r ≡ fieldOf f (fieldsOf (now (s .entry))) ⌝ }
 {
     let mut from: usize = 0;

@@ -9,7 +9,7 @@ use lib.Dec.{eqb, leb, ltb, eqb·suc-zero}
 use lib.ListN.{getD, List·getD-eq-default}
 use borrow.Author.Tests.{eqb-true, eq-eqb, ne-eqb}
 use Rattle.outlet.proofs.Truth.{same, le-iff, lt-iff, eq-iff, and-iff, or-iff}
-use Rattle.outlet.specs.Outlets.{capacities, capacity, givenIn, given, GivenIn, Given, ringFits, RingFits, queueFits, ringsFit, RingsFit, empty, queue, fresh}
+use Rattle.outlet.specs.Outlets.{capacities, capacity, givenIn, given, GivenIn, Given, within, nothing, ringFits, RingFits, queueFits, ringsFit, outletFits, RingsFit, empty, queue, fresh}
 use Rattle.outlet.specs.declared.Mode.{Mode}
 use Rattle.outlet.specs.declared.Mode.the-variants.{One, Four}
 use Rattle.outlet.specs.declared.Limits.{Limits}
@@ -52,19 +52,7 @@ pub capacity-all : (limits : Limits) → Given limits → capacity limits 0 + ca
 unfolding capacity
 capacity-all limits g = all-in (limits .mode) (limits .cbrlength) (limits .cbrlimit) (limits .vbrlimit) g
 
--- the test of a ring, in one line and as a fact
-ring-iff : (ring : Ring) (k : ℕ) → (((ltb (ring .head) k || eqb (ring .head) 0) && leb (ring .count) k) ≡ true) ↔ RingFits ring k
-ring-iff ring k =
-    let e = and-iff (or-iff (lt-iff (ring .head) k) (eq-iff (ring .head) 0)) (le-iff (ring .count) k) in (
-      λ t. let w = e .0 t in
-          record {
-            place = λ h. ⊎-elim (λ x. x) (λ x. omega arith) (w .0);
-            nowhere = λ h. ⊎-elim (λ x. omega arith) (λ x. x) (w .0);
-            held = w .1;
-          },
-      λ f. e .1 (elim k as (λ n. (0 < n → ring .head < n) → (n ≡ 0 → ring .head ≡ 0) → (ring .head < n) ⊎ (ring .head ≡ 0)) [ zero ↦ λ x y. inr (y refl) | suc n ↦ λ x y. inl (x (omega arith)) ] (f .place) (f .nowhere), f .held),
-    )
-
+-- the test of a ring as a fact
 pub fits-iff : (ring : Ring) (k : ℕ) → (ringFits ring k ≡ true) ↔ RingFits ring k
 unfolding ringFits
 fits-iff ring zero =
@@ -74,9 +62,6 @@ fits-iff ring (suc n) =
     let e = and-iff (lt-iff (ring .head) (suc n)) (le-iff (ring .count) (suc n)) in
     let r : ringFits ring (suc n) ≡ (ltb (ring .head) (suc n) && leb (ring .count) (suc n)) = rw (eqb·suc-zero n) in
     (λ t. let w = e .0 (sym r ∙ t) in record { place = λ h. w .0; nowhere = λ h. omega arith; held = w .1 }, λ f. r ∙ e .1 (f .place (omega arith), f .held))
-
-pub fits-flat : (ring : Ring) (k : ℕ) → ((ltb (ring .head) k || eqb (ring .head) 0) && leb (ring .count) k) ≡ ringFits ring k
-fits-flat ring k = same _ _ (λ t. fits-iff ring k .1 (ring-iff ring k .0 t)) (λ t. ring-iff ring k .1 (fits-iff ring k .0 t))
 
 -- the test of the rings of an outlet, and that a fresh one passes
 pub rings-iff : (outlet : Outlet) → (ringsFit outlet ≡ true) ↔ RingsFit outlet
@@ -113,3 +98,28 @@ fresh-fits limits =
         | suc (suc (suc (suc n))) ↦ λ h. absurd (omega arith)
       ];
     })
+
+-- an outlet in each mode, as the code tests it
+fits-within : (ring : Ring) (k : ℕ) → 0 < k → ringFits ring k ≡ within ring k
+unfolding ringFits
+fits-within ring k h = rw (ne-eqb k 0 (λ e. omega arith))
+
+guarded : (b x y : Bool) → (b ≡ true → x ≡ y) → (b && x) ≡ (b && y)
+guarded true x y h = h refl
+guarded false x y h = refl
+
+pub fits-one : (outlet : Outlet) → outlet .limits .mode ≡ One → (given (outlet .limits) && (within (queue outlet 0) 123 && nothing (queue outlet 1) && nothing (queue outlet 2) && nothing (queue outlet 3))) ≡ outletFits outlet
+unfolding outletFits ringsFit queueFits capacity ringFits
+fits-one outlet e = rw e
+
+pub fits-four : (outlet : Outlet) → outlet .limits .mode ≡ Four → (given (outlet .limits) && (within (queue outlet 0) 2 && within (queue outlet 1) (outlet .limits .cbrlength) && within (queue outlet 2) (89 - outlet .limits .cbrlength) && within (queue outlet 3) 32)) ≡ outletFits outlet
+unfolding outletFits ringsFit queueFits capacity
+fits-four outlet e =
+    let l = outlet .limits .cbrlength in
+    guarded (given (outlet .limits)) _ (ringsFit outlet)
+    (λ t.
+    let g : GivenIn Four l (outlet .limits .cbrlimit) (outlet .limits .vbrlimit) = rw e at (given-iff (outlet .limits) .0 t) in
+    rw e
+    (sym
+    (λ i. fits-within (queue outlet 0) 2 (omega arith) i && fits-within (queue outlet 1) l (omega arith) i
+    && fits-within (queue outlet 2) (89 - l) (omega arith) i && fits-within (queue outlet 3) 32 (omega arith) i)))

@@ -42,9 +42,14 @@ abbrev pub Given : Limits → Type 0
 Given limits = GivenIn (limits .mode) (limits .cbrlength) (limits .cbrlimit) (limits .vbrlimit)
 
 -- a position below the capacity and a count that is at most the capacity; a queue that is not there has neither
+abbrev pub within : Ring → ℕ → Bool
+within ring capacity = ltb (ring .head) capacity && leb (ring .count) capacity
+
+abbrev pub nothing : Ring → Bool
+nothing ring = eqb (ring .head) 0 && eqb (ring .count) 0
+
 unfoldable pub ringFits : Ring → ℕ → Bool
-ringFits ring capacity =
-    cond (eqb capacity 0) (eqb (ring .head) 0 && eqb (ring .count) 0) (ltb (ring .head) capacity && leb (ring .count) capacity)
+ringFits ring capacity = cond (eqb capacity 0) (nothing ring) (within ring capacity)
 
 pub record RingFits (ring : Ring) (capacity : ℕ) : Type 0 where
   pub place : 0 < capacity → ring .head < capacity
@@ -64,6 +69,10 @@ queueFits outlet q = ringFits (queue outlet q) (capacity (outlet .limits) q)
 
 unfoldable pub ringsFit : Outlet → Bool
 ringsFit outlet = queueFits outlet 0 && queueFits outlet 1 && queueFits outlet 2 && queueFits outlet 3
+
+-- both: a test of an outlet
+unfoldable pub outletFits : Outlet → Bool
+outletFits outlet = given (outlet .limits) && ringsFit outlet
 
 pub record RingsFit (outlet : Outlet) : Type 0 where
   pub each : (q : ℕ) → q < 4 → RingFits (queue outlet q) (capacity (outlet .limits) q)

@@ -1,7 +1,7 @@
 // A unit's outlet: its limits as a `unit` line gives them, its queues, their capacities.
 ghost use mathlib.Core.Path.{_≡_};
 ghost use Prim.Native.Nat.{_-_};
-ghost use Rattle.outlet.specs.Outlets.{empty as emptyOf, fresh as freshOf, one as oneOf, four as fourOf, capacity as capacityOf, given as givenBy, ringFits, ringsFit};
+ghost use Rattle.outlet.specs.Outlets.{empty as emptyOf, fresh as freshOf, one as oneOf, four as fourOf, capacity as capacityOf, given as givenBy, within as isWithin, nothing as isNothing, outletFits};
 
 pub enum Mode {
     One,
@@ -37,13 +37,16 @@ pub fn empty() -> Ring
 }
 
 impl Outlet {
-    // mode one: the one queue
+    // The one queue of mode one.
     pub const ONE: u8 = 123;
-    // mode four: class 0, what CBR and VBR share, ABR
+
+    // Class 0 of mode four.
     pub const CONTROL: u8 = 2;
 
+    // What CBR and VBR share in mode four.
     pub const SHARED: u8 = 89;
 
+    // ABR of mode four.
     pub const ABR: u8 = 32;
 
     // All queues empty.
@@ -100,7 +103,10 @@ pub fn capacity(limits: Limits, queue: u8) -> u8
 {
     let mode = limits.mode;
     match mode {
-        Mode::One => { if queue == 0 { Outlet::ONE } else { 0 } }
+        Mode::One => match queue {
+            0 => Outlet::ONE,
+            _ => 0,
+        },
         Mode::Four => match queue {
             0 => Outlet::CONTROL,
             1 => limits.cbrlength,
@@ -130,21 +136,41 @@ pub fn given(limits: Limits) -> bool
     }
 }
 
-// Whether a queue's position and count are within its capacity.
-pub fn ring_fits(ring: Ring, capacity: u8) -> bool
-    ensures { λ r. ⌜ r ≡ ringFits ring capacity ⌝ }
+// Whether the position and the count of a queue that has places are within its capacity.
+pub fn within(ring: Ring, capacity: u8) -> bool
+    ensures { λ r. ⌜ r ≡ isWithin ring capacity ⌝ }
 {
-    ((ring.head < capacity) | (ring.head == 0)) & (ring.count <= capacity)
+    (ring.head < capacity) & (ring.count <= capacity)
 }
 
-// Whether those of each queue are.
-pub fn rings_fit(outlet: Outlet) -> bool
-    ensures { λ r. ⌜ r ≡ ringsFit outlet ⌝ }
+// Whether those of a queue that has no place are 0.
+fn nothing(ring: Ring) -> bool
+    ensures { λ r. ⌜ r ≡ isNothing ring ⌝ }
+{
+    (ring.head == 0) & (ring.count == 0)
+}
+
+// Whether a `unit` line could give an outlet's limits, and each of its queues fits.
+pub fn fits(outlet: Outlet) -> bool
+    ensures { λ r. ⌜ r ≡ outletFits outlet ⌝ }
 {
     let limits = outlet.limits;
     let queues = outlet.queues;
-    ring_fits(queues[0], capacity(limits, 0))
-        & ring_fits(queues[1], capacity(limits, 1))
-        & ring_fits(queues[2], capacity(limits, 2))
-        & ring_fits(queues[3], capacity(limits, 3))
+    let mode = limits.mode;
+    match mode {
+        Mode::One => {
+            given(limits)
+                & (within(queues[0], Outlet::ONE)
+                    & nothing(queues[1])
+                    & nothing(queues[2])
+                    & nothing(queues[3]))
+        }
+        Mode::Four => {
+            given(limits)
+                & (within(queues[0], Outlet::CONTROL)
+                    & within(queues[1], limits.cbrlength)
+                    & within(queues[2], rest(limits.cbrlength))
+                    & within(queues[3], Outlet::ABR))
+        }
+    }
 }

@@ -54,21 +54,23 @@ fourteen =
       sessions = replicate 4 0;
     }
 
--- a shelf with these units, unit 5 granted; units 5 and 14 ask, and unit 14 and then unit 5 were granted last
+-- requests: of one more unit; of both
 abbrev ask : ℕ → ℕ → List ℕ → List ℕ
 ask number priority asks = set asks number priority
 
 abbrev both : List ℕ
 both = ask 5 2 (ask 14 3 (replicate 32 0))
 
+-- a shelf with these declared units before thirty others that are not declared
 abbrev shelf : ℕ → ℕ → List U.Unit → ℕ → List ℕ → List ℕ → Shelf
 shelf bus count units granted last asks =
     record { bus = bus; count = count; units = units ++ replicate 30 blank; arbiter = record { last = last; asks = asks }; granted = granted; frame = 65535 }
 
+-- the last units granted at each priority: none at the first
 abbrev lasts : List ℕ
 lasts = nobody ∷ 5 ∷ 14 ∷ []
 
--- with these units alone changed
+-- with these units, unit 5 granted
 abbrev units : List U.Unit → Shelf
 units us = shelf 16 2 us 5 lasts both
 

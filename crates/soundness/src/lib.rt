@@ -45,11 +45,11 @@ fn unit_fits(card: Card, bus: u8, unit: Unit) -> bool
 {
     let settings = unit.settings;
     let outlet = unit.outlet;
-    let limits = outlet.limits;
     let inlet = unit.inlet;
-    (settings.number < bus)
-        & (settings_given(card, settings) & outlet::given(limits))
-        & (outlet::ring_fits(inlet, Unit::INLET) & outlet::rings_fit(outlet))
+    if !(outlet::within(inlet, Unit::INLET) & outlet::fits(outlet)) {
+        return false;
+    }
+    (settings.number < bus) & settings_given(card, settings)
 }
 
 // Whether a unit has the cells that its grant and its request need.
@@ -57,8 +57,11 @@ fn waits(granted: u8, ask: u8, settings: Settings, cells: u8) -> bool
     ensures { λ r. ⌜ r ≡ waitsAt granted ask (settings .number) (settings .priority) cells ⌝ }
 {
     let other = settings.number != granted;
-    (other | (1 <= cells))
-        & ((ask == 0) | ((ask == settings.priority) & ((1 <= cells) & (other | (2 <= cells)))))
+    if ask == 0 {
+        other | (1 <= cells)
+    } else {
+        (ask == settings.priority) & (1 <= cells) & (other | (2 <= cells))
+    }
 }
 
 // Whether it is nobody or one of those seen.

@@ -18,14 +18,16 @@ returns c = simp (sym (c .before .before .before .before .number-at .ensures) �
 
 returns-2 : tie.Need-returns-2
 unfolding busLine
-returns-2 c = simp (sym (c .before .before .before .before .before .number-at .ensures) ∙ c .before .before .before .units .given .1, ne-eqb _ _ (c .before .if1 .left), c .if2 .taken)
+returns-2 c = simp (sym (c .before .before .before .before .before .number-at .ensures) ∙ c .before .before .before .units .given .1, c .if2 .taken)
 
 enum-known-wrong : tie.Need-enum-known-wrong
 enum-known-wrong c = search needs
 
 returns-3 : tie.Need-returns-3
 unfolding busLine
-returns-3 c = simp (sym (c .before .before .before .before .before .number-at .ensures) ∙ c .before .before .before .units .given .1, ne-eqb _ _ (c .before .if1 .left), ne-eqb _ _ (c .if2 .left))
+returns-3 c =
+    let p1 = c .before .before .before .before .before in
+    simp (sym (p1 .number-at .ensures) ∙ c .before .before .before .units .given .1, ne-eqb _ _ (c .before .if1 .left), ne-eqb _ _ (c .if2 .left))
 
 returns-4 : tie.Need-returns-4
 unfolding busLine

@@ -21,7 +21,9 @@ limits-in-requires c κs = search needs
 
 returns : tie.Need-returns
 unfolding limitsOf
-returns c = c .limits-in .ensures ∙ simp (ap (λ x. same x wOne) (sym (c .before .before .before .before .field .ensures)) ∙ sym (c .before .before .is .ensures) ∙ c .before .if1 .taken)
+returns c =
+    let p1 = c .before .before .before .before in
+    c .limits-in .ensures ∙ simp (ap (λ x. same x wOne) (sym (p1 .field .ensures)) ∙ sym (c .before .before .is .ensures) ∙ c .before .if1 .taken)
 
 slice-aggregate-is-2 : tie.Need-slice-aggregate-is-2
 slice-aggregate-is-2 c = search needs
@@ -34,11 +36,15 @@ limits-in-requires-2 c κs = search needs
 
 returns-2 : tie.Need-returns-2
 unfolding limitsOf
-returns-2 c = c .limits-in2 .ensures ∙ simp (ap (λ x. same x wOne) (sym (c .before .before .before .before .before .before .before .field .ensures)) ∙ sym (c .before .before .before .before .before .is .ensures) ∙ c .before .before .before .before .if1 .left, ap (λ x. same x wFour) (sym (c .before .before .before .before .before .before .before .field .ensures)) ∙ sym (c .before .before .is2 .ensures) ∙ c .before .if2 .taken)
+returns-2 c =
+    let p1 = c .before .before .before .before in
+    c .limits-in2 .ensures ∙ simp (ap (λ x. same x wOne) (sym (p1 .before .before .before .field .ensures)) ∙ sym (p1 .before .is .ensures) ∙ p1 .if1 .left, ap (λ x. same x wFour) (sym (p1 .before .before .before .field .ensures)) ∙ sym (c .before .before .is2 .ensures) ∙ c .before .if2 .taken)
 
 returns-3 : tie.Need-returns-3
 unfolding limitsOf
-returns-3 c = simp (ap (λ x. same x wOne) (sym (c .before .before .before .before .before .before .field .ensures)) ∙ sym (c .before .before .before .before .is .ensures) ∙ c .before .before .before .if1 .left, ap (λ x. same x wFour) (sym (c .before .before .before .before .before .before .field .ensures)) ∙ sym (c .before .is2 .ensures) ∙ c .if2 .left)
+returns-3 c =
+    let p1 = c .before .before .before .before in
+    simp (ap (λ x. same x wOne) (sym (p1 .before .before .field .ensures)) ∙ sym (p1 .is .ensures) ∙ c .before .before .before .if1 .left, ap (λ x. same x wFour) (sym (p1 .before .before .field .ensures)) ∙ sym (c .before .is2 .ensures) ∙ c .if2 .left)
 
 pub limits-of-spec : {M : Type 1} → statement M
 limits-of-spec =

@@ -1,5 +1,4 @@
 -- `line::most_vbr` meets its contract. Assumes nothing.
-use mathlib.Core.Path.{refl}
 use native.Mathlib.Omega.{arith}
 use borrow.Author.Needs.{needs}
 use Rattle.line.proofs.most_vbr.Statement.{statement}

@@ -25,11 +25,15 @@ enum-known-wrong-2 c = search needs
 
 returns : tie.Need-returns
 unfolding pageLine
-returns c = simp (sym (c .before .before .before .before .before .before .before .key-of .ensures) ∙ c .before .before .before .before .before .unit .given .1, sym (c .before .before .before .number-at .ensures) ∙ c .before .top .given .1)
+returns c =
+    let p1 = c .before .before .before .before .before in
+    simp (sym (p1 .before .before .key-of .ensures) ∙ p1 .unit .given .1, sym (c .before .before .before .number-at .ensures) ∙ c .before .top .given .1)
 
 returns-2 : tie.Need-returns-2
 unfolding pageLine
-returns-2 c = simp (sym (c .before .before .before .before .before .before .before .key-of .ensures) ∙ c .before .before .before .before .before .unit .given .1, sym (c .before .before .before .number-at .ensures) ∙ c .before .wrong .given .1)
+returns-2 c =
+    let p1 = c .before .before .before .before .before in
+    simp (sym (p1 .before .before .key-of .ensures) ∙ p1 .unit .given .1, sym (c .before .before .before .number-at .ensures) ∙ c .before .wrong .given .1)
 
 returns-3 : tie.Need-returns-3
 unfolding pageLine

@@ -27,7 +27,10 @@ fields-in-requires c κs = search needs
 
 returns-2 : tie.Need-returns-2
 unfolding readingOf spoken
-returns-2 c = simp (not-false (c .before .before .before .before .before .before .before .before .before .before .args .ended) (c .before .before .before .before .before .before .before .before .if1 .left), sym (c .before .before .before .before .before .before .word-of .ensures ∙ ap wordOf (c .before .before .before .before .before .before .before .field .ensures)) ∙ c .before .before .before .before .kind .given .1, ne-eqb _ _ (λ e. c .if2 .taken (c .before .before .count .ensures ∙ e ∙ sym (c .before .fields-in .ensures))))
+returns-2 c =
+    let p1 = c .before .before .before .before in
+    let p2 = p1 .before .before .before .before .before .before in
+    simp (not-false (p2 .args .ended) (p1 .before .before .before .before .if1 .left), sym (p1 .before .before .word-of .ensures ∙ ap wordOf (p1 .before .before .before .field .ensures)) ∙ p1 .kind .given .1, ne-eqb _ _ (λ e. c .if2 .taken (c .before .before .count .ensures ∙ e ∙ sym (c .before .fields-in .ensures))))
 
 line-of-requires : tie.Need-line-of-requires
 line-of-requires c κs = search needs
@@ -37,11 +40,16 @@ enum-told c = search needs
 
 returns-3 : tie.Need-returns-3
 unfolding readingOf spoken
-returns-3 c = c .line-of .ensures ∙ simp (not-false (c .before .before .before .before .before .before .before .before .before .before .before .args .ended) (c .before .before .before .before .before .before .before .before .before .if1 .left), sym (c .before .before .before .before .before .before .before .word-of .ensures ∙ ap wordOf (c .before .before .before .before .before .before .before .before .field .ensures)) ∙ c .before .before .before .before .before .kind .given .1, eq-eqb _ _ (sym (c .before .before .before .count .ensures) ∙ c .before .if2 .left ∙ c .before .before .fields-in .ensures))
+returns-3 c =
+    let p1 = c .before .before .before .before .before in
+    let p2 = p1 .before .before .before .before .before .before in
+    c .line-of .ensures ∙ simp (not-false (p2 .args .ended) (p1 .before .before .before .before .if1 .left), sym (p1 .before .before .word-of .ensures ∙ ap wordOf (p1 .before .before .before .field .ensures)) ∙ p1 .kind .given .1, eq-eqb _ _ (sym (c .before .before .before .count .ensures) ∙ c .before .if2 .left ∙ c .before .before .fields-in .ensures))
 
 returns-4 : tie.Need-returns-4
 unfolding readingOf spoken
-returns-4 c = simp (not-false (c .before .before .before .before .before .before .args .ended) (c .before .before .before .before .if1 .left), sym (c .before .before .word-of .ensures ∙ ap wordOf (c .before .before .before .field .ensures)) ∙ c .enum-told .given .1)
+returns-4 c =
+    let p1 = c .before .before .before .before in
+    simp (not-false (p1 .before .before .args .ended) (p1 .if1 .left), sym (c .before .before .word-of .ensures ∙ ap wordOf (c .before .before .before .field .ensures)) ∙ c .enum-told .given .1)
 
 pub read-spec : {M : Type 1} → statement M
 read-spec =

@@ -39,7 +39,9 @@ settings-on-requires c κs = search needs
 
 returns-2 : tie.Need-returns-2
 unfolding settingsOf
-returns-2 c = c .settings-on .ensures ∙ simp (sym (c .before .before .before .before .before .before .before .before .number-at .ensures) ∙ c .before .before .before .before .before .before .number .given .1, ap (λ x. same x wUni) (sym (c .before .before .before .before .field .ensures)) ∙ sym (c .before .before .is .ensures) ∙ c .before .if1 .taken)
+returns-2 c =
+    let p1 = c .before .before .before .before in
+    c .settings-on .ensures ∙ simp (sym (p1 .before .before .before .before .number-at .ensures) ∙ p1 .before .before .number .given .1, ap (λ x. same x wUni) (sym (p1 .field .ensures)) ∙ sym (c .before .before .is .ensures) ∙ c .before .if1 .taken)
 
 slice-aggregate-is-2 : tie.Need-slice-aggregate-is-2
 slice-aggregate-is-2 c = search needs
@@ -52,11 +54,17 @@ settings-on-requires-2 c κs = search needs
 
 returns-3 : tie.Need-returns-3
 unfolding settingsOf
-returns-3 c = c .settings-on2 .ensures ∙ simp (sym (c .before .before .before .before .before .before .before .before .before .before .before .number-at .ensures) ∙ c .before .before .before .before .before .before .before .before .before .number .given .1, ap (λ x. same x wUni) (sym (c .before .before .before .before .before .before .before .field .ensures)) ∙ sym (c .before .before .before .before .before .is .ensures) ∙ c .before .before .before .before .if1 .left, ap (λ x. same x wNni) (sym (c .before .before .before .before .before .before .before .field .ensures)) ∙ sym (c .before .before .is2 .ensures) ∙ c .before .if2 .taken)
+returns-3 c =
+    let p1 = c .before .before .before .before in
+    let p2 = p1 .before .before .before .before .before in
+    c .settings-on2 .ensures ∙ simp (sym (p2 .before .before .number-at .ensures) ∙ p2 .number .given .1, ap (λ x. same x wUni) (sym (p1 .before .before .before .field .ensures)) ∙ sym (p1 .before .is .ensures) ∙ p1 .if1 .left, ap (λ x. same x wNni) (sym (p1 .before .before .before .field .ensures)) ∙ sym (c .before .before .is2 .ensures) ∙ c .before .if2 .taken)
 
 returns-4 : tie.Need-returns-4
 unfolding settingsOf
-returns-4 c = simp (sym (c .before .before .before .before .before .before .before .before .before .before .number-at .ensures) ∙ c .before .before .before .before .before .before .before .before .number .given .1, ap (λ x. same x wUni) (sym (c .before .before .before .before .before .before .field .ensures)) ∙ sym (c .before .before .before .before .is .ensures) ∙ c .before .before .before .if1 .left, ap (λ x. same x wNni) (sym (c .before .before .before .before .before .before .field .ensures)) ∙ sym (c .before .is2 .ensures) ∙ c .if2 .left)
+returns-4 c =
+    let p1 = c .before .before .before .before in
+    let p2 = p1 .before .before .before .before .before .before in
+    simp (sym (p2 .number-at .ensures) ∙ p1 .before .before .before .before .number .given .1, ap (λ x. same x wUni) (sym (p1 .before .before .field .ensures)) ∙ sym (p1 .is .ensures) ∙ c .before .before .before .if1 .left, ap (λ x. same x wNni) (sym (p1 .before .before .field .ensures)) ∙ sym (c .before .is2 .ensures) ∙ c .if2 .left)
 
 pub settings-of-spec : {M : Type 1} → statement M
 settings-of-spec =

@@ -21,7 +21,9 @@ enum-known-wrong c = search needs
 
 returns : tie.Need-returns
 unfolding settingsOn
-returns c = simp (sym (rw (c .before .before .before .before .greatest .ensures) at (c .before .before .before .number-at .ensures)) ∙ c .before .wrong .given .1)
+returns c =
+    let p1 = c .before .before .before .before in
+    simp (sym (rw (p1 .greatest .ensures) at (c .before .before .before .number-at .ensures)) ∙ c .before .wrong .given .1)
 
 number-at-requires-2 : tie.Need-number-at-requires-2
 number-at-requires-2 c κs = search needs
@@ -37,11 +39,15 @@ enum-known-wrong-2 c = search needs
 
 returns-2 : tie.Need-returns-2
 unfolding settingsOn
-returns-2 c = simp (sym (rw (c .before .before .before .before .before .before .before .before .greatest .ensures) at (c .before .before .before .before .before .before .before .number-at .ensures)) ∙ c .before .before .before .before .before .top .given .1, sym (c .before .before .before .number-at2 .ensures) ∙ c .before .n .given .1)
+returns-2 c =
+    let p1 = c .before .before .before .before .before in
+    simp (sym (rw (p1 .before .before .before .greatest .ensures) at (p1 .before .before .number-at .ensures)) ∙ p1 .top .given .1, sym (c .before .before .before .number-at2 .ensures) ∙ c .before .n .given .1)
 
 returns-3 : tie.Need-returns-3
 unfolding settingsOn
-returns-3 c = simp (sym (rw (c .before .before .before .before .before .before .before .before .greatest .ensures) at (c .before .before .before .before .before .before .before .number-at .ensures)) ∙ c .before .before .before .before .before .top .given .1, sym (c .before .before .before .number-at2 .ensures) ∙ c .before .wrong2 .given .1)
+returns-3 c =
+    let p1 = c .before .before .before .before .before in
+    simp (sym (rw (p1 .before .before .before .greatest .ensures) at (p1 .before .before .number-at .ensures)) ∙ p1 .top .given .1, sym (c .before .before .before .number-at2 .ensures) ∙ c .before .wrong2 .given .1)
 
 pub settings-on-spec : {M : Type 1} → statement M
 settings-on-spec =

@@ -29,11 +29,15 @@ enum-known-wrong-2 c = search needs
 
 returns-2 : tie.Need-returns-2
 unfolding unitLine
-returns-2 c = simp (sym (c .before .before .before .before .before .before .before .settings-of .ensures) ∙ c .before .before .before .before .before .settings .given .1, sym (c .before .before .before .limits-of .ensures) ∙ c .before .limits .given .1)
+returns-2 c =
+    let p1 = c .before .before .before .before .before in
+    simp (sym (p1 .before .before .settings-of .ensures) ∙ p1 .settings .given .1, sym (c .before .before .before .limits-of .ensures) ∙ c .before .limits .given .1)
 
 returns-3 : tie.Need-returns-3
 unfolding unitLine
-returns-3 c = simp (sym (c .before .before .before .before .before .before .before .settings-of .ensures) ∙ c .before .before .before .before .before .settings .given .1, sym (c .before .before .before .limits-of .ensures) ∙ c .before .wrong2 .given .1)
+returns-3 c =
+    let p1 = c .before .before .before .before .before in
+    simp (sym (p1 .before .before .settings-of .ensures) ∙ p1 .settings .given .1, sym (c .before .before .before .limits-of .ensures) ∙ c .before .wrong2 .given .1)
 
 pub unit-line-spec : {M : Type 1} → statement M
 unit-line-spec =

@@ -38,15 +38,23 @@ enum-known-wrong-3 c = search needs
 
 returns-2 : tie.Need-returns-2
 unfolding vcOn
-returns-2 c = simp (sym (c .before .before .before .before .before .before .before .before .before .before .before .number-at .ensures) ∙ c .before .before .before .before .before .before .before .before .before .vci .given .1, sym (c .before .before .before .before .before .before .before .way-of .ensures) ∙ c .before .before .before .before .before .target .given .1, sym (c .before .before .before .number-at2 .ensures) ∙ c .before .outvci .given .1)
+returns-2 c =
+    let p1 = c .before .before .before .before .before in
+    let p2 = p1 .before .before .before .before .before .before in
+    simp (sym (p2 .number-at .ensures) ∙ p1 .before .before .before .before .vci .given .1, sym (p1 .before .before .way-of .ensures) ∙ p1 .target .given .1, sym (c .before .before .before .number-at2 .ensures) ∙ c .before .outvci .given .1)
 
 returns-3 : tie.Need-returns-3
 unfolding vcOn
-returns-3 c = simp (sym (c .before .before .before .before .before .before .before .before .before .before .before .number-at .ensures) ∙ c .before .before .before .before .before .before .before .before .before .vci .given .1, sym (c .before .before .before .before .before .before .before .way-of .ensures) ∙ c .before .before .before .before .before .target .given .1, sym (c .before .before .before .number-at2 .ensures) ∙ c .before .wrong2 .given .1)
+returns-3 c =
+    let p1 = c .before .before .before .before .before in
+    let p2 = p1 .before .before .before .before .before .before in
+    simp (sym (p2 .number-at .ensures) ∙ p1 .before .before .before .before .vci .given .1, sym (p1 .before .before .way-of .ensures) ∙ p1 .target .given .1, sym (c .before .before .before .number-at2 .ensures) ∙ c .before .wrong2 .given .1)
 
 returns-4 : tie.Need-returns-4
 unfolding vcOn
-returns-4 c = simp (sym (c .before .before .before .before .before .before .before .number-at .ensures) ∙ c .before .before .before .before .before .vci .given .1, sym (c .before .before .before .way-of .ensures) ∙ c .before .wrong3 .given .1)
+returns-4 c =
+    let p1 = c .before .before .before .before .before in
+    simp (sym (p1 .before .before .number-at .ensures) ∙ p1 .vci .given .1, sym (c .before .before .before .way-of .ensures) ∙ c .before .wrong3 .given .1)
 
 pub vc-on-spec : {M : Type 1} → statement M
 vc-on-spec =

@@ -25,11 +25,15 @@ enum-known-wrong-2 c = search needs
 
 returns : tie.Need-returns
 unfolding vpLine
-returns c = simp (sym (c .before .before .before .before .before .before .before .key-of .ensures) ∙ c .before .before .before .before .before .unit .given .1, sym (c .before .before .before .way-of .ensures) ∙ c .before .target .given .1)
+returns c =
+    let p1 = c .before .before .before .before .before in
+    simp (sym (p1 .before .before .key-of .ensures) ∙ p1 .unit .given .1, sym (c .before .before .before .way-of .ensures) ∙ c .before .target .given .1)
 
 returns-2 : tie.Need-returns-2
 unfolding vpLine
-returns-2 c = simp (sym (c .before .before .before .before .before .before .before .key-of .ensures) ∙ c .before .before .before .before .before .unit .given .1, sym (c .before .before .before .way-of .ensures) ∙ c .before .wrong .given .1)
+returns-2 c =
+    let p1 = c .before .before .before .before .before in
+    simp (sym (p1 .before .before .key-of .ensures) ∙ p1 .unit .given .1, sym (c .before .before .before .way-of .ensures) ∙ c .before .wrong .given .1)
 
 returns-3 : tie.Need-returns-3
 unfolding vpLine

@@ -22,7 +22,9 @@ enum-known-wrong c = search needs
 
 returns : tie.Need-returns
 unfolding wayOf
-returns c = simp (sym (c .before .before .before .aimed .ensures ∙ ap (aimOf _) (c .before .before .before .before .field .ensures)) ∙ c .before .wrong .given .1)
+returns c =
+    let p1 = c .before .before .before .before in
+    simp (sym (c .before .before .before .aimed .ensures ∙ ap (aimOf _) (p1 .field .ensures)) ∙ c .before .wrong .given .1)
 
 number-at-requires : tie.Need-number-at-requires
 number-at-requires c κs = search needs
@@ -38,7 +40,9 @@ enum-known-wrong-2 c = search needs
 
 returns-2 : tie.Need-returns-2
 unfolding wayOf
-returns-2 c = simp (sym (c .before .before .before .before .before .before .before .aimed .ensures ∙ ap (aimOf _) (c .before .before .before .before .before .before .before .before .field .ensures)) ∙ c .before .before .before .before .before .target .given .1, sym (c .before .before .before .number-at .ensures) ∙ c .before .wrong2 .given .1)
+returns-2 c =
+    let p1 = c .before .before .before .before .before in
+    simp (sym (p1 .before .before .aimed .ensures ∙ ap (aimOf _) (p1 .before .before .before .field .ensures)) ∙ p1 .target .given .1, sym (c .before .before .before .number-at .ensures) ∙ c .before .wrong2 .given .1)
 
 number-at-requires-2 : tie.Need-number-at-requires-2
 number-at-requires-2 c κs = search needs
@@ -51,11 +55,17 @@ enum-known-wrong-3 c = search needs
 
 returns-3 : tie.Need-returns-3
 unfolding wayOf
-returns-3 c = simp (sym (c .before .before .before .before .before .before .before .before .before .before .before .aimed .ensures ∙ ap (aimOf _) (c .before .before .before .before .before .before .before .before .before .before .before .before .field .ensures)) ∙ c .before .before .before .before .before .before .before .before .before .target .given .1, sym (c .before .before .before .before .before .before .before .number-at .ensures) ∙ c .before .before .before .before .before .class .given .1, sym (c .before .before .before .number-at2 .ensures) ∙ c .before .outvpi .given .1)
+returns-3 c =
+    let p1 = c .before .before .before .before .before in
+    let p2 = p1 .before .before .before .before .before .before in
+    simp (sym (p2 .aimed .ensures ∙ ap (aimOf _) (p2 .before .field .ensures)) ∙ p1 .before .before .before .before .target .given .1, sym (p1 .before .before .number-at .ensures) ∙ p1 .class .given .1, sym (c .before .before .before .number-at2 .ensures) ∙ c .before .outvpi .given .1)
 
 returns-4 : tie.Need-returns-4
 unfolding wayOf
-returns-4 c = simp (sym (c .before .before .before .before .before .before .before .before .before .before .before .aimed .ensures ∙ ap (aimOf _) (c .before .before .before .before .before .before .before .before .before .before .before .before .field .ensures)) ∙ c .before .before .before .before .before .before .before .before .before .target .given .1, sym (c .before .before .before .before .before .before .before .number-at .ensures) ∙ c .before .before .before .before .before .class .given .1, sym (c .before .before .before .number-at2 .ensures) ∙ c .before .wrong3 .given .1)
+returns-4 c =
+    let p1 = c .before .before .before .before .before in
+    let p2 = p1 .before .before .before .before .before .before in
+    simp (sym (p2 .aimed .ensures ∙ ap (aimOf _) (p2 .before .field .ensures)) ∙ p1 .before .before .before .before .target .given .1, sym (p1 .before .before .number-at .ensures) ∙ p1 .class .given .1, sym (c .before .before .before .number-at2 .ensures) ∙ c .before .wrong3 .given .1)
 
 pub way-of-spec : {M : Type 1} → statement M
 way-of-spec =

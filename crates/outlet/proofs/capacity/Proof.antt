@@ -19,33 +19,37 @@ rest-requires c κs = search needs
 
 returns : tie.Need-returns
 unfolding capacity
-returns c = rw (c .before .enum-told .given .1, c .if1 .taken)
+returns c = rw (c .before .enum-told .given .1, c .match2 .keys1)
 
 returns-2 : tie.Need-returns-2
 unfolding capacity
-returns-2 c = rw (c .before .enum-told .given .1) (sym (one-other (c .before .before .before .args .limits .cbrlength) (c .before .before .before .args .queue) (c .if1 .left)))
+returns-2 c =
+    let a = c .before .before .before .args in
+    rw (c .before .enum-told .given .1) (sym (one-other (a .limits .cbrlength) (a .queue) (c .match2 .rest .1)))
 
 returns-3 : tie.Need-returns-3
 unfolding capacity
-returns-3 c = rw (c .before .enum-told2 .given .1, c .match2 .keys1)
+returns-3 c = rw (c .before .enum-told2 .given .1, c .match3 .keys1)
 
 returns-4 : tie.Need-returns-4
 unfolding capacity
-returns-4 c = rw (c .before .enum-told2 .given .1, c .match2 .keys2)
+returns-4 c = rw (c .before .enum-told2 .given .1, c .match3 .keys2)
 
 returns-5 : tie.Need-returns-5
 unfolding capacity
-returns-5 c = rw (c .before .before .enum-told2 .given .1, c .before .match2 .keys3) (c .rest .ensures)
+returns-5 c = rw (c .before .before .enum-told2 .given .1, c .before .match3 .keys3) (c .rest .ensures)
 
 returns-6 : tie.Need-returns-6
 unfolding capacity
-returns-6 c = rw (c .before .enum-told2 .given .1, c .match2 .keys4)
+returns-6 c = rw (c .before .enum-told2 .given .1, c .match3 .keys4)
 
 returns-7 : tie.Need-returns-7
 unfolding capacity
 returns-7 c =
-    let r = c .match2 .rest in
-    rw (c .before .enum-told2 .given .1) (sym (past-four Four (c .before .before .before .args .limits .cbrlength) (c .before .before .before .args .queue) (omega (arith, r .0 .0 .0 .1, r .0 .0 .1, r .0 .1, r .1))))
+    let a = c .before .before .before .args in
+    let r = c .match3 .rest in
+    rw (c .before .enum-told2 .given .1)
+    (sym (past-four Four (a .limits .cbrlength) (a .queue) (omega (arith, r .0 .0 .0 .1, r .0 .0 .1, r .0 .1, r .1))))
 
 pub capacity-spec : {M : Type 1} → statement M
 capacity-spec =
