@@ -26,6 +26,7 @@ use Rattle.told.proofs.Grown.{decide, Good}
 use Rattle.told.proofs.Memory.{fits-room}
 use Rattle.table.specs.Load.{readingsOf, ranOf, progressOf, toldIn, tooLittle, refusal, loadingOf, memoryRan, load, loaded}
 use Rattle.table.specs.declared.Outcome.the-variants.{Loaded, Refused}
+use Rattle.table.specs.declared.Progress.{Progress}
 use Rattle.table.specs.declared.Loading.{Loading}
 use Rattle.table.proofs.Leaves.{fine-is}
 
@@ -94,3 +95,65 @@ unfolding ranOf
 ran-sound card room text =
     decide (eqb (length text) 0) (λ t. rw t (stop-sound card room [] 1 (Form Newline) tt refl))
     (λ t. rw t (run-sound card room (readingsOf (split 10 text)) [] 0 tt))
+
+-- what loading comes to
+module _ (card : Card) (text m : List ℕ) (store rows : ℕ) where
+  pub load-long : 65536 < length text → (load card text m store rows ≡ refusal (Refused 1 0)) × (loaded card text m store rows ≡ cleared m)
+  unfolding load loaded
+  load-long h = (rw (lt-ltb 65536 (length text) h), rw (lt-ltb 65536 (length text) h))
+
+  pub load-short : length text ≤ 65536 → (load card text m store rows ≡ loadingOf (ranOf card (usable m) text) store rows) × (loaded card text m store rows ≡ memoryRan card m (ranOf card (usable m) text) store rows)
+  unfolding load loaded
+  load-short h = (rw (le-ltb 65536 (length text) h), rw (le-ltb 65536 (length text) h))
+
+  ran-stopped : (ran : Ran) → isFine (progressOf ran .verdict) ≡ false → (loadingOf ran store rows ≡ refusal (Refused (numberOf (progressOf ran .verdict)) (progressOf ran .lines))) × (memoryRan card m ran store rows ≡ cleared m)
+  unfolding loadingOf memoryRan
+  ran-stopped (done told) f = absurd (false≢true (sym f))
+  ran-stopped (stopped told n v) f = (refl, refl)
+
+  done-little : (told : List Line) → tooLittle (shelfOf told) store rows ≡ true → (loadingOf (done told) store rows ≡ refusal (Refused 7 0)) × (memoryRan card m (done told) store rows ≡ cleared m)
+  unfolding loadingOf memoryRan
+  done-little told t = (rw t, rw t)
+
+  done-enough : (told : List Line) → tooLittle (shelfOf told) store rows ≡ false → (loadingOf (done told) store rows ≡ record { outcome = Loaded (size * total told); shelf = shelfOf told }) × (memoryRan card m (done told) store rows ≡ memoryOf card m told)
+  unfolding loadingOf memoryRan
+  done-enough told t = (rw t, rw t)
+
+  -- after reading the lines of a short text
+  module _ (short : length text ≤ 65536) (p : Progress) (come : p ≡ progressOf (ranOf card (usable m) text)) (memory : List ℕ) (holding : memory ≡ memoryOf card m (toldIn (ranOf card (usable m) text))) where
+    abbrev ran : Ran
+    ran = ranOf card (usable m) text
+
+    pub after-stopped : isFine (p .verdict) ≡ false → (refusal (Refused (numberOf (p .verdict)) (p .lines)) ≡ load card text m store rows) × (cleared memory ≡ loaded card text m store rows)
+    after-stopped f =
+        let r = ran-stopped ran (sym (ap (λ q. isFine (q .verdict)) come) ∙ f) in
+        let s = load-short short in
+        (
+          ap (λ q. refusal (Refused (numberOf (q .verdict)) (q .lines))) come ∙ sym (s .0 ∙ r .0),
+          ap cleared holding ∙ cleared-memory card m (toldIn ran) (fits-room card (usable m) (toldIn ran) (ran-sound card (usable m) text .good)) ∙ sym (s .1 ∙ r .1),
+        )
+
+    all-read : isFine (p .verdict) ≡ true → ran ≡ done (toldIn ran)
+    all-read f = ran-sound card (usable m) text .all (sym (ap (λ q. isFine (q .verdict)) come) ∙ f)
+
+    shelf-is : isFine (p .verdict) ≡ true → p .shelf ≡ shelfOf (toldIn ran)
+    shelf-is f = ap (λ q. q .shelf) come ∙ ap (λ x. progressOf x .shelf) (all-read f)
+
+    pub after-little : isFine (p .verdict) ≡ true → tooLittle (p .shelf) store rows ≡ true → (refusal (Refused 7 0) ≡ load card text m store rows) × (cleared memory ≡ loaded card text m store rows)
+    after-little f t =
+        let d = done-little (toldIn ran) (sym (ap (λ s. tooLittle s store rows) (shelf-is f)) ∙ t) in
+        let s = load-short short in
+        (
+          sym (s .0 ∙ ap (λ x. loadingOf x store rows) (all-read f) ∙ d .0),
+          ap cleared holding ∙ cleared-memory card m (toldIn ran) (fits-room card (usable m) (toldIn ran) (ran-sound card (usable m) text .good))
+          ∙ sym (s .1 ∙ ap (λ x. memoryRan card m x store rows) (all-read f) ∙ d .1),
+        )
+
+    pub after-done : isFine (p .verdict) ≡ true → tooLittle (p .shelf) store rows ≡ false → (record { outcome = Loaded (p .used); shelf = p .shelf } ≡ load card text m store rows) × (memory ≡ loaded card text m store rows)
+    after-done f t =
+        let d = done-enough (toldIn ran) (sym (ap (λ s. tooLittle s store rows) (shelf-is f)) ∙ t) in
+        let s = load-short short in
+        (
+          ap (λ q. record { outcome = Loaded (q .used); shelf = q .shelf }) (come ∙ ap progressOf (all-read f)) ∙ sym (s .0 ∙ ap (λ x. loadingOf x store rows) (all-read f) ∙ d .0),
+          holding ∙ sym (s .1 ∙ ap (λ x. memoryRan card m x store rows) (all-read f) ∙ d .1),
+        )
