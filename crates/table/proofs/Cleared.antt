@@ -127,8 +127,7 @@ module _ (card : Card) (text m : List ℕ) (store rows : ℕ) where
     pub after-stopped : isFine (p .verdict) ≡ false → (refusal (Refused (numberOf (p .verdict)) (p .lines)) ≡ load card text m store rows) × (cleared memory ≡ loaded card text m store rows)
     after-stopped f =
         let r = ran-stopped ran (sym (ap (λ q. isFine (q .verdict)) come) ∙ f) in
-        let s = load-short short in
-        (
+        let s = load-short short in (
           ap (λ q. refusal (Refused (numberOf (q .verdict)) (q .lines))) come ∙ sym (s .0 ∙ r .0),
           ap cleared holding ∙ cleared-memory card m (toldIn ran) (fits-room card (usable m) (toldIn ran) (ran-sound card (usable m) text .good)) ∙ sym (s .1 ∙ r .1),
         )
@@ -142,18 +141,16 @@ module _ (card : Card) (text m : List ℕ) (store rows : ℕ) where
     pub after-little : isFine (p .verdict) ≡ true → tooLittle (p .shelf) store rows ≡ true → (refusal (Refused 7 0) ≡ load card text m store rows) × (cleared memory ≡ loaded card text m store rows)
     after-little f t =
         let d = done-little (toldIn ran) (sym (ap (λ s. tooLittle s store rows) (shelf-is f)) ∙ t) in
-        let s = load-short short in
-        (
+        let s = load-short short in (
           sym (s .0 ∙ ap (λ x. loadingOf x store rows) (all-read f) ∙ d .0),
           ap cleared holding ∙ cleared-memory card m (toldIn ran) (fits-room card (usable m) (toldIn ran) (ran-sound card (usable m) text .good))
-          ∙ sym (s .1 ∙ ap (λ x. memoryRan card m x store rows) (all-read f) ∙ d .1),
+              ∙ sym (s .1 ∙ ap (λ x. memoryRan card m x store rows) (all-read f) ∙ d .1),
         )
 
     pub after-done : isFine (p .verdict) ≡ true → tooLittle (p .shelf) store rows ≡ false → (record { outcome = Loaded (p .used); shelf = p .shelf } ≡ load card text m store rows) × (memory ≡ loaded card text m store rows)
     after-done f t =
         let d = done-enough (toldIn ran) (sym (ap (λ s. tooLittle s store rows) (shelf-is f)) ∙ t) in
-        let s = load-short short in
-        (
+        let s = load-short short in (
           ap (λ q. record { outcome = Loaded (q .used); shelf = q .shelf }) (come ∙ ap progressOf (all-read f)) ∙ sym (s .0 ∙ ap (λ x. loadingOf x store rows) (all-read f) ∙ d .0),
           holding ∙ sym (s .1 ∙ ap (λ x. memoryRan card m x store rows) (all-read f) ∙ d .1),
         )

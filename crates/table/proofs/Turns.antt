@@ -236,12 +236,11 @@ module _ (card : Card) (memory₀ text : List ℕ) (told : List Line) (from : �
         ∙ ap (λ x. x ∷ readingsOf (split 10 (drop (e + 1) text))) (sym (is ∙ ap (readingOf (take (e - from) (drop from text))) (lt-ltb e (length text) was-ended)))
 
     on-by : (x : Reading) → r ≡ x → (told′ : List Line) × Between card memory₀ text told′ (e + 1) (progressBy (verdictIn card (usable memory₀) memory p x) p x) (memoryAfter card memory (verdictIn card (usable memory₀) memory p x) p x)
-    on-by (Read l) k =
-        (
-          l ∷ told,
-          turn card memory₀ text told from p memory b e l (omega arith) was-ended (line-is ∙ ap (λ x. x ∷ readingsOf (split 10 (drop (e + 1) text))) k)
+    on-by (Read l) k = (
+      l ∷ told,
+      turn card memory₀ text told from p memory b e l (omega arith) was-ended (line-is ∙ ap (λ x. x ∷ readingsOf (split 10 (drop (e + 1) text))) k)
           (sym (ap (verdictOn card (usable memory₀) told) k) ∙ sym by-lines ∙ fine-is verdict fine) (in-range l k),
-        )
+    )
     on-by (Bad wrong) k = absurd (false≢true (sym (ap (λ x. isFine (verdictIn card (usable memory₀) memory p x)) k) ∙ fine))
 
     pub on : (told′ : List Line) × Between card memory₀ text told′ (e + 1) (progressBy verdict p r) (memoryAfter card memory verdict p r)

@@ -53,8 +53,7 @@ same-length-2 c = search needs
 returns-2 : tie.Need-returns-2
 returns-2 c =
     let a = c .before .before .before .before .before .before .before .before .before .before .before .before .args in
-    let f = (sym (c .before .before .before .before .before .before .before .is-fine .ensures) ∙ not-false _ (c .before .before .before .before .before .before .if1 .left)) in
-    (
+    let f = (sym (c .before .before .before .before .before .before .before .is-fine .ensures) ∙ not-false _ (c .before .before .before .before .before .before .if1 .left)) in (
       step-fine (a .card) (a .memory .now) (a .p) (Good (a .line)) _ _ (c .before .before .before .before .before .before .before .before .judge .ensures) _ _ f (c .before .shelf-after .ensures) (ap (λ n. a .p .used + size * n) (c .takes .ensures .0)),
       memory-enacted (a .card) (a .memory .now) (a .p) (Good (a .line)) _ _ (c .before .before .before .before .before .before .before .before .judge .ensures) _ f (c .before .before .before .before .write .ensures),
     )

@@ -57,14 +57,13 @@ returns-2 c =
     let a = c .before .before .before .before .before .before .before .before .before .before .before .before .before .before .before .before .before .before .before .args in
     let m = a .memory .now in
     let t = a .text .now in
-    let k = c .before .before .before .before .before .before .before .before .before .before .before .before .before .before .before .before .clear .ensures in
+    let k = c .before .before .before .before .before .before .before .before .before .before .before .before .before .before .before .clear .ensures in
     let p = c .before .before .before .before .before .before .before .before .before .before .read-lines .result in
     let r = ap (λ x. ranOf (a .card) (usable x) t) k ∙ ap (λ n. ranOf (a .card) n t) (cleared-usable m) in
     let come = c .before .before .before .before .before .before .before .before .before .before .read-lines .ensures .0 ∙ ap progressOf r in
     let holding = c .before .before .before .before .before .before .before .before .before .before .read-lines .ensures .1 ∙ ap₂ (λ x y. memoryOf (a .card) x (toldIn y)) k r ∙ memory-cleared (a .card) m (toldIn (ranOf (a .card) (usable m) t)) in
     let short = c .before .before .before .before .before .before .before .before .before .before .before .before .if1 .left in
-    let o = after-stopped (a .card) t m (a .store) (a .rows) short p come _ holding (sym (c .before .before .before .before .before .before .before .is-fine .ensures) ∙ not-true _ (c .before .before .before .before .before .before .if2 .taken)) in
-    (
+    let o = after-stopped (a .card) t m (a .store) (a .rows) short p come _ holding (sym (c .before .before .before .before .before .before .before .is-fine .ensures) ∙ not-true _ (c .before .before .before .before .before .before .if2 .taken)) in (
       c .refused2 .ensures ∙ ap (λ n. refusal (Refused n (p .lines))) (c .before .number .ensures) ∙ o .0,
       c .before .before .before .before .clear2 .ensures ∙ o .1,
     )
@@ -89,7 +88,7 @@ returns-3 c =
     let a = c .before .before .before .before .before .before .before .before .before .before .before .before .before .before .before .before .before .before .before .before .before .args in
     let m = a .memory .now in
     let t = a .text .now in
-    let k = c .before .before .before .before .before .before .before .before .before .before .before .before .before .before .before .before .before .before .clear .ensures in
+    let k = c .before .before .before .before .before .before .before .before .before .before .before .before .before .before .before .before .before .clear .ensures in
     let p = c .before .before .before .before .before .before .before .before .before .before .before .before .read-lines .result in
     let r = ap (λ x. ranOf (a .card) (usable x) t) k ∙ ap (λ n. ranOf (a .card) n t) (cleared-usable m) in
     let come = c .before .before .before .before .before .before .before .before .before .before .before .before .read-lines .ensures .0 ∙ ap progressOf r in
@@ -106,7 +105,7 @@ returns-4 c =
     let a = c .before .before .before .before .before .before .before .before .before .before .before .before .before .before .before .before .args in
     let m = a .memory .now in
     let t = a .text .now in
-    let k = c .before .before .before .before .before .before .before .before .before .before .before .before .before .clear .ensures in
+    let k = c .before .before .before .before .before .before .before .before .before .before .before .before .clear .ensures in
     let p = c .before .before .before .before .before .before .before .read-lines .result in
     let r = ap (λ x. ranOf (a .card) (usable x) t) k ∙ ap (λ n. ranOf (a .card) n t) (cleared-usable m) in
     let come = c .before .before .before .before .before .before .before .read-lines .ensures .0 ∙ ap progressOf r in

@@ -40,8 +40,7 @@ returns : tie.Need-returns Inv-loop μ-loop
 unfolding ranOf shelfOf total
 returns c =
     let a = c .before .before .before .before .args in
-    let z = c .before .if1 .taken in
-    (
+    let z = c .before .if1 .taken in (
       ap (λ s. record { shelf = s; used = 0; lines = 1; verdict = Form Newline }) (c .fresh .ensures) ∙ rw (eq-eqb (length (a .text .now)) 0 z),
       c .before .before .before .before .pre .1 ∙ sym (memory-none (a .card) (a .memory .now)) ∙ rw (eq-eqb (length (a .text .now)) 0 z),
     )
@@ -83,8 +82,7 @@ step-requires c κs =
     let h = c .before .before .before .before .loop-test .taken in
     let r = c .before .read .result in
     let k = c .before .read .ensures in
-    let room = c .before .before .before .before .before .before .before .usable .ensures in
-    (
+    let room = c .before .before .before .before .before .before .before .usable .ensures in (
       (used-most (a .card) (a .memory .now) (a .text .now) told (l .from) (l .p) (l .memory) b, lines-most (a .card) (a .memory .now) (a .text .now) told (l .from) (l .p) (l .memory) b (c .before .before .before .before .before .before .before .before .before .before .before .pre .0)),
       subst (λ n. verdictIn (a .card) n (l .memory) (l .p) r ≡ Fine → Places (l .p .shelf) r) (sym room) (step-places (a .card) (a .memory .now) (a .text .now) told (l .from) (l .p) (l .memory) b e q h r k),
     )
@@ -137,8 +135,7 @@ loop-again c =
     let s₁ = subst (λ n. s .result ≡ progressBy (verdictIn (a .card) n (l .memory) (l .p) r) (l .p) r) room (s .ensures .0) in
     let s₂ = subst (λ n. s .last .1 .1 .0 ≡ memoryAfter (a .card) (l .memory) (verdictIn (a .card) n (l .memory) (l .p) r) (l .p) r) room (s .ensures .1) in
     let f = sym (ap isFine (ap (λ p. p .verdict) s₁)) ∙ sym (c .before .is-fine .ensures) ∙ not-false _ (c .if2 .left) in
-    let o = on (a .card) (a .memory .now) (a .text .now) told (l .from) (l .p) (l .memory) b e q h r k f in
-    (
+    let o = on (a .card) (a .memory .now) (a .text .now) told (l .from) (l .p) (l .memory) b e q h r k f in (
       o .0,
       subst₂ (λ p m. Between (a .card) (a .memory .now) (a .text .now) (o .0) (e + 1) p m) (sym s₁) (sym s₂) (o .1),
       s .kept .1 .1 .0 ∙ l .inv .2,

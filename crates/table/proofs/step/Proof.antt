@@ -29,8 +29,7 @@ returns : tie.Need-returns
 returns c =
     let a = c .before .before .before .before .before .before .before .before .args in
     let e = sym (c .before .before .before .before .before .reading .given .1) in
-    let m = a .memory .now in
-    (
+    let m = a .memory .now in (
       c .before .before .enact .ensures .0 ∙ ap (λ r. progressBy (verdictIn (a .card) (a .room) m (a .p) r) (a .p) r) e,
       c .before .before .enact .ensures .1 ∙ ap (λ r. memoryAfter (a .card) m (verdictIn (a .card) (a .room) m (a .p) r) (a .p) r) e,
     )
@@ -40,8 +39,7 @@ unfolding progressBy
 returns-2 c =
     let a = c .before .before .before .before .before .before .args in
     let e = sym (c .before .before .before .reading2 .given .1) in
-    let m = a .memory .now in
-    (
+    let m = a .memory .now in (
       ap (λ r. progressBy (verdictIn (a .card) (a .room) m (a .p) r) (a .p) r) e,
       ap (λ r. memoryAfter (a .card) m (verdictIn (a .card) (a .room) m (a .p) r) (a .p) r) e,
     )
