@@ -25,10 +25,10 @@ use Rattle.line.specs.declared.Line.{Line}
 use Rattle.line.specs.declared.Line.the-variants.{Bus, Unit as L·Unit, Vp, Drop, Page, Vc, Mc}
 use Rattle.judge.specs.declared.Verdict.the-variants.{Fine}
 use Rattle.told.specs.Told.{Whose, ofUnit, ofPage, same, gives, only, either, else, topOf, givenBy, total, recordOf, memoryOf}
-use Rattle.told.specs.Lines.{judge}
+use Rattle.told.specs.Lines.{judge, Good}
 use Rattle.told.proofs.Regions.{start, both-left, both-right}
 use Rattle.told.proofs.Fits.{AtPath, AtCircuit, fine-vp, fine-drop, fine-page, fine-vc}
-use Rattle.told.proofs.Grown.{decide, Good, Grown, grown, page-new}
+use Rattle.told.proofs.Grown.{decide, Grown, grown, page-new}
 use Rattle.told.proofs.Memory.{AllRanged, records-hold, stands-at}
 use Rattle.promise.specs.Served.{Serving, by-vp, by-drop, by-vc, serves, served, become, lookedUp}
 

@@ -1,3 +1,5 @@
 pub mod Values
 pub mod Sheets
 pub mod ByLines
+pub mod Runs
+pub mod Refusals

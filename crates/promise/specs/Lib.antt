@@ -1,3 +1,5 @@
 pub mod Starred
 pub mod Sheet
 pub mod Served
+pub mod Refusals
+pub mod Narrow

@@ -20,9 +20,9 @@ use Rattle.judge.specs.declared.Verdict.{Verdict}
 use Rattle.judge.specs.declared.Verdict.the-variants.{Fine, Form}
 use Rattle.judge.specs.Judge.{numberOf, isFine}
 use Rattle.told.specs.Told.{total, recordOf, records, shelfOf, memoryOf}
-use Rattle.told.specs.Lines.{judge, verdictOn, with, Ran, done, stopped, run}
+use Rattle.told.specs.Lines.{judge, verdictOn, with, Ran, done, stopped, run, Good}
 use Rattle.told.proofs.Regions.{regions-length}
-use Rattle.told.proofs.Grown.{decide, Good}
+use Rattle.told.proofs.Grown.{decide}
 use Rattle.told.proofs.Memory.{fits-room}
 use Rattle.table.specs.Load.{readingsOf, ranOf, progressOf, toldIn, tooLittle, refusal, loadingOf, memoryRan, load, loaded}
 use Rattle.table.specs.declared.Outcome.the-variants.{Loaded, Refused}

@@ -24,10 +24,10 @@ use Rattle.judge.specs.declared.Verdict.{Verdict}
 use Rattle.judge.specs.declared.Verdict.the-variants.{Fine, Form}
 use Rattle.judge.specs.Judge.{isFine}
 use Rattle.told.specs.Told.{Whose, total, opens, takes, shelfBy, shelfOf, recordOf, memoryOf}
-use Rattle.told.specs.Lines.{isFirst, judge, verdictOn, with, run, done, stopped}
+use Rattle.told.specs.Lines.{isFirst, judge, verdictOn, with, run, done, stopped, Good}
 use Rattle.told.specs.Enact.{verdictAt, memoryBy, Places}
 use Rattle.told.proofs.Fits.{fine-unit}
-use Rattle.told.proofs.Grown.{decide, Good, grown}
+use Rattle.told.proofs.Grown.{decide, grown}
 use Rattle.told.proofs.Memory.{Ranged, AllRanged, fits-room, records-hold, memory-none}
 use Rattle.told.proofs.Shelved.{shelved, place-left}
 use Rattle.told.proofs.Agree.{judge-agree, memory-agree}

@@ -18,7 +18,7 @@ use Rattle.line.specs.declared.Line.{Line}
 use Rattle.line.specs.declared.Line.the-variants.{Bus, Unit as L·Unit, Vp, Drop, Page, Vc, Mc}
 use Rattle.judge.specs.declared.Verdict.the-variants.{Fine}
 use Rattle.told.specs.Told.{Whose, ofUnit, ofPage, same, Opening, opens, Giving, gives, only, either, else, topBy, topOf, takes, total, givenBy, recordOf}
-use Rattle.told.specs.Lines.{judge}
+use Rattle.told.specs.Lines.{judge, Good}
 use Rattle.told.proofs.Tabulate.{some-inj, none-some, only-true, only-is, only-false, either-left, either-right}
 use Rattle.told.proofs.Regions.{same-self, same-is, both-left, both-right, start, firstOf, Once}
 use Rattle.told.proofs.Fits.{AtPath, AtCircuit, fine-unit, fine-vp, fine-drop, fine-page, fine-vc}
@@ -29,11 +29,6 @@ decide false y n = n refl
 
 pub eqb-sym : (a b : ℕ) → eqb a b ≡ eqb b a
 eqb-sym a b = decide (eqb a b) (λ t. t ∙ sym (eq-eqb b a (sym (eqb-true a b t)))) (λ n. n ∙ sym (ne-eqb b a (λ e. eqb-false a b n (sym e))))
-
--- the lines so far were fine, each after those before it
-abbrev pub Good : Card → ℕ → List Line → Type 0
-Good card room [] = Unit {0}
-Good card room (l ∷ told) = (judge card room told l ≡ Fine) × Good card room told
 
 pub record Grown (told : List Line) : Type 0 where
   pub once : Once told

@@ -30,11 +30,11 @@ use Rattle.line.specs.declared.Line.{Line}
 use Rattle.line.specs.declared.Line.the-variants.{Bus, Unit as L·Unit, Vp, Drop, Page, Vc, Mc}
 use Rattle.judge.specs.declared.Verdict.the-variants.{Fine}
 use Rattle.told.specs.Told.{Whose, ofUnit, ofPage, same, Opening, opens, Giving, gives, only, else, topOf, takes, total, givenBy, recordOf, tabulate, regionBy, regions, records, memoryOf}
-use Rattle.told.specs.Lines.{judge}
+use Rattle.told.specs.Lines.{judge, Good}
 use Rattle.told.proofs.Tabulate.{tabulate-same}
 use Rattle.told.proofs.Regions.{same-self, start, start-lt, regions-length, regions-at, regions-put, Once}
 use Rattle.told.proofs.Fits.{AtPath, AtCircuit, fine-unit, fine-vp, fine-drop, fine-page, fine-vc}
-use Rattle.told.proofs.Grown.{Good, Grown, grown}
+use Rattle.told.proofs.Grown.{Grown, grown}
 
 -- the numbers of a line that the reader keeps in range
 abbrev pub Ranged : Line → Type 0

@@ -28,11 +28,11 @@ use Rattle.line.specs.declared.Line.{Line}
 use Rattle.line.specs.declared.Line.the-variants.{Bus, Unit as L·Unit, Vp, Drop, Page, Vc, Mc}
 use Rattle.judge.specs.declared.Verdict.the-variants.{Fine}
 use Rattle.told.specs.Told.{Whose, ofUnit, ofPage, same, opens, only, either, topBy, topOf, total, hearsBy, hearsIn, declare, hearing, joinAt, shelfBy, shelfOf}
-use Rattle.told.specs.Lines.{isFirst, judge}
+use Rattle.told.specs.Lines.{isFirst, judge, Good}
 use Rattle.told.proofs.Tabulate.{some-inj, none-some}
 use Rattle.told.proofs.Regions.{start, firstOf}
 use Rattle.told.proofs.Fits.{UnitFine, fine-bus, fine-unit, fine-mc}
-use Rattle.told.proofs.Grown.{decide, Good}
+use Rattle.told.proofs.Grown.{decide}
 use Rattle.told.proofs.Memory.{Ranged, AllRanged}
 
 -- how many of the numbers below n are not declared

@@ -1,5 +1,6 @@
 -- The lines of a table, each judged against the lines before it; the first faulty one ends it. Assumes nothing.
 use Prim.Native.Nat.{ℕ, _+_, _*_}
+use mathlib.Core.Path.{_≡_}
 use mathlib.Core.Bool.{Bool, true, false, cond}
 use mathlib.Core.List.{List, [], _∷_}
 use mathlib.Core.Option.{Option, none, some}
@@ -10,7 +11,7 @@ use Rattle.line.specs.declared.Line.{Line}
 use Rattle.line.specs.declared.Line.the-variants.{Bus, Unit as L·Unit, Vp, Drop, Page, Vc, Mc}
 use Rattle.line.specs.declared.Wrong.{Wrong}
 use Rattle.line.specs.declared.Reading.{Reading}
-use Rattle.line.specs.declared.Reading.the-variants.{Good, Bad}
+use Rattle.line.specs.declared.Reading.the-variants.{Good as Read, Bad}
 use Rattle.judge.specs.declared.Verdict.{Verdict}
 use Rattle.judge.specs.declared.Verdict.the-variants.{Fine, Form, Order, Twice, Wide, Room}
 use Rattle.judge.specs.Judge.{isFine, judgeBus, judgeUnit, judgeVp, judgeDrop, judgePage, judgeVc, judgeMc}
@@ -52,6 +53,11 @@ judge card room told (Vc u v w target class outvpi outvci) =
     judgeVc card (shelfOf told .bus) top v (Is (recordOf told (ofUnit u) v)) w (Is (recordOf told (ofPage u v) w)) target outvpi)
 judge card room told (Mc u session) = started told (owned (topOf told (ofUnit u)) λ top. judgeMc (hearsIn told u session))
 
+-- the lines so far are good: each was fine after those before it
+abbrev pub Good : Card → ℕ → List Line → Type 0
+Good card room [] = Unit {0}
+Good card room (l ∷ told) = (judge card room told l ≡ Fine) × Good card room told
+
 -- what reading lines comes to: all are good; or those before the first that is not, which line that is, counted from 1, and why
 pub data Ran : Type 0 where
   done : List Line → Ran
@@ -59,11 +65,11 @@ pub data Ran : Type 0 where
 
 -- a line that cannot be read is Form; one that can is judged
 abbrev pub verdictOn : Card → ℕ → List Line → Reading → Verdict
-verdictOn card room told (Good l) = judge card room told l
+verdictOn card room told (Read l) = judge card room told l
 verdictOn card room told (Bad wrong) = Form wrong
 
 abbrev pub with : Reading → List Line → List Line
-with (Good l) told = l ∷ told
+with (Read l) told = l ∷ told
 with (Bad wrong) told = told
 
 unfoldable pub run : Card → ℕ → List Line → ℕ → List Reading → Ran
