@@ -3,3 +3,4 @@ pub mod Sheets
 pub mod ByLines
 pub mod Runs
 pub mod Refusals
+pub mod Cards

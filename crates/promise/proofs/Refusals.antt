@@ -25,7 +25,7 @@ use Rattle.table.proofs.Cleared.{load-long, load-short}
 use Rattle.promise.specs.Refusals.{linesOf, AllGood, Long, AtLine, Store, Accepts, Refuses}
 use Rattle.promise.proofs.Runs.{done-iff-good, fault-first, first-stops, ran-lines}
 
-loaded-refused : {used number line : ℕ} → Loaded used ≡ Refused number line → ⊥
+pub loaded-refused : {used number line : ℕ} → Loaded used ≡ Refused number line → ⊥
 loaded-refused e = let z : _≡_ {A = ℕ} 0 1 = cc in omega arith
 
 refused-number : {k n k′ n′ : ℕ} → Refused k n ≡ Refused k′ n′ → k ≡ k′

@@ -9,9 +9,12 @@ use Rattle.header.specs.declared.Header as H
 use Rattle.header.specs.declared.Link.{Link}
 use Rattle.routing.specs.Routing.{routing}
 use Rattle.routing.specs.declared.Target.{Target}
-use Rattle.lookup.specs.Lookup.{goesBy}
+use Rattle.card.specs.declared.Card.{Card}
+use Rattle.record.specs.Record.{recordAt}
+use Rattle.lookup.specs.Lookup.{goesBy, translated}
 use Rattle.lookup.specs.declared.Looked.{Looked}
 use Rattle.lookup.specs.declared.Looked.the-variants.{Ignored, Misrouted}
+use Rattle.shelf.specs.declared.Unit as U
 use Rattle.line.specs.declared.Line.{Line}
 use Rattle.line.specs.declared.Line.the-variants.{Bus, Unit as L·Unit, Vp, Drop, Page, Vc, Mc}
 use Rattle.told.specs.Told.{only, either}
@@ -47,3 +50,10 @@ unfoldable pub lookedUp : List Line → Link → ℕ → ℕ → ℕ → Looked
 lookedUp told link u top header =
     let h = fields link header in
     cond (eqb (h .vpi) 0 && eqb (h .vci) 0) Ignored (cond (ltb top (h .vpi)) Misrouted (become (served told u (h .vpi) (h .vci)) h))
+
+-- the lookup of a header at a unit of the shelf, in a memory; and what the lines say of it
+abbrev pub lookupAt : Card → List ℕ → U.Unit → ℕ → Looked
+lookupAt card memory unit header = translated (recordAt card memory) (unit .settings .link) (unit .settings .top) (unit .place) header
+
+abbrev pub saidBy : List Line → ℕ → U.Unit → ℕ → Looked
+saidBy told u unit header = lookedUp told (unit .settings .link) u (unit .settings .top) header

@@ -28,13 +28,13 @@ use Rattle.told.specs.Told.{ofUnit, ofPage, topOf, hearsIn, total, recor
 use Rattle.told.specs.Lines.{started, isFirst, owned, isDeclared, judge}
 
 -- verdicts told apart
-order-fine : {f : ℕ} → Order f ≡ Fine → ⊥
+pub order-fine : {f : ℕ} → Order f ≡ Fine → ⊥
 order-fine e = let z : _≡_ {A = ℕ} 0 1 = cc in omega arith
 
-twice-fine : {f : ℕ} → Twice f ≡ Fine → ⊥
+pub twice-fine : {f : ℕ} → Twice f ≡ Fine → ⊥
 twice-fine e = let z : _≡_ {A = ℕ} 0 1 = cc in omega arith
 
-wide-fine : Wide ≡ Fine → ⊥
+pub wide-fine : Wide ≡ Fine → ⊥
 wide-fine e = let z : _≡_ {A = ℕ} 0 1 = cc in omega arith
 
 room-fine : Room ≡ Fine → ⊥
