@@ -1,0 +1,4 @@
+pub mod Order
+pub mod Requests
+pub mod Grants
+pub mod Witness

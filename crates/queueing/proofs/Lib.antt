@@ -1,0 +1,4 @@
+pub mod Fates
+pub mod Leaves
+pub mod Headers
+pub mod Sheet

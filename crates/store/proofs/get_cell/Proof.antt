@@ -1,0 +1,28 @@
+-- `store::get_cell` meets its contract. Assumes nothing.
+use mathlib.Core.Path.{_≡_, ap}
+use Prim.Native.Nat.{_+_, _-_}
+use lib.ListN.{take, drop}
+use native.Mathlib.Omega.{arith}
+use borrow.Author.Needs.{needs}
+use Rattle.store.proofs.get_cell.Statement.{statement}
+use Rattle.store.proofs.get_cell.Tie as tie
+
+add-end : tie.Need-add-end
+add-end c = search needs
+
+sub-result : tie.Need-sub-result
+sub-result c = search needs
+
+part-result-start : tie.Need-part-result-start
+part-result-start c = search needs
+
+part-result-end : tie.Need-part-result-end
+part-result-end c = search needs
+
+returns : tie.Need-returns
+returns c =
+    let e : c .before .args .at + 56 - c .before .args .at ≡ 56 = omega arith in
+    ap (λ n. take n (drop (c .before .args .at) (c .before .args .store .now))) e
+
+pub get-cell-spec : {M : Type 1} → statement M
+get-cell-spec = tie.close (tie.spec add-end sub-result part-result-start part-result-end returns)

@@ -1,0 +1,16 @@
+-- `store::part_of` meets its contract. Assumes nothing.
+use mathlib.Core.Path.{refl}
+use Rattle.store.specs.Places.{partOf}
+use borrow.Author.Needs.{needs}
+use Rattle.store.proofs.part_of.Statement.{statement}
+use Rattle.store.proofs.part_of.Tie as tie
+
+mul-result : tie.Need-mul-result
+mul-result c = search needs
+
+returns : tie.Need-returns
+unfolding partOf
+returns c = refl
+
+pub part-of-spec : {M : Type 1} → statement M
+part-of-spec = tie.close (tie.spec mul-result returns)
