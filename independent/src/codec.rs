@@ -1,0 +1,139 @@
+//! Headers, checks and parity.
+
+/// How a link reads the top of a cell header.
+#[derive(Clone, Copy, Debug, PartialEq, Eq)]
+pub enum Link {
+    Uni,
+    Nni,
+}
+
+/// A bus frame before its parity: routing 2, tandem 2, header 4, payload 48.
+pub type BusCell = [u8; 56];
+
+/// Where a routed cell goes.
+#[derive(Clone, Copy, Debug, PartialEq, Eq)]
+pub enum Target {
+    Unit(u8),
+    Session(u8),
+    Broadcast,
+}
+
+/// What a sound routing header says.
+#[derive(Clone, Copy, Debug, PartialEq, Eq)]
+pub struct Routing {
+    pub target: Target,
+    pub class: u8,
+}
+
+/// A cell header without GFC; `tail` is PT and CLP in its low four bits.
+#[derive(Clone, Copy, Debug, PartialEq, Eq)]
+pub struct Header {
+    pub vpi: u16,
+    pub vci: u16,
+    pub tail: u8,
+}
+
+/// The bit of `Header::tail` that is the middle bit of PT.
+pub const CONGESTION_BIT: u8 = 0b0100;
+/// The bit of `Header::tail` that is CLP.
+pub const CLP_BIT: u8 = 0b0001;
+
+/// Remainder of `value` times x^degree by `generator`, a polynomial of that degree.
+fn remainder(value: u64, generator: u64, degree: u32) -> u64 {
+    let mut rest = value << degree;
+    while rest >> degree != 0 {
+        let top = rest.ilog2();
+        rest ^= generator << (top - degree);
+    }
+    rest
+}
+
+/// The header check of a line cell.
+pub fn header_check(header: [u8; 4]) -> u8 {
+    let value = u64::from(u32::from_be_bytes(header));
+    remainder(value, 0b1_0000_0111, 8) as u8 ^ 0x55
+}
+
+/// The check nibble over the upper 12 bits of a routing header.
+pub fn routing_check(upper: u16) -> u16 {
+    remainder(u64::from(upper), 0b1_0011, 4) as u16
+}
+
+/// Exclusive-or of all bytes given.
+pub fn parity(bytes: &[u8]) -> u8 {
+    bytes.iter().fold(0, |sum, byte| sum ^ byte)
+}
+
+impl Routing {
+    pub fn encode(self) -> u16 {
+        let (kind, address) = match self.target {
+            Target::Unit(unit) => (0, unit),
+            Target::Session(session) => (1, session),
+            Target::Broadcast => (2, 0),
+        };
+        let upper = kind << 10 | u16::from(self.class) << 8 | u16::from(address);
+        upper << 4 | routing_check(upper)
+    }
+
+    /// None for a header that makes its frame damaged.
+    pub fn decode(header: u16) -> Option<Routing> {
+        let upper = header >> 4;
+        if routing_check(upper) != header & 0xF {
+            return None;
+        }
+        let address = (upper & 0xFF) as u8;
+        let target = match upper >> 10 {
+            0 if address <= 31 => Target::Unit(address),
+            1 => Target::Session(address),
+            2 if address == 0 => Target::Broadcast,
+            _ => return None,
+        };
+        let class = (upper >> 8 & 3) as u8;
+        Some(Routing { target, class })
+    }
+}
+
+impl Header {
+    /// Reads four bytes as the link does; the bus reads as an NNI link.
+    pub fn read(link: Link, bytes: [u8; 4]) -> Header {
+        let word = u32::from_be_bytes(bytes);
+        let top = (word >> 20) as u16;
+        Header {
+            vpi: match link {
+                Link::Uni => top & 0xFF,
+                Link::Nni => top,
+            },
+            vci: (word >> 4) as u16,
+            tail: (word & 0xF) as u8,
+        }
+    }
+
+    /// Writes a header for the link: a UNI one gets GFC 0 whatever the VPI is.
+    pub fn write(self, link: Link) -> [u8; 4] {
+        let vpi = match link {
+            Link::Uni => self.vpi & 0xFF,
+            Link::Nni => self.vpi & 0xFFF,
+        };
+        let word = u32::from(vpi) << 20 | u32::from(self.vci) << 4 | u32::from(self.tail & 0xF);
+        word.to_be_bytes()
+    }
+}
+
+/// Puts a routed cell together as it waits in an inlet; the tandem header is zero.
+pub fn bus_cell(routing: u16, header: Header, payload: &[u8]) -> BusCell {
+    let mut cell = [0; 56];
+    cell[0..2].copy_from_slice(&routing.to_be_bytes());
+    cell[4..8].copy_from_slice(&header.write(Link::Nni));
+    cell[8..56].copy_from_slice(payload);
+    cell
+}
+
+/// The routing header's two bytes of a bus cell as a number.
+pub fn routing_of(cell: &BusCell) -> u16 {
+    u16::from_be_bytes([cell[0], cell[1]])
+}
+
+/// The cell header of a bus cell; it always has a twelve-bit VPI.
+pub fn header_of(cell: &BusCell) -> Header {
+    Header::read(Link::Nni, [cell[4], cell[5], cell[6], cell[7]])
+}

@@ -1,0 +1,176 @@
+//! Anything may come in: nothing panics, and the counters add up.
+
+mod common;
+
+use common::{cell, frame, header, tabs, to_all, to_session, to_unit, Rig};
+use independent::bench::run;
+use independent::codec::{Header, Link};
+use independent::{load, Card, Counters};
+
+/// A small generator of numbers, the same in every run.
+struct Dice(u64);
+
+impl Dice {
+    fn roll(&mut self, sides: u64) -> u64 {
+        self.0 = self.0.wrapping_mul(6_364_136_223_846_793_005).wrapping_add(1_442_695_040_888_963_407);
+        (self.0 >> 33) % sides
+    }
+
+    fn pick<T: Copy>(&mut self, choices: &[T]) -> T {
+        choices[self.roll(choices.len() as u64) as usize]
+    }
+}
+
+const TABLE: &str = "\
+bus 32
+unit 1 uni 7 3 four 3 2 2 1
+unit 20 nni 7 3 one 0 0 4 1
+unit 9 uni 7 1 one 0 0 123 0
+vp 1 1 u20 1 300
+vp 1 2 b 0 7
+vp 1 3 m5 2 7
+vp 20 1 u1 1 256
+vp 20 2 u9 3 255
+drop 20 3
+vp 20 4 u30 3 255
+page 9 5 9
+vc 9 5 5 u1 2 9 9
+vc 9 5 6 b 3 999 9
+mc 1 5
+mc 9 5
+";
+
+/// One random event; gives nothing, as only the counters are judged.
+fn event(rig: &mut Rig, dice: &mut Dice) {
+    let unit = dice.pick(&[1, 20, 9, 2]);
+    match dice.roll(16) {
+        0..=9 => {
+            let mut bytes = cell(header(dice.roll(9) as u16, dice.roll(12) as u16, dice.roll(16) as u8), 1);
+            bytes[4] ^= u8::from(dice.roll(9) == 0);
+            let _ = rig.arrive(unit, &bytes);
+        }
+        10 => {
+            rig.frame();
+        }
+        11..=13 => {
+            let random = dice.roll(65_536) as u16;
+            let routing = dice.pick(&[random, to_unit(unit as u8, 1), to_all(2), to_session(5, 0)]);
+            let _ = rig.hear(unit, &frame(routing, header(dice.roll(512) as u16, 1, 1), 1));
+        }
+        _ => {
+            let mut buffer = [0; 53];
+            let _ = rig.shelf.take(unit, &mut buffer, rig.store_len, &mut rig.rows);
+        }
+    }
+}
+
+/// Runs the bus until two frames in a row neither send nor grant, then empties the outlets.
+fn drain(rig: &mut Rig) {
+    let mut idle = 0;
+    while idle < 2 {
+        let sent = rig.frame().0;
+        idle = if sent.sender.is_none() && sent.granted.is_none() { idle + 1 } else { 0 };
+    }
+    for unit in [1, 20, 9] {
+        while rig.take(unit).is_some() {}
+    }
+}
+
+#[test]
+fn counters_add_up_over_random_events() {
+    let mut totals = [0; 13];
+    for seed in 0..40 {
+        let (mut dice, mut rig) = (Dice(seed), Rig::wide(TABLE));
+        for _ in 0..3_000 {
+            event(&mut rig, &mut dice);
+            if dice.roll(50) == 0 {
+                let place = dice.roll(400) as usize;
+                rig.memory[place] = dice.roll(256) as u8;
+            }
+        }
+        drain(&mut rig);
+        for row in &rig.rows {
+            assert_eq!(row.arrived, row.hec + row.ignored + row.misrouted + row.inletfull + row.sent);
+            assert_eq!(row.queued, row.taken);
+            assert!(row.unheard <= row.sent);
+            for (total, counter) in totals.iter_mut().zip(row.list()) {
+                *total += counter;
+            }
+        }
+    }
+    // The events were many enough to bump every counter.
+    assert!(totals.iter().all(|total| *total > 100), "{totals:?}");
+}
+
+const WORDS: [&str; 25] = [
+    "bus",
+    "unit",
+    "vp",
+    "drop",
+    "page",
+    "vc",
+    "mc",
+    "uni",
+    "nni",
+    "one",
+    "four",
+    "u1",
+    "m3",
+    "b",
+    "0",
+    "1",
+    "2",
+    "3",
+    "16",
+    "32",
+    "255",
+    "99999999999999999999",
+    "",
+    "x",
+    "\u{FF}",
+];
+
+#[test]
+fn random_tables_are_judged() {
+    for seed in 0..20_000 {
+        let mut dice = Dice(seed);
+        let mut text = if dice.roll(4) > 0 { "bus\t32\nunit\t1\tnni\t3\t1\tone\t0\t0\t1\t0\n" } else { "" }.to_string();
+        for _ in 0..dice.roll(40) {
+            text += dice.pick(&WORDS);
+            text += dice.pick(&["\t", "\t", "\t", "\n"]);
+        }
+        let mut memory = vec![1; dice.roll(100) as usize];
+        let mut rows = [Counters::default(); 1];
+        let card = dice.pick(&[Card::Narrow, Card::Wide]);
+        let (shelf, outcome) = load(card, text.as_bytes(), &mut memory, 8_192, &mut rows);
+        if outcome.is_err() {
+            assert!(shelf.unit_numbers().is_empty());
+            assert!(memory.iter().all(|byte| *byte == 0));
+        }
+    }
+}
+
+#[test]
+fn bench_survives_random_bytes() {
+    let table = tabs("bus 16\nunit 0 uni 1 1 one 0 0 1 0\nvp 0 1 u0 1 1\n");
+    let pieces: [&[u8]; 10] = [b"arrive", b"frame", b"take", b"\t", b"\n", b"0", b"0010000000", b"A5", b"\xFF", b"\r"];
+    for seed in 0..2_000 {
+        let mut dice = Dice(seed);
+        let mut events = Vec::new();
+        for _ in 0..dice.roll(200) {
+            events.extend_from_slice(dice.pick(&pieces));
+        }
+        let mut out = Vec::new();
+        run(table.as_bytes(), &mut &events[..], &mut out).expect("writing to memory");
+        // One line for the table and one for each line of input.
+        let lines = events.split_inclusive(|byte| *byte == b'\n').count();
+        assert_eq!(out.iter().filter(|byte| **byte == b'\n').count(), lines + 1);
+    }
+}
+
+#[test]
+fn gfc_0_wins_over_a_vpi_above_255() {
+    let wide = Header { vpi: 0xABC, vci: 0x1234, tail: 5 };
+    assert_eq!(wide.write(Link::Uni), [0x0B, 0xC1, 0x23, 0x45]);
+    assert_eq!(wide.write(Link::Nni), [0xAB, 0xC1, 0x23, 0x45]);
+}

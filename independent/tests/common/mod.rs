@@ -1,0 +1,159 @@
+//! What the tests share.
+#![allow(dead_code)]
+
+use independent::codec::{header_check, parity, Routing, Target};
+use independent::{load, Arrival, Card, Counters, Hearing, Refused, SentFrame, Shelf, Taking};
+
+/// The table of document 01, tabs shown as blanks.
+pub const LISTING_TABLE: &str = "\
+bus 16
+unit 0 uni 5 2 one 0 0 100 0
+unit 3 uni 0 1 four 40 30 20 1
+page 0 5 33
+vc 0 5 33 u3 2 9 40
+";
+
+/// Names of the counters in the order of document 01.
+pub const NAMES: [&str; 13] = [
+    "arrived",
+    "hec",
+    "ignored",
+    "misrouted",
+    "inletfull",
+    "sent",
+    "unheard",
+    "damaged",
+    "queued",
+    "full",
+    "clp",
+    "wide",
+    "taken",
+];
+
+pub fn tabs(text: &str) -> String {
+    text.replace(' ', "\t")
+}
+
+/// A loaded shelf with all that is lent to it.
+#[derive(Clone, PartialEq, Debug)]
+pub struct Rig {
+    pub shelf: Shelf,
+    pub memory: Vec<u8>,
+    pub store_len: usize,
+    pub rows: Vec<Counters>,
+    pub used: usize,
+}
+
+impl Rig {
+    /// Loads a good table (blanks for tabs) with 32 rows and store enough.
+    pub fn new(card: Card, table: &str) -> Rig {
+        let mut memory = vec![0xEE; 262_144];
+        let mut rows = vec![Counters::default(); 32];
+        let store_len = 32 * 8_192;
+        let (shelf, outcome) = load(card, tabs(table).as_bytes(), &mut memory, store_len, &mut rows);
+        let used = outcome.expect("a good table");
+        Rig { shelf, memory, store_len, rows, used }
+    }
+
+    pub fn wide(table: &str) -> Rig {
+        Rig::new(Card::Wide, table)
+    }
+
+    pub fn arrive(&mut self, unit: u32, cell: &[u8]) -> Result<Arrival, Refused> {
+        self.shelf.arrive(unit, cell, &self.memory, self.store_len, &mut self.rows)
+    }
+
+    /// A sound cell with this header arrives.
+    pub fn arrive_header(&mut self, unit: u32, header: [u8; 4]) -> Arrival {
+        self.arrive(unit, &cell(header, 0xA5)).expect("not refused")
+    }
+
+    /// The next frame and its bytes; 0xEE where it left the buffer unchanged.
+    pub fn frame(&mut self) -> (SentFrame, [u8; 57]) {
+        let mut buffer = [0xEE; 57];
+        let sent = self.shelf.frame(&mut buffer, self.store_len, &mut self.rows);
+        (sent.expect("not refused"), buffer)
+    }
+
+    pub fn hear(&mut self, unit: u32, frame: &[u8]) -> Result<Hearing, Refused> {
+        self.shelf.hear(unit, frame, self.store_len, &mut self.rows)
+    }
+
+    /// The cell taken, if any; an empty take must leave the buffer unchanged.
+    pub fn take(&mut self, unit: u32) -> Option<[u8; 53]> {
+        let mut buffer = [0xEE; 53];
+        let taking = self.shelf.take(unit, &mut buffer, self.store_len, &mut self.rows);
+        match taking.expect("not refused") {
+            Taking::Taken => Some(buffer),
+            Taking::Empty => {
+                assert_eq!(buffer, [0xEE; 53]);
+                None
+            }
+        }
+    }
+
+    pub fn count(&self, unit: u32) -> Counters {
+        self.shelf.count(unit, self.store_len, &self.rows).expect("not refused")
+    }
+
+    /// Names of the counters that `event` bumps by one, with their rows.
+    pub fn bumps<T>(&mut self, event: impl FnOnce(&mut Rig) -> T) -> (T, Vec<(usize, &'static str)>) {
+        let before = self.rows.clone();
+        let result = event(self);
+        let mut bumped = Vec::new();
+        for (row, (old, new)) in before.iter().zip(&self.rows).enumerate() {
+            for (name, (old, new)) in NAMES.iter().zip(old.list().iter().zip(new.list())) {
+                match new.wrapping_sub(*old) {
+                    0 => {}
+                    1 => bumped.push((row, *name)),
+                    more => panic!("{name} of row {row} went up by {more}"),
+                }
+            }
+        }
+        (result, bumped)
+    }
+}
+
+/// A line cell with a right check.
+pub fn cell(header: [u8; 4], payload: u8) -> [u8; 53] {
+    let mut cell = [payload; 53];
+    cell[..4].copy_from_slice(&header);
+    cell[4] = header_check(header);
+    cell
+}
+
+/// A bus frame with right parity and tandem header 0.
+pub fn frame(routing: u16, header: [u8; 4], payload: u8) -> [u8; 57] {
+    let mut frame = [payload; 57];
+    frame[..2].copy_from_slice(&routing.to_be_bytes());
+    frame[2..4].fill(0);
+    frame[4..8].copy_from_slice(&header);
+    frame[56] = parity(&frame[..56]);
+    frame
+}
+
+/// Routing headers by target.
+pub fn to_unit(unit: u8, class: u8) -> u16 {
+    Routing { target: Target::Unit(unit), class }.encode()
+}
+
+pub fn to_session(session: u8, class: u8) -> u16 {
+    Routing { target: Target::Session(session), class }.encode()
+}
+
+pub fn to_all(class: u8) -> u16 {
+    Routing { target: Target::Broadcast, class }.encode()
+}
+
+/// A cell header as the bus has it.
+pub fn header(vpi: u16, vci: u16, tail: u8) -> [u8; 4] {
+    (u32::from(vpi) << 20 | u32::from(vci) << 4 | u32::from(tail)).to_be_bytes()
+}
+
+/// Loads and gives the refusal's number and line, or the bytes used.
+pub fn try_load(card: Card, text: &[u8], memory: usize) -> Result<usize, (u8, usize)> {
+    let mut memory = vec![0xEE; memory];
+    let mut rows = vec![Counters::default(); 32];
+    let (_, outcome) = load(card, text, &mut memory, 32 * 8_192, &mut rows);
+    outcome.map_err(|refusal| (refusal.number(), refusal.line))
+}
