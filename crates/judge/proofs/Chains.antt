@@ -1,21 +1,18 @@
 -- The judges, test by test. Assumes nothing.
-use mathlib.Core.Path.{_≡_, refl, sym, ap, _∙_}
-use mathlib.Core.Bool.{Bool, true, false, cond, not}
+use mathlib.Core.Path.{_≡_, refl}
+use mathlib.Core.Bool.{Bool, true, false, not}
 use Prim.Native.Nat.{ℕ, _+_, _*_, _<_, _≤_}
 use native.Mathlib.Omega.{arith}
-use lib.Dec.{leb, ltb}
 use lib.ListN.{length}
 use borrow.Author.Tests.{not-true, not-false, le-leb, lt-leb, lt-ltb, le-ltb}
 use Rattle.header.specs.declared.Link.{Link}
 use Rattle.routing.specs.declared.Target.{Target}
 use Rattle.card.specs.Cards.{holds}
 use Rattle.card.specs.declared.Card.{Card}
-use Rattle.card.specs.declared.Ask.{Ask}
-use Rattle.card.specs.declared.Ask.the-variants.{Bus as A·Bus, On, Out}
-use Rattle.record.specs.Record.{size, recordAt}
+use Rattle.card.specs.declared.Ask.the-variants.{On, Out}
+use Rattle.record.specs.Record.{size}
 use Rattle.record.specs.declared.Got.{Got}
 use Rattle.shelf.specs.Shelves.{declared, findIn}
-use Rattle.shelf.specs.Sessions.{hears}
 use Rattle.shelf.specs.declared.Unit as U
 use Rattle.shelf.specs.declared.Shelf.{Shelf}
 use Rattle.shelf.specs.declared.Found.{Found}
@@ -26,8 +23,8 @@ use Rattle.line.specs.declared.Line.the-variants.{Bus, Unit as L·Unit, Vp, Dro
 use Rattle.judge.specs.declared.Owner.{Owner}
 use Rattle.judge.specs.declared.Paged.{Paged}
 use Rattle.judge.specs.declared.Verdict.{Verdict}
-use Rattle.judge.specs.declared.Verdict.the-variants.{Fine, Order, Twice, Wide, Room}
-use Rattle.judge.specs.Judge.{asked, roomFor, offBus, taken, pageIn, inPage, judgeBus, judgeUnit, judgeVp, judgeDrop, judgePage, judgeVc, judgeMc}
+use Rattle.judge.specs.declared.Verdict.the-variants.{Fine, Order, Twice, Wide}
+use Rattle.judge.specs.Judge.{asked, roomFor, offBus, taken, pageIn, judgeBus, judgeUnit, judgeVp, judgeDrop, judgePage, judgeVc}
 use Rattle.judge.specs.Standing.{ownerAt, ownerOf, ownedBy, spot, second, isAt, judgeFirst, judgeAt}
 
 -- by the owner

@@ -1,8 +1,7 @@
 -- What is wrong with a line, tried as Order, Twice, Wide, Room. The judges take what stands where, as values. Assumes nothing.
 use Prim.Native.Nat.{ℕ, _+_, _*_}
-use mathlib.Core.Bool.{Bool, true, false, cond, not}
-use mathlib.Core.Option.{Option, none, some}
-use lib.Dec.{eqb, leb, ltb}
+use mathlib.Core.Bool.{Bool, true, false, cond}
+use lib.Dec.{leb, ltb}
 use Rattle.header.specs.declared.Link.{Link}
 use Rattle.routing.specs.declared.Target.{Target}
 use Rattle.routing.specs.declared.Target.the-variants.{Unit as T·Unit, Session, All}

@@ -1,14 +1,13 @@
 -- What a capacity is, what the tests of an outlet say, and that a fresh outlet passes them. Assumes nothing.
-use mathlib.Core.Path.{_≡_, refl, sym, ap, _∙_}
-use mathlib.Core.Bool.{Bool, true, false, _&&_, _||_}
-use mathlib.Core.Logic.{_↔_, _⊎_, inl, inr, ⊎-elim}
-use mathlib.Core.List.{List, [], _∷_}
+use mathlib.Core.Path.{_≡_, refl, sym, _∙_}
+use mathlib.Core.Bool.{Bool, true, false, _&&_}
+use mathlib.Core.Logic.{_↔_}
 use Prim.Native.Nat.{ℕ, zero, suc, _+_, _-_, _≤_, _<_}
 use native.Mathlib.Omega.{arith}
-use lib.Dec.{eqb, leb, ltb, eqb·suc-zero}
+use lib.Dec.{leb, ltb, eqb·suc-zero}
 use lib.ListN.{getD, List·getD-eq-default}
-use borrow.Author.Tests.{eqb-true, eq-eqb, ne-eqb}
-use Rattle.outlet.proofs.Truth.{same, le-iff, lt-iff, eq-iff, and-iff, or-iff}
+use borrow.Author.Tests.{ne-eqb}
+use Rattle.outlet.proofs.Truth.{le-iff, lt-iff, eq-iff, and-iff}
 use Rattle.outlet.specs.Outlets.{capacities, capacity, givenIn, given, GivenIn, Given, within, nothing, ringFits, RingFits, queueFits, ringsFit, outletFits, RingsFit, empty, queue, fresh}
 use Rattle.outlet.specs.declared.Mode.{Mode}
 use Rattle.outlet.specs.declared.Mode.the-variants.{One, Four}

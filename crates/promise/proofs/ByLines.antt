@@ -1,36 +1,35 @@
 -- On a memory that good lines made, the lookup is what the lines say. Assumes nothing.
-use mathlib.Core.Path.{_≡_, refl, sym, ap, ap₂, subst, _∙_}
-use mathlib.Core.Bool.{Bool, true, false, cond, _&&_, false≢true}
+use mathlib.Core.Path.{_≡_, refl, sym, ap, ap₂, _∙_}
+use mathlib.Core.Bool.{Bool, true, false, cond, _&&_}
 use mathlib.Core.List.{List, [], _∷_}
-use mathlib.Core.Option.{Option, none, some}
+use mathlib.Core.Option.{some}
 use Prim.Native.Nat.{ℕ, _+_, _*_, _≤_}
 use native.Mathlib.Omega.{arith}
 use lib.Dec.{eqb, ltb}
-use borrow.Author.Tests.{le-ltb, ltb-false, eqb-true, eq-eqb}
+use borrow.Author.Tests.{le-ltb, ltb-false, eqb-true}
 use Rattle.header.specs.Fields.{fields}
 use Rattle.header.specs.declared.Header as H
 use Rattle.header.specs.declared.Link.{Link}
 use Rattle.routing.specs.Routing.{routing}
 use Rattle.routing.specs.declared.Target.{Target}
 use Rattle.card.specs.declared.Card.{Card}
-use Rattle.record.specs.Record.{size, usable, most, recordAt, Holds}
+use Rattle.record.specs.Record.{size, usable, recordAt, Holds}
 use Rattle.record.specs.declared.Record as R
 use Rattle.record.specs.declared.Record.the-variants.{Empty, Drop as R·Drop, Route, Page as R·Page}
 use Rattle.record.specs.declared.Got.{Got}
-use Rattle.record.specs.declared.Got.the-variants.{Is, Nothing}
-use Rattle.lookup.specs.Lookup.{goesBy, byVci, byVpi, byGot, byFields, translated}
+use Rattle.record.specs.declared.Got.the-variants.{Is}
+use Rattle.lookup.specs.Lookup.{goesBy, byVci, byVpi, byGot, translated}
 use Rattle.lookup.specs.declared.Looked.{Looked}
 use Rattle.lookup.specs.declared.Looked.the-variants.{Ignored, Misrouted}
 use Rattle.line.specs.declared.Line.{Line}
 use Rattle.line.specs.declared.Line.the-variants.{Bus, Unit as L·Unit, Vp, Drop, Page, Vc, Mc}
-use Rattle.judge.specs.declared.Verdict.the-variants.{Fine}
-use Rattle.told.specs.Told.{Whose, ofUnit, ofPage, same, gives, only, either, else, topOf, givenBy, total, recordOf, memoryOf}
-use Rattle.told.specs.Lines.{judge, Good}
+use Rattle.told.specs.Told.{Whose, ofUnit, ofPage, same, gives, topOf, recordOf, memoryOf}
+use Rattle.told.specs.Lines.{Good}
 use Rattle.told.proofs.Regions.{start, both-left, both-right}
-use Rattle.told.proofs.Fits.{AtPath, AtCircuit, fine-vp, fine-drop, fine-page, fine-vc}
-use Rattle.told.proofs.Grown.{decide, Grown, grown, page-new}
+use Rattle.told.proofs.Fits.{fine-page, fine-vc}
+use Rattle.told.proofs.Grown.{decide, grown, page-new}
 use Rattle.told.proofs.Memory.{AllRanged, records-hold, stands-at}
-use Rattle.promise.specs.Served.{Serving, by-vp, by-drop, by-vc, serves, served, become, lookedUp}
+use Rattle.promise.specs.Served.{serves, served, become, lookedUp}
 
 -- what becomes of a cell by the record of its VPI and by that of its VCI in the page
 abbrev by : R.Record → R.Record → H.Header → Looked

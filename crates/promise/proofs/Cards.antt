@@ -5,7 +5,7 @@ use mathlib.Core.Bool.{Bool, true, false, cond, not}
 use mathlib.Core.List.{List, [], _∷_, _++_}
 use mathlib.Core.Option.{Option, none, some}
 use mathlib.Core.Logic.{_⊎_, inl, inr, ⊎-elim}
-use Prim.Native.Nat.{ℕ, _+_, _*_, _<_, _≤_}
+use Prim.Native.Nat.{ℕ, _+_, _*_}
 use native.Mathlib.Omega.{arith}
 use lib.Dec.{leb, ltb}
 use lib.ListN.{length, getD}
@@ -14,32 +14,30 @@ use Rattle.card.specs.declared.Card.{Card}
 use Rattle.card.specs.declared.Card.the-variants.{Narrow, Wide as W}
 use Rattle.card.specs.declared.Ask.{Ask}
 use Rattle.card.specs.declared.Ask.the-variants.{Bus as A·Bus, On, Out}
-use Rattle.record.specs.Record.{size, usable, recordAt, cleared}
+use Rattle.record.specs.Record.{size, usable, recordAt}
 use Rattle.record.specs.declared.Record as R
 use Rattle.record.specs.declared.Record.the-variants.{Empty, Drop as R·Drop, Route, Page as R·Page}
 use Rattle.record.specs.declared.Got.the-variants.{Is}
 use Rattle.lookup.specs.Lookup.{translated}
 use Rattle.shelf.specs.Shelves.{blank, declared, findIn}
-use Rattle.shelf.specs.declared.Unit as U
 use Rattle.shelf.specs.declared.Found.the-variants.{At, Nothing}
 use Rattle.line.specs.declared.Line.{Line}
 use Rattle.line.specs.declared.Line.the-variants.{Bus, Unit as L·Unit, Vp, Drop, Page, Vc, Mc}
 use Rattle.line.specs.declared.Reading.{Reading}
 use Rattle.line.specs.declared.Reading.the-variants.{Good as Read}
 use Rattle.judge.specs.declared.Verdict.{Verdict}
-use Rattle.judge.specs.declared.Verdict.the-variants.{Fine, Order, Twice, Wide, Room}
-use Rattle.judge.specs.Judge.{asked, roomFor, offBus, taken, pageIn, inPage, judgeBus, judgeUnit, judgeVp, judgeDrop, judgePage, judgeVc, judgeMc}
+use Rattle.judge.specs.declared.Verdict.the-variants.{Fine, Order, Twice, Wide}
+use Rattle.judge.specs.Judge.{asked, roomFor, offBus, taken, pageIn, inPage, judgeBus, judgeUnit, judgeVp, judgeVc}
 use Rattle.told.specs.Told.{ofUnit, ofPage, topOf, total, recordOf, shelfOf, memoryOf}
 use Rattle.told.specs.Lines.{started, isFirst, owned, isDeclared, judge, Good}
-use Rattle.told.proofs.Regions.{start}
 use Rattle.told.proofs.Fits.{order-fine, twice-fine, wide-fine}
 use Rattle.told.proofs.Grown.{decide}
 use Rattle.told.proofs.Memory.{AllRanged}
 use Rattle.told.proofs.Shelved.{shelved}
-use Rattle.table.specs.declared.Outcome.the-variants.{Loaded, Refused}
-use Rattle.table.specs.Load.{refusal, load, loaded}
+use Rattle.table.specs.declared.Outcome.the-variants.{Refused}
+use Rattle.table.specs.Load.{load, loaded}
 use Rattle.promise.specs.Served.{lookedUp, lookupAt, saidBy}
-use Rattle.promise.specs.Refusals.{linesOf, readThen, AllGood, FirstFault, AtLine, Accepts, Refuses}
+use Rattle.promise.specs.Refusals.{linesOf, readThen, AllGood, FirstFault, Accepts, Refuses}
 use Rattle.promise.specs.Narrow.{tooWide, NoneWide, FirstWide}
 use Rattle.promise.proofs.Runs.{good-ranged}
 use Rattle.promise.proofs.ByLines.{lookup-lines}

@@ -1,9 +1,9 @@
 -- When a table is refused, and with what; when it is accepted, and with what. Assumes nothing.
 use mathlib.Core.Path.{_≡_, refl, sym, ap, ap₂, subst, _∙_}
 use mathlib.Core.Bool.{Bool, true, false, _||_, false≢true}
-use mathlib.Core.List.{List, [], _∷_}
+use mathlib.Core.List.{List}
 use mathlib.Core.Logic.{_⊎_, inl, inr, ⊎-elim}
-use Prim.Native.Nat.{ℕ, _+_, _*_, _<_, _≤_}
+use Prim.Native.Nat.{ℕ, _*_, _<_, _≤_}
 use native.Mathlib.Omega.{arith}
 use lib.Dec.{ltb}
 use lib.ListN.{length}
@@ -17,12 +17,11 @@ use Rattle.judge.specs.Judge.{numberOf}
 use Rattle.told.specs.Told.{total, shelfOf, memoryOf}
 use Rattle.told.specs.Lines.{Ran, done, stopped}
 use Rattle.told.proofs.Grown.{decide}
-use Rattle.table.specs.declared.Outcome.{Outcome}
 use Rattle.table.specs.declared.Outcome.the-variants.{Loaded, Refused}
 use Rattle.table.specs.declared.Loading.{Loading}
 use Rattle.table.specs.Load.{ranOf, refusal, tooLittle, loadingOf, memoryRan, load, loaded}
 use Rattle.table.proofs.Cleared.{load-long, load-short}
-use Rattle.promise.specs.Refusals.{linesOf, AllGood, Long, AtLine, Store, Accepts, Refuses}
+use Rattle.promise.specs.Refusals.{linesOf, Long, AtLine, Store, Accepts, Refuses}
 use Rattle.promise.proofs.Runs.{done-iff-good, fault-first, first-stops, ran-lines}
 
 pub loaded-refused : {used number line : ℕ} → Loaded used ≡ Refused number line → ⊥

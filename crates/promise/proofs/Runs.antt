@@ -1,8 +1,8 @@
 -- Reading lines: all are good, or one is the first that is not; and the numbers of the good ones are in range. Assumes nothing.
 use mathlib.Core.Path.{_≡_, refl, sym, ap, subst, _∙_}
-use mathlib.Core.Bool.{Bool, true, false, cond, false≢true}
+use mathlib.Core.Bool.{Bool, true, false, false≢true}
 use mathlib.Core.List.{List, [], _∷_}
-use Prim.Native.Nat.{ℕ, zero, suc, _+_, _*_, _<_, _≤_}
+use Prim.Native.Nat.{ℕ, _+_}
 use native.Mathlib.Numerals.{add-one}
 use native.Mathlib.Omega.{arith}
 use lib.Dec.{eqb}
@@ -16,9 +16,9 @@ use Rattle.line.specs.declared.Reading.{Reading}
 use Rattle.line.specs.declared.Reading.the-variants.{Good as Read, Bad}
 use Rattle.line.proofs.Ranges.{read-in-range}
 use Rattle.judge.specs.declared.Verdict.{Verdict}
-use Rattle.judge.specs.declared.Verdict.the-variants.{Fine, Form}
+use Rattle.judge.specs.declared.Verdict.the-variants.{Fine}
 use Rattle.judge.specs.Judge.{isFine}
-use Rattle.told.specs.Lines.{judge, Good, Ran, done, stopped, verdictOn, with, run}
+use Rattle.told.specs.Lines.{judge, Good, Ran, done, stopped, verdictOn, run}
 use Rattle.told.proofs.Grown.{decide}
 use Rattle.told.proofs.Memory.{Ranged, AllRanged}
 use Rattle.table.specs.Load.{readingsOf, ranOf}

@@ -1,7 +1,7 @@
 -- When loading refuses a table: 01's refusals 1 to 7, told of the text's lines. Assumes nothing.
 use Prim.Native.Nat.{ℕ, _+_, _*_, _<_, _≤_}
 use mathlib.Core.Path.{_≡_}
-use mathlib.Core.Bool.{Bool, true, false, cond}
+use mathlib.Core.Bool.{cond}
 use mathlib.Core.List.{List, [], _∷_}
 use mathlib.Core.Logic.{_⊎_}
 use lib.Dec.{eqb}
@@ -17,7 +17,7 @@ use Rattle.judge.specs.declared.Verdict.{Verdict}
 use Rattle.judge.specs.declared.Verdict.the-variants.{Fine}
 use Rattle.judge.specs.Judge.{numberOf}
 use Rattle.told.specs.Told.{shelfOf}
-use Rattle.told.specs.Lines.{judge, verdictOn, Good}
+use Rattle.told.specs.Lines.{verdictOn, Good}
 use Rattle.table.specs.Load.{readingsOf}
 
 -- the lines of a text; "empty text (line 1)" is a line that no newline ended

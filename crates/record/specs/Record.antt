@@ -1,7 +1,7 @@
 -- A translation record in its bytes, and a memory of records. Assumes nothing.
-use Prim.Native.Nat.{ℕ, _+_, _*_, _/_, _%_, _^_, _<_, min}
-use mathlib.Core.Bool.{Bool, true, false, cond}
-use mathlib.Core.List.{List, [], _∷_, _++_}
+use Prim.Native.Nat.{ℕ, _+_, _%_, _^_, _<_, min}
+use mathlib.Core.Bool.{Bool, cond}
+use mathlib.Core.List.{List, _∷_, _++_}
 use lib.ListN.{length, getD, drop, replicate}
 use lib.Dec.{leb, eqb}
 use Rattle.octets.specs.Octets.{be2, be4, two, four, splice, part, cat}

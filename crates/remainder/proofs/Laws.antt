@@ -4,10 +4,10 @@ use mathlib.Core.Path.{_≡_, refl, sym, ap, ap₂, _∙_}
 use mathlib.Core.Bool.{Bool, true, false, cond}
 use mathlib.Core.List.{List, [], _∷_, _++_, append-assoc, append-nil}
 use Prim.Native.Nat.{ℕ, zero, suc, _+_, _*_, _/_, _%_, _^_, _<_, _≤_}
-use native.Mathlib.Nat.{suc-add, add-suc, zero-add, le-of-suc-le-suc, not-suc-le-zero, mul-zero, mul-suc, add-comm}
+use native.Mathlib.Nat.{suc-add, zero-add, le-of-suc-le-suc, not-suc-le-zero, mul-zero, mul-suc, add-comm}
 use native.Mathlib.Omega.{arith}
-use lib.ListN.{length, length-append, replicate, length-replicate}
-use lib.Bits.{bitXor, xor-lt}
+use lib.ListN.{length, length-append, length-replicate}
+use lib.Bits.{bitXor}
 use Rattle.remainder.specs.Bits.{bits, number, bitsOf}
 use Rattle.remainder.specs.Division.{less, minus, divide, zeros, remainder, residue}
 use Rattle.remainder.proofs.Digits.{bits-length, bits-xor, bits-append, bits-mod, number-of, number-lt, bits-number}

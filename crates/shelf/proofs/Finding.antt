@@ -4,14 +4,14 @@ use mathlib.Core.Logic.{_↔_}
 use mathlib.Core.List.{List, [], _∷_, _++_, map, map-append}
 use mathlib.Core.Bool.{Bool, true, false, cond}
 use Prim.Native.Nat.{ℕ, zero, suc, _+_, _≤_, _<_, min}
-use native.Mathlib.Nat.{not-suc-le-zero, le-of-suc-le-suc, zero-add, add-zero}
+use native.Mathlib.Nat.{not-suc-le-zero, zero-add, add-zero}
 use native.Mathlib.Numerals.{add-one}
 use native.Mathlib.Omega.{arith}
 use lib.Dec.{eqb}
-use lib.ListN.{length, getD, drop, take, set, length-map, length-take, drop-of-length-le}
+use lib.ListN.{length, getD, drop, set, length-map, length-take, drop-of-length-le}
 use lib.Seq.{drop-cons, getD-take, map-set-same}
 use borrow.Author.Tests.{eq-eqb, ne-eqb, eqb-true, eqb-false}
-use Rattle.shelf.specs.Shelves.{declared, blank, numberOf, numbers, placeFrom, findIn, FoundAt, FoundNowhere}
+use Rattle.shelf.specs.Shelves.{declared, numberOf, numbers, placeFrom, findIn, FoundAt, FoundNowhere}
 use Rattle.shelf.specs.declared.Unit as U
 use Rattle.shelf.specs.declared.Shelf.{Shelf}
 use Rattle.shelf.specs.declared.Found.{Found}

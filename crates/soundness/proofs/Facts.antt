@@ -1,12 +1,11 @@
 -- The test of the state, item by item as facts. Assumes nothing.
-use mathlib.Core.Path.{_≡_, refl, sym, ap, subst, _∙_}
-use mathlib.Core.Bool.{Bool, true, false, not, _&&_, _||_, false≢true}
+use mathlib.Core.Path.{_≡_, refl, sym, subst, _∙_}
+use mathlib.Core.Bool.{Bool, true, false, not, _||_, false≢true}
 use mathlib.Core.Logic.{_↔_, _⊎_, inl, inr, ⊎-elim, Iff·rfl}
 use mathlib.Core.List.{List, [], _∷_}
-use Prim.Native.Nat.{ℕ, zero, suc, _+_, _*_, _≤_, _<_}
+use Prim.Native.Nat.{ℕ, zero, suc, _+_, _≤_, _<_}
 use native.Mathlib.Nat.{not-suc-le-zero, zero-add, add-zero}
 use native.Mathlib.Omega.{arith}
-use lib.Dec.{eqb, leb, ltb}
 use lib.ListN.{length, getD}
 use Rattle.header.specs.declared.Link.{Link}
 use Rattle.header.specs.declared.Link.the-variants.{Uni, Nni}
@@ -19,12 +18,11 @@ use Rattle.outlet.proofs.Truth.{le-iff, lt-iff, eq-iff, and-iff, or-iff}
 use Rattle.outlet.proofs.Laws.{given-iff, fits-iff, rings-iff}
 use Rattle.arbiter.specs.Arbitration.{nobody}
 use Rattle.shelf.specs.Shelves.{declared, blank, fresh, numberOf, numbers, findIn}
-use Rattle.shelf.specs.declared.Settings.{Settings}
 use Rattle.shelf.specs.declared.Unit as U
 use Rattle.shelf.specs.declared.Shelf.{Shelf}
 use Rattle.shelf.specs.declared.Found.the-variants.{At}
 use Rattle.shelf.proofs.Finding.{find-at}
-use Rattle.soundness.specs.State.{every, among, noneRepeated, framed, highest, settingsGiven, belowBus, couldBeGiven, withinCapacity, besides, grantHasCell, requestHasCell, nobodyOr, asksKnown, arbiterKnown, soundOf, UnitSound, DeclaredIn, Sound}
+use Rattle.soundness.specs.State.{every, among, noneRepeated, highest, settingsGiven, belowBus, couldBeGiven, withinCapacity, besides, grantHasCell, requestHasCell, nobodyOr, asksKnown, arbiterKnown, soundOf, UnitSound, DeclaredIn, Sound}
 use Rattle.soundness.proofs.Pass.{framed-iff}
 
 -- a test that does not hold, and one that holds where another does

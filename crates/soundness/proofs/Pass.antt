@@ -1,16 +1,16 @@
 -- The one pass over the declared units, with the numbers seen so far, and that it comes to what the document says. Assumes nothing.
 use mathlib.Core.Path.{_≡_, refl, sym, ap, ap₂, _∙_}
-use mathlib.Core.Bool.{Bool, true, false, not, _&&_, _||_, and-true, and-false, and-assoc, or-assoc, or-false, or-true, false≢true}
+use mathlib.Core.Bool.{Bool, true, false, not, _&&_, _||_, and-false, and-assoc, or-assoc, or-false, or-true, false≢true}
 use mathlib.Core.Logic.{_↔_, _⊎_, ⊎-elim, Iff·rfl}
 use mathlib.Core.List.{List, [], _∷_}
 use Prim.Native.Nat.{ℕ, zero, suc, _+_, _*_, _≤_, _<_}
 use native.Mathlib.Numerals.{add-one}
 use native.Mathlib.Omega.{arith}
-use lib.Dec.{eqb, leb, ltb}
-use lib.ListN.{length, getD, set, take, drop, replicate, length-set, length-replicate, drop-of-length-le}
+use lib.Dec.{eqb}
+use lib.ListN.{length, getD, set, drop, replicate, length-set, drop-of-length-le}
 use lib.Seq.{drop-cons, getD-set-same, getD-set-other}
-use borrow.Author.Tests.{ltb-true, eqb-true, eqb-false, not-true, not-false}
-use Rattle.outlet.proofs.Truth.{same, and-iff, or-iff, eq-iff, le-iff, lt-iff}
+use borrow.Author.Tests.{ltb-true, eqb-true, eqb-false}
+use Rattle.outlet.proofs.Truth.{same, and-iff, or-iff, eq-iff, le-iff}
 use Rattle.card.specs.declared.Card.{Card}
 use Rattle.shelf.specs.Shelves.{declared, numberOf, numbers}
 use Rattle.shelf.specs.declared.Unit as U

@@ -1,10 +1,10 @@
 -- A memory that is cleared before, or after, a table was read into it; and what reading a text comes to. Assumes nothing.
-use mathlib.Core.Path.{_≡_, refl, sym, ap, ap₂, subst, _∙_}
-use mathlib.Core.Bool.{Bool, true, false, cond, _||_, false≢true}
+use mathlib.Core.Path.{_≡_, refl, sym, ap, _∙_}
+use mathlib.Core.Bool.{true, false, false≢true}
 use mathlib.Core.List.{List, [], _∷_, _++_, append-assoc}
 use Prim.Native.Nat.{ℕ, _+_, _-_, _*_, _<_, _≤_, min}
 use native.Mathlib.Omega.{arith}
-use lib.Dec.{eqb, ltb}
+use lib.Dec.{eqb}
 use lib.ListN.{length, drop, replicate, length-append, length-replicate, length-drop}
 use lib.Seq.{drop-at}
 use borrow.Author.Tests.{lt-ltb, le-ltb}
@@ -17,7 +17,7 @@ use Rattle.line.specs.declared.Reading.{Reading}
 use Rattle.line.specs.declared.Reading.the-variants.{Good as Read, Bad}
 use Rattle.line.specs.Text.{split}
 use Rattle.judge.specs.declared.Verdict.{Verdict}
-use Rattle.judge.specs.declared.Verdict.the-variants.{Fine, Form}
+use Rattle.judge.specs.declared.Verdict.the-variants.{Form}
 use Rattle.judge.specs.Judge.{numberOf, isFine}
 use Rattle.told.specs.Told.{total, recordOf, records, shelfOf, memoryOf}
 use Rattle.told.specs.Lines.{judge, verdictOn, with, Ran, done, stopped, run, Good}
@@ -27,7 +27,6 @@ use Rattle.told.proofs.Memory.{fits-room}
 use Rattle.table.specs.Load.{readingsOf, ranOf, progressOf, toldIn, tooLittle, refusal, loadingOf, memoryRan, load, loaded}
 use Rattle.table.specs.declared.Outcome.the-variants.{Loaded, Refused}
 use Rattle.table.specs.declared.Progress.{Progress}
-use Rattle.table.specs.declared.Loading.{Loading}
 use Rattle.table.proofs.Leaves.{fine-is}
 
 -- a cleared memory is as long, and keeps what a table may not use

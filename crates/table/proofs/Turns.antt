@@ -1,13 +1,13 @@
 -- The loop over the lines: what is known between two turns, and each kind of turn. Assumes nothing.
 use mathlib.Core.Path.{_≡_, refl, sym, ap, ap₂, subst, _∙_}
-use mathlib.Core.Bool.{Bool, true, false, cond, false≢true}
-use mathlib.Core.List.{List, [], _∷_, _++_}
-use Prim.Native.Nat.{ℕ, zero, suc, _+_, _-_, _*_, _<_, _≤_, min}
+use mathlib.Core.Bool.{true, false, false≢true}
+use mathlib.Core.List.{List, [], _∷_}
+use Prim.Native.Nat.{ℕ, suc, _+_, _-_, _*_, _<_, _≤_}
 use native.Mathlib.Numerals.{add-one}
 use native.Mathlib.Omega.{arith}
 use lib.Dec.{eqb, ltb}
-use lib.ListN.{length, take, drop, drop-of-length-le, length-take, length-drop}
-use borrow.Author.Tests.{ltb-true, ltb-false, lt-ltb, le-ltb, eq-eqb, ne-eqb}
+use lib.ListN.{length, take, drop, length-take, length-drop}
+use borrow.Author.Tests.{ltb-true, ltb-false, lt-ltb, ne-eqb}
 use Rattle.card.specs.declared.Card.{Card}
 use Rattle.record.specs.Record.{size, most, usable, recordAt, cleared, Holds}
 use Rattle.line.specs.Text.{split, at}
@@ -21,12 +21,11 @@ use Rattle.line.specs.Ranges.{InRange}
 use Rattle.line.proofs.Split.{split-some, split-end, split-more, split-last}
 use Rattle.line.proofs.Ranges.{read-in-range}
 use Rattle.judge.specs.declared.Verdict.{Verdict}
-use Rattle.judge.specs.declared.Verdict.the-variants.{Fine, Form}
+use Rattle.judge.specs.declared.Verdict.the-variants.{Fine}
 use Rattle.judge.specs.Judge.{isFine}
 use Rattle.told.specs.Told.{Whose, total, opens, takes, shelfBy, shelfOf, recordOf, memoryOf}
-use Rattle.told.specs.Lines.{isFirst, judge, verdictOn, with, run, done, stopped, Good}
+use Rattle.told.specs.Lines.{isFirst, judge, verdictOn, run, done, stopped, Good}
 use Rattle.told.specs.Enact.{verdictAt, memoryBy, Places}
-use Rattle.told.proofs.Fits.{fine-unit}
 use Rattle.told.proofs.Grown.{decide, grown}
 use Rattle.told.proofs.Memory.{Ranged, AllRanged, fits-room, records-hold, memory-none}
 use Rattle.told.proofs.Shelved.{shelved, place-left}

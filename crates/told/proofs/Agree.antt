@@ -1,40 +1,38 @@
 -- A line judged by what stands in the shelf and the memory of good lines is judged by those lines; and what it does there is the shelf and the
 -- memory of one line more. Assumes nothing.
-use mathlib.Core.Path.{_≡_, refl, sym, ap, ap₂, subst, _∙_}
+use mathlib.Core.Path.{_≡_, refl, ap, _∙_}
 use mathlib.Core.Bool.{Bool, true, false, cond}
 use mathlib.Core.List.{List, [], _∷_}
 use mathlib.Core.Option.{Option, none, some}
-use Prim.Native.Nat.{ℕ, _+_, _*_, _<_, _≤_}
+use Prim.Native.Nat.{ℕ, _+_, _*_, _≤_}
 use lib.Dec.{ltb}
 use lib.ListN.{getD}
 use borrow.Author.Tests.{ltb-false}
 use Rattle.routing.specs.Routing.{routing}
-use Rattle.routing.specs.declared.Target.{Target}
 use Rattle.card.specs.declared.Card.{Card}
 use Rattle.card.specs.declared.Ask.the-variants.{Out}
-use Rattle.record.specs.Record.{size, most, usable, recordAt, written, Holds}
+use Rattle.record.specs.Record.{size, usable, recordAt, written, Holds}
 use Rattle.record.specs.declared.Record as R
 use Rattle.record.specs.declared.Record.the-variants.{Empty, Drop as R·Drop, Route, Page as R·Page}
 use Rattle.record.specs.declared.Got.{Got}
 use Rattle.record.specs.declared.Got.the-variants.{Is}
 use Rattle.shelf.specs.Shelves.{blank, declared, findIn}
-use Rattle.shelf.specs.Sessions.{hears}
 use Rattle.shelf.specs.declared.Unit as U
-use Rattle.shelf.specs.declared.Found.the-variants.{At, Nothing}
+use Rattle.shelf.specs.declared.Found.the-variants.{Nothing}
 use Rattle.line.specs.declared.Line.{Line}
 use Rattle.line.specs.declared.Line.the-variants.{Bus, Unit as L·Unit, Vp, Drop, Page, Vc, Mc}
 use Rattle.judge.specs.declared.Verdict.{Verdict}
 use Rattle.judge.specs.declared.Verdict.the-variants.{Fine, Order, Twice}
-use Rattle.judge.specs.Judge.{asked, roomFor, offBus, taken, pageIn, inPage, judgeBus, judgeUnit, judgeVp, judgeDrop, judgePage, judgeVc, judgeMc}
-use Rattle.told.specs.Told.{Whose, ofUnit, ofPage, opens, gives, topOf, total, recordOf, hearsIn, shelfOf, memoryOf}
+use Rattle.judge.specs.Judge.{asked, roomFor, offBus, taken, pageIn, inPage, judgeUnit, judgeVp, judgeDrop, judgePage, judgeVc, judgeMc}
+use Rattle.told.specs.Told.{Whose, ofUnit, ofPage, opens, gives, topOf, total, recordOf, shelfOf, memoryOf}
 use Rattle.told.specs.Lines.{started, isFirst, owned, isDeclared, judge}
 use Rattle.judge.specs.Standing.{ownerAt, ownerOf, ownedBy, spot, second, isAt, judgeAt}
 use Rattle.told.specs.Enact.{putBy, putIn, putVc, memoryBy}
 use Rattle.told.proofs.Regions.{start}
-use Rattle.told.proofs.Fits.{AtPath, AtCircuit, fine-unit, fine-vp, fine-drop, fine-page, fine-vc}
-use Rattle.told.proofs.Grown.{decide, Grown, page-empty, page-new}
+use Rattle.told.proofs.Fits.{fine-unit, fine-vp, fine-drop, fine-page, fine-vc}
+use Rattle.told.proofs.Grown.{Grown, page-new}
 use Rattle.told.proofs.Memory.{Ranged, stands-at, memory-gift, memory-still, memory-unit, memory-page}
-use Rattle.told.proofs.Shelved.{Stands, Shelved}
+use Rattle.told.proofs.Shelved.{Shelved}
 
 -- past the first line
 first-or : (told : List Line) (x y : Verdict) → x ≡ y → cond (isFirst told) (Order 1) x ≡ started told y

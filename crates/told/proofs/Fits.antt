@@ -1,5 +1,5 @@
 -- What a line that is fine says of the lines before it. Assumes nothing.
-use mathlib.Core.Path.{_≡_, refl, sym, ap, _∙_}
+use mathlib.Core.Path.{_≡_, refl, sym}
 use mathlib.Core.Bool.{Bool, true, false, cond, false≢true}
 use mathlib.Core.List.{List, [], _∷_}
 use mathlib.Core.Option.{Option, none, some}
@@ -10,19 +10,17 @@ use borrow.Author.Tests.{leb-true, leb-false, ltb-false}
 use Rattle.routing.specs.declared.Target.{Target}
 use Rattle.card.specs.Cards.{holds}
 use Rattle.card.specs.declared.Card.{Card}
-use Rattle.card.specs.declared.Ask.{Ask}
 use Rattle.card.specs.declared.Ask.the-variants.{Bus as A·Bus, On, Out}
 use Rattle.record.specs.Record.{size}
 use Rattle.record.specs.declared.Record as R
 use Rattle.record.specs.declared.Record.the-variants.{Empty, Drop as R·Drop, Route, Page as R·Page}
-use Rattle.record.specs.declared.Got.{Got}
-use Rattle.record.specs.declared.Got.the-variants.{Is, Nothing}
+use Rattle.record.specs.declared.Got.the-variants.{Is}
 use Rattle.outlet.specs.declared.Limits.{Limits}
 use Rattle.shelf.specs.declared.Settings.{Settings}
 use Rattle.line.specs.declared.Line.{Line}
 use Rattle.line.specs.declared.Line.the-variants.{Bus, Unit as L·Unit, Vp, Drop, Page, Vc, Mc}
 use Rattle.judge.specs.declared.Verdict.{Verdict}
-use Rattle.judge.specs.declared.Verdict.the-variants.{Fine, Form, Order, Twice, Wide, Room}
+use Rattle.judge.specs.declared.Verdict.the-variants.{Fine, Order, Twice, Wide, Room}
 use Rattle.judge.specs.Judge.{asked, roomFor, offBus, taken, pageIn, inPage, judgeBus, judgeUnit, judgeVp, judgeDrop, judgePage, judgeVc, judgeMc}
 use Rattle.told.specs.Told.{ofUnit, ofPage, topOf, hearsIn, total, recordOf, shelfOf}
 use Rattle.told.specs.Lines.{started, isFirst, owned, isDeclared, judge}

@@ -1,9 +1,9 @@
 -- What holds of good lines: nothing is opened twice, a page record and its page go together, what is not opened has nothing. Assumes nothing.
-use mathlib.Core.Path.{_≡_, refl, sym, ap, ap₂, subst, _∙_}
+use mathlib.Core.Path.{_≡_, refl, sym, ap, ap₂, _∙_}
 use mathlib.Core.Bool.{Bool, true, false, _&&_}
 use mathlib.Core.List.{List, [], _∷_}
 use mathlib.Core.Option.{Option, none, some}
-use Prim.Native.Nat.{ℕ, _+_, _*_, _≤_}
+use Prim.Native.Nat.{ℕ, _*_}
 use native.Mathlib.Omega.{arith}
 use lib.Dec.{eqb}
 use borrow.Author.Tests.{eqb-true, eqb-false, eq-eqb, ne-eqb}
@@ -17,11 +17,11 @@ use Rattle.shelf.specs.declared.Settings.{Settings}
 use Rattle.line.specs.declared.Line.{Line}
 use Rattle.line.specs.declared.Line.the-variants.{Bus, Unit as L·Unit, Vp, Drop, Page, Vc, Mc}
 use Rattle.judge.specs.declared.Verdict.the-variants.{Fine}
-use Rattle.told.specs.Told.{Whose, ofUnit, ofPage, same, Opening, opens, Giving, gives, only, either, else, topBy, topOf, takes, total, givenBy, recordOf}
+use Rattle.told.specs.Told.{Whose, ofUnit, ofPage, same, Opening, opens, Giving, gives, only, else, topBy, topOf, total, recordOf}
 use Rattle.told.specs.Lines.{judge, Good}
-use Rattle.told.proofs.Tabulate.{some-inj, none-some, only-true, only-is, only-false, either-left, either-right}
-use Rattle.told.proofs.Regions.{same-self, same-is, both-left, both-right, start, firstOf, Once}
-use Rattle.told.proofs.Fits.{AtPath, AtCircuit, fine-unit, fine-vp, fine-drop, fine-page, fine-vc}
+use Rattle.told.proofs.Tabulate.{some-inj, none-some, only-true, either-right}
+use Rattle.told.proofs.Regions.{same-is, both-left, both-right, start, Once}
+use Rattle.told.proofs.Fits.{AtPath, fine-unit, fine-vp, fine-drop, fine-page, fine-vc}
 
 pub decide : {P : Type 0} (b : Bool) → (b ≡ true → P) → (b ≡ false → P) → P
 decide true y n = y refl

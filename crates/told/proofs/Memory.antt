@@ -1,14 +1,14 @@
 -- The memory of good lines: what stands at each place is what the lines gave it, and what a line does to it is the memory of one line more.
 -- Assumes nothing.
 use mathlib.Core.Path.{_≡_, refl, sym, ap, ap₂, subst, _∙_}
-use mathlib.Core.Bool.{Bool, true, false, cond, _&&_}
+use mathlib.Core.Bool.{Bool, true, false, _&&_}
 use mathlib.Core.List.{List, [], _∷_, _++_, append-assoc, append-nil}
-use mathlib.Core.Option.{Option, none, some}
+use mathlib.Core.Option.{none, some}
 use Prim.Native.Nat.{ℕ, zero, suc, _+_, _-_, _*_, _^_, _<_, _≤_}
 use native.Mathlib.Nat.{add-zero, sub-zero}
 use native.Mathlib.Numerals.{add-one}
 use native.Mathlib.Omega.{arith}
-use lib.Dec.{eqb, leb}
+use lib.Dec.{eqb}
 use lib.ListN.{length, getD, set, drop, replicate, replicate-append-replicate}
 use borrow.Author.Tests.{leb-true, eq-eqb}
 use Rattle.routing.specs.Routing.{routing}
@@ -21,20 +21,17 @@ use Rattle.octets.specs.Octets.{cat}
 use Rattle.record.specs.Record.{size, most, usable, recordAt, written, cleared, Holds, image}
 use Rattle.record.specs.declared.Record as R
 use Rattle.record.specs.declared.Record.the-variants.{Empty, Drop as R·Drop, Route, Page as R·Page}
-use Rattle.record.specs.declared.Got.{Got}
 use Rattle.record.specs.declared.Got.the-variants.{Is}
 use Rattle.record.proofs.Laws.{image-get, image-put, image-append, image-empty}
 use Rattle.outlet.specs.declared.Limits.{Limits}
 use Rattle.shelf.specs.declared.Settings.{Settings}
 use Rattle.line.specs.declared.Line.{Line}
 use Rattle.line.specs.declared.Line.the-variants.{Bus, Unit as L·Unit, Vp, Drop, Page, Vc, Mc}
-use Rattle.judge.specs.declared.Verdict.the-variants.{Fine}
 use Rattle.told.specs.Told.{Whose, ofUnit, ofPage, same, Opening, opens, Giving, gives, only, else, topOf, takes, total, givenBy, recordOf, tabulate, regionBy, regions, records, memoryOf}
-use Rattle.told.specs.Lines.{judge, Good}
-use Rattle.told.proofs.Tabulate.{tabulate-same}
+use Rattle.told.specs.Lines.{Good}
 use Rattle.told.proofs.Regions.{same-self, start, start-lt, regions-length, regions-at, regions-put, Once}
-use Rattle.told.proofs.Fits.{AtPath, AtCircuit, fine-unit, fine-vp, fine-drop, fine-page, fine-vc}
-use Rattle.told.proofs.Grown.{Grown, grown}
+use Rattle.told.proofs.Fits.{AtPath, fine-unit, fine-vp, fine-page, fine-vc}
+use Rattle.told.proofs.Grown.{Grown}
 
 -- the numbers of a line that the reader keeps in range
 abbrev pub Ranged : Line → Type 0

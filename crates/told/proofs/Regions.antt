@@ -1,10 +1,9 @@
 -- Where the records of a unit or of a page stand, and what one more gift makes of them. Assumes nothing.
 use mathlib.Core.Path.{_≡_, refl, sym, ap, ap₂, _∙_}
 use mathlib.Core.Bool.{Bool, true, false, _&&_, false≢true}
-use mathlib.Core.List.{List, [], _∷_, _++_, append-nil}
+use mathlib.Core.List.{List, [], _∷_, _++_}
 use mathlib.Core.Option.{Option, none, some}
-use Prim.Native.Nat.{ℕ, zero, suc, _+_, _<_, _≤_}
-use native.Mathlib.Nat.{add-assoc}
+use Prim.Native.Nat.{ℕ, _+_, _<_, _≤_}
 use native.Mathlib.Omega.{arith}
 use lib.Dec.{eqb}
 use lib.ListN.{length, getD, set, length-append, List·getD-append}
@@ -12,7 +11,7 @@ use lib.Seq.{set-append-left, getD-append-add}
 use borrow.Author.Tests.{eqb-true, eq-eqb}
 use Rattle.record.specs.declared.Record as R
 use Rattle.line.specs.declared.Line.{Line}
-use Rattle.told.specs.Told.{Whose, ofUnit, ofPage, same, Opening, opens, either, only, topBy, topOf, takes, total, tabulate, regionBy, regions}
+use Rattle.told.specs.Told.{Whose, ofUnit, ofPage, same, Opening, opens, either, topBy, topOf, takes, total, regionBy, regions}
 use Rattle.told.proofs.Tabulate.{some-inj, none-some, only-true, only-is, only-false, either-left, either-right, set-behind, tabulate-length, tabulate-at, tabulate-same, tabulate-put}
 
 -- the same owner

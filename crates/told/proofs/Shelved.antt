@@ -9,29 +9,28 @@ use native.Mathlib.Nat.{not-suc-le-zero}
 use native.Mathlib.Numerals.{add-one}
 use native.Mathlib.Omega.{arith}
 use lib.Dec.{eqb}
-use lib.ListN.{length, getD, set, take, length-set, length-replicate}
+use lib.ListN.{length, getD, set, take, length-set}
 use lib.Seq.{take-suc-set, getD-set-same, getD-set-other, take-set-lt, length-take-le, getD-take}
 use borrow.Author.Tests.{eqb-true, eqb-false, eq-eqb, ne-eqb}
 use Rattle.outlet.specs.declared.Limits.{Limits}
 use Rattle.card.specs.declared.Card.{Card}
 use Rattle.record.specs.Record.{size}
-use Rattle.shelf.specs.Shelves.{unit, fresh, blank, declared, numberOf, findIn, placeFrom}
+use Rattle.shelf.specs.Shelves.{unit, blank, declared, numberOf, findIn, placeFrom}
 use Rattle.shelf.specs.Sessions.{hears, withSession}
 use Rattle.shelf.specs.declared.Settings.{Settings}
 use Rattle.shelf.specs.declared.Unit as U
 use Rattle.shelf.specs.declared.Shelf.{Shelf}
-use Rattle.shelf.specs.declared.Found.{Found}
 use Rattle.shelf.specs.declared.Found.the-variants.{At, Nothing}
 use Rattle.shelf.proofs.Finding.{orElse, find-declared, find-kept}
 use Rattle.shelf.proofs.Hearing.{hears-with, hears-none}
 use Rattle.line.specs.declared.Line.{Line}
 use Rattle.line.specs.declared.Line.the-variants.{Bus, Unit as L·Unit, Vp, Drop, Page, Vc, Mc}
 use Rattle.judge.specs.declared.Verdict.the-variants.{Fine}
-use Rattle.told.specs.Told.{Whose, ofUnit, ofPage, same, opens, only, either, topBy, topOf, total, hearsBy, hearsIn, declare, hearing, joinAt, shelfBy, shelfOf}
+use Rattle.told.specs.Told.{ofUnit, same, opens, topOf, total, hearsBy, hearsIn, declare, hearing, joinAt, shelfBy, shelfOf}
 use Rattle.told.specs.Lines.{isFirst, judge, Good}
 use Rattle.told.proofs.Tabulate.{some-inj, none-some}
-use Rattle.told.proofs.Regions.{start, firstOf}
-use Rattle.told.proofs.Fits.{UnitFine, fine-bus, fine-unit, fine-mc}
+use Rattle.told.proofs.Regions.{start}
+use Rattle.told.proofs.Fits.{fine-bus, fine-unit, fine-mc}
 use Rattle.told.proofs.Grown.{decide}
 use Rattle.told.proofs.Memory.{Ranged, AllRanged}
 

@@ -9,11 +9,10 @@ use Rattle.record.specs.Record.{size}
 use Rattle.record.specs.declared.Got.the-variants.{Is}
 use Rattle.line.specs.declared.Line.{Line}
 use Rattle.line.specs.declared.Line.the-variants.{Bus, Unit as L·Unit, Vp, Drop, Page, Vc, Mc}
-use Rattle.line.specs.declared.Wrong.{Wrong}
 use Rattle.line.specs.declared.Reading.{Reading}
 use Rattle.line.specs.declared.Reading.the-variants.{Good as Read, Bad}
 use Rattle.judge.specs.declared.Verdict.{Verdict}
-use Rattle.judge.specs.declared.Verdict.the-variants.{Fine, Form, Order, Twice, Wide, Room}
+use Rattle.judge.specs.declared.Verdict.the-variants.{Fine, Form, Order}
 use Rattle.judge.specs.Judge.{isFine, judgeBus, judgeUnit, judgeVp, judgeDrop, judgePage, judgeVc, judgeMc}
 use Rattle.told.specs.Told.{ofUnit, ofPage, topOf, hearsIn, total, recordOf, shelfOf}
 

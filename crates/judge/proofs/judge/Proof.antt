@@ -7,16 +7,6 @@ use Rattle.judge.proofs.Chains.{at-first, known-is}
 use borrow.Author.Needs.{needs}
 use Rattle.judge.proofs.judge.Statement.{statement}
 use Rattle.judge.proofs.judge.Tie as tie
-use Rattle.judge.proofs.judge.Reads as reads
-use Rattle.judge.proofs.judge.Lts as lts
-use Rattle.judge.proofs.find_owner.Reads as find-owner-reads
-use Rattle.judge.proofs.judge_drop.Reads as judge-drop-reads
-use Rattle.judge.proofs.judge_first.Reads as judge-first-reads
-use Rattle.judge.proofs.judge_mc.Reads as judge-mc-reads
-use Rattle.judge.proofs.judge_page.Reads as judge-page-reads
-use Rattle.judge.proofs.judge_unit.Reads as judge-unit-reads
-use Rattle.judge.proofs.judge_vc.Reads as judge-vc-reads
-use Rattle.judge.proofs.judge_vp.Reads as judge-vp-reads
 
 judge-first-requires : tie.Need-judge-first-requires
 judge-first-requires c κs = search needs

@@ -9,13 +9,6 @@ use Rattle.table.proofs.Cleared.{cleared-usable, cleared-twice, memory-
 use borrow.Author.Needs.{needs}
 use Rattle.table.proofs.load.Statement.{statement}
 use Rattle.table.proofs.load.Tie as tie
-use Rattle.table.proofs.load.Reads as reads
-use Rattle.table.proofs.load.Lts as lts
-use Rattle.judge.proofs.is_fine.Reads as is-fine-reads
-use Rattle.judge.proofs.number.Reads as number-reads
-use Rattle.record.proofs.clear.Reads as clear-reads
-use Rattle.table.proofs.read_lines.Reads as read-lines-reads
-use Rattle.table.proofs.refused.Reads as refused-reads
 
 clear-requires : tie.Need-clear-requires
 clear-requires c κs = search needs

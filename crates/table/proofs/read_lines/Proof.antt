@@ -17,15 +17,6 @@ use native.Mathlib.Omega.{arith}
 use borrow.Author.Needs.{needs}
 use Rattle.table.proofs.read_lines.Statement.{statement}
 use Rattle.table.proofs.read_lines.Tie as tie
-use Rattle.table.proofs.read_lines.Reads as reads
-use Rattle.table.proofs.read_lines.Lts as lts
-use Rattle.judge.proofs.is_fine.Reads as is-fine-reads
-use Rattle.line.proofs.field_end.Reads as field-end-reads
-use Rattle.line.proofs.read.Reads as read-reads
-use Rattle.shelf.proofs.Shelf.fresh.Reads as fresh-reads
-use Rattle.table.proofs.begin.Reads as begin-reads
-use Rattle.table.proofs.step.Reads as step-reads
-use Rattle.table.proofs.usable.Reads as usable-reads
 
 abbrev Inv-loop : tie.InvT-loop
 Inv-loop card text memory₀ room p₀ from₀ memory p from = (told : List Line) × Between card memory₀ text told from p memory × (length memory ≡ length memory₀)
