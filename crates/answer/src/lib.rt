@@ -1,0 +1,170 @@
+// What an event answers, and which counters of which units rise by it.
+use shelf::Shelf;
+ghost use mathlib.Core.Path.{_≡_};
+ghost use Prim.Native.Nat.{_<_};
+ghost use Rattle.answer.specs.Answers.{none, row as rowOf, arrivalRises, hearingRises, refused as refusedOf, ends as endsWith};
+
+// The fates of an arriving cell.
+pub enum Arrival {
+    Hec,
+    Ignored,
+    Misrouted,
+    Inletfull,
+    Queued,
+}
+
+// The fates of a heard frame at a unit.
+pub enum Hearing {
+    Damaged,
+    Other,
+    Wide,
+    Full,
+    Clp,
+    Queued,
+}
+
+// What is given back.
+pub enum Answer {
+    // a table is loaded and uses so many bytes
+    Loaded(u32),
+    // a table is refused with this number at this line
+    Unloaded {
+        number: u8,
+        line: u32,
+    },
+    // an event is refused with this number
+    Refused(u8),
+    Arrived(Arrival),
+    // its number, who sent, who was granted (either may be arbiter::NOBODY), how many copies were queued
+    Framed {
+        number: u16,
+        sender: u8,
+        granted: u8,
+        copies: u8,
+    },
+    Heard(Hearing),
+    // a cell was taken
+    Taken,
+    // there was none to take
+    Empty,
+}
+
+// An answer, and the shelf as it is afterwards.
+pub struct Reply {
+    pub answer: Answer,
+    pub shelf: Shelf,
+}
+
+// The counters, each a bit: a set of them is a sum.
+pub const ARRIVED: u16 = 1;
+
+pub const HEC: u16 = 2;
+
+pub const IGNORED: u16 = 4;
+
+pub const MISROUTED: u16 = 8;
+
+pub const INLETFULL: u16 = 16;
+
+pub const SENT: u16 = 32;
+
+pub const UNHEARD: u16 = 64;
+
+pub const DAMAGED: u16 = 128;
+
+pub const QUEUED: u16 = 256;
+
+pub const FULL: u16 = 512;
+
+pub const CLP: u16 = 1024;
+
+pub const WIDE: u16 = 2048;
+
+pub const TAKEN: u16 = 4096;
+
+// What becomes of the rows from one place up to another: they start anew, or each has these counters raised.
+pub struct Rises {
+    pub from: usize,
+    pub to: usize,
+    pub anew: bool,
+    pub each: [u16; 32],
+}
+
+// All that an event does but to the lent bytes.
+pub struct Done {
+    pub reply: Reply,
+    pub rises: Rises,
+}
+
+impl Rises {
+    // No row changes.
+    pub fn none() -> Rises
+        ensures { λ r. ⌜ r ≡ none ⌝ }
+    {
+        Rises {
+            from: 0,
+            to: 0,
+            anew: false,
+            each: [0; 32],
+        }
+    }
+
+    // In the row of one place these rise.
+    pub fn row(place: usize, counters: u16) -> Rises
+        requires { ⌜ place < 32 ⌝ }
+        ensures { λ r. ⌜ r ≡ rowOf place counters ⌝ }
+    {
+        let mut each = [0; 32];
+        each[place] = counters;
+        Rises {
+            from: place,
+            to: place + 1,
+            anew: false,
+            each,
+        }
+    }
+}
+
+// The counters that rise by an arrival with this fate.
+pub fn arrival_rises(fate: Arrival) -> u16
+    ensures { λ r. ⌜ r ≡ arrivalRises fate ⌝ }
+{
+    match fate {
+        Arrival::Hec => ARRIVED + HEC,
+        Arrival::Ignored => ARRIVED + IGNORED,
+        Arrival::Misrouted => ARRIVED + MISROUTED,
+        Arrival::Inletfull => ARRIVED + INLETFULL,
+        Arrival::Queued => ARRIVED,
+    }
+}
+
+// The counters that rise at a unit that hears a frame with this fate.
+pub fn hearing_rises(fate: Hearing) -> u16
+    ensures { λ r. ⌜ r ≡ hearingRises fate ⌝ }
+{
+    match fate {
+        Hearing::Damaged => DAMAGED,
+        Hearing::Other => 0,
+        Hearing::Wide => WIDE,
+        Hearing::Full => FULL,
+        Hearing::Clp => CLP,
+        Hearing::Queued => QUEUED,
+    }
+}
+
+// An event is answered, the shelf is this one, and these counters rise.
+pub fn ends(answer: Answer, shelf: Shelf, rises: Rises) -> Done
+    ensures { λ r. ⌜ r ≡ endsWith answer shelf rises ⌝ }
+{
+    Done {
+        reply: Reply { answer, shelf },
+        rises,
+    }
+}
+
+// An event is refused: nothing changes.
+pub fn refused(shelf: Shelf, number: u8) -> Done
+    ensures { λ r. ⌜ r ≡ refusedOf shelf number ⌝ }
+{
+    ends(Answer::Refused(number), shelf, Rises::none())
+}
