@@ -1,0 +1,72 @@
+-- What an event that is let in may count on. Assumes nothing.
+use Prim.Native.Nat.{ℕ, _<_, _≤_}
+use mathlib.Core.Path.{_≡_, refl, sym, _∙_, ap, subst}
+use mathlib.Core.Bool.{Bool, true, false, cond}
+use native.Mathlib.Omega.{arith}
+use lib.ListN.{length, getD, length-take}
+use Rattle.card.specs.declared.Card.{Card}
+use Rattle.shelf.specs.Shelves.{declared, blank, findIn}
+use Rattle.shelf.specs.declared.Shelf.{Shelf}
+use Rattle.shelf.specs.declared.Found as F
+use Rattle.shelf.specs.declared.Found.the-variants as found
+use Rattle.shelf.proofs.Finding.{declared-at, find-at}
+use Rattle.store.proofs.Slots.{part-inside}
+use Rattle.soundness.proofs.Facts.{sound-iff}
+use Rattle.soundness.specs.State.{soundOf}
+use Rattle.admit.specs.Admission.{atUnit, admitted, unitAt, Housed}
+use Rattle.admit.specs.declared.Admitted.the-variants.{At, Refused}
+
+-- the four ways through, in 01's order
+module _ (card : Card) (shelf : Shelf) (store rows unit : ℕ) (right : Bool) where
+  pub unsound : soundOf card shelf store rows ≡ false → admitted card shelf store rows unit right ≡ Refused 8
+  unfolding admitted
+  unsound e = rw e
+
+  pub stranger : soundOf card shelf store rows ≡ true → findIn (declared shelf) unit ≡ found.Nothing → admitted card shelf store rows unit right ≡ Refused 9
+  unfolding admitted atUnit
+  stranger e f = rw (e, f)
+
+  pub misfit : (i : ℕ) → soundOf card shelf store rows ≡ true → findIn (declared shelf) unit ≡ found.At i → right ≡ false → admitted card shelf store rows unit right ≡ Refused 10
+  unfolding admitted atUnit
+  misfit i e f r = rw (e, f, r)
+
+  pub let-in : (i : ℕ) → soundOf card shelf store rows ≡ true → findIn (declared shelf) unit ≡ found.At i → right ≡ true → admitted card shelf store rows unit right ≡ At i
+  unfolding admitted atUnit
+  let-in i e f r = rw (e, f, r)
+
+-- a unit that a sound shelf has
+module _ (card : Card) (shelf : Shelf) (store rows : ℕ) where
+  pub sound-housed : soundOf card shelf store rows ≡ true → (i : ℕ) → i < length (declared shelf) → Housed i (unitAt shelf i) store × (i < rows)
+  sound-housed e i h =
+      let s = sound-iff card shelf store rows .0 e in
+      let k : i < shelf .count = omega (arith, length-take (shelf .count) (shelf .units), h) in
+      let u = s .units i h in
+      let m : Housed i (getD (declared shelf) i blank) store =
+      record {
+        below = omega (arith, s .count);
+        inside = part-inside i (shelf .count) store k (s .store);
+        limits = u .limits;
+        queues = u .queues;
+        inlet = u .inlet;
+      } in
+      (subst (λ x. Housed i x store) (declared-at shelf i blank k) m, omega (arith, s .rows))
+
+-- an event that is let in: the state is sound, the unit is declared and stands in the place, the slice has its length
+pub record LetIn (card : Card) (shelf : Shelf) (store rows unit : ℕ) (right : Bool) (i : ℕ) : Type 0 where
+  pub sound : soundOf card shelf store rows ≡ true
+  pub found : findIn (declared shelf) unit ≡ found.At i
+  pub fits : right ≡ true
+
+module _ (card : Card) (shelf : Shelf) (store rows unit : ℕ) (right : Bool) (i : ℕ) where
+  pub at-let-in : admitted card shelf store rows unit right ≡ At i → LetIn card shelf store rows unit right i
+  unfolding admitted atUnit
+  at-let-in e = pick (soundOf card shelf store rows) refl (findIn (declared shelf) unit) refl right refl e
+    where
+      pick : (s : Bool) → soundOf card shelf store rows ≡ s → (f : F.Found) → findIn (declared shelf) unit ≡ f → (r : Bool) → right ≡ r → cond s (atUnit f r) (Refused 8) ≡ At i → LetIn card shelf store rows unit right i
+      pick true es (found.At j) ef true er h = let q : j ≡ i = cc in record { sound = es; found = ef ∙ ap found.At q; fits = er }
+      pick true es (found.At j) ef false er h = let z : _≡_ {A = ℕ} 0 1 = cc in absurd (omega arith)
+      pick true es found.Nothing ef r er h = let z : _≡_ {A = ℕ} 0 1 = cc in absurd (omega arith)
+      pick false es f ef r er h = let z : _≡_ {A = ℕ} 0 1 = cc in absurd (omega arith)
+
+  pub let-in-housed : LetIn card shelf store rows unit right i → Housed i (unitAt shelf i) store × (i < rows)
+  let-in-housed l = sound-housed card shelf store rows (l .sound) i (find-at unit (declared shelf) i .0 (l .found) .inside)

@@ -1,0 +1,16 @@
+-- `admit::counted` meets its contract. Assumes nothing.
+use borrow.Author.Needs.{needs}
+use Rattle.admit.proofs.counted.Statement.{statement}
+use Rattle.admit.proofs.counted.Tie as tie
+
+admit-requires : tie.Need-admit-requires
+admit-requires c κs = search needs
+
+told-apart-requires : tie.Need-told-apart-requires
+told-apart-requires c κs = search needs
+
+returns : tie.Need-returns
+returns c = rw (c .told-apart .ensures, c .before .admit .ensures)
+
+pub counted-spec : {M : Type 1} → statement M
+counted-spec = tie.close (tie.spec admit-requires told-apart-requires returns)
