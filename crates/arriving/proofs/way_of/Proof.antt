@@ -1,0 +1,47 @@
+-- `arriving::way_of` meets its contract. Assumes nothing.
+use mathlib.Core.Path.{_≡_, sym}
+use mathlib.Core.Bool.{true, false}
+use lib.ListN.{getD}
+use Rattle.octets.specs.Octets.{four}
+use Rattle.record.specs.Record.{recordAt}
+use Rattle.lookup.specs.Lookup.{soundHeader, translated}
+use Rattle.arriving.proofs.Leaves.{unheaded, headed}
+use Rattle.arriving.specs.Arriving.{wayBy}
+use mathlib.Core.Path.{ap, _∙_}
+use borrow.Author.Tests.{not-true, not-false}
+use borrow.Author.Needs.{needs}
+use Rattle.arriving.proofs.way_of.Statement.{statement}
+use Rattle.arriving.proofs.way_of.Tie as tie
+
+four-requires : tie.Need-four-requires
+four-requires c κs = search needs
+
+shared-slice-read-sound : tie.Need-shared-slice-read-sound
+shared-slice-read-sound c = search needs
+
+sound-requires : tie.Need-sound-requires
+sound-requires c κs = search needs
+
+returns : tie.Need-returns
+returns c = let a = c .before .before .before .before .before .before .args in let e : soundHeader (four (a .cell .now) 0) (getD (a .cell .now) 4 0) ≡ false = ap (λ n. soundHeader n (getD (a .cell .now) 4 0)) (sym (c .before .before .before .four .ensures)) ∙ sym (c .before .sound .ensures) ∙ not-true _ (c .if1 .taken) in unheaded _ _ _ _ e
+
+translate-requires : tie.Need-translate-requires
+translate-requires c κs = search needs
+
+way-by-requires : tie.Need-way-by-requires
+way-by-requires c κs = search needs
+
+returns-2 : tie.Need-returns-2
+returns-2 c = let a = c .before .before .before .before .before .before .before .before .before .args in let e : soundHeader (four (a .cell .now) 0) (getD (a .cell .now) 4 0) ≡ true = ap (λ n. soundHeader n (getD (a .cell .now) 4 0)) (sym (c .before .before .before .before .before .before .four .ensures)) ∙ sym (c .before .before .before .before .sound .ensures) ∙ not-false _ (c .before .before .before .if1 .left) in c .way-by .ensures ∙ ap wayBy (c .before .translate .ensures ∙ ap (translated (recordAt (a .card) (a .memory .now)) (a .unit .settings .link) (a .unit .settings .top) (a .unit .place)) (c .before .before .before .before .before .before .four .ensures)) ∙ headed (a .card) (a .unit) (a .memory .now) (a .cell .now) e
+
+pub way-of-spec : {M : Type 1} → statement M
+way-of-spec =
+    tie.close
+    (tie.spec
+    four-requires
+    shared-slice-read-sound
+    sound-requires
+    returns
+    translate-requires
+    way-by-requires
+    returns-2)
