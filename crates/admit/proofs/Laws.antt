@@ -4,8 +4,10 @@ use mathlib.Core.Path.{_≡_, refl, sym, _∙_, ap, subst}
 use mathlib.Core.Bool.{Bool, true, false, cond}
 use native.Mathlib.Omega.{arith}
 use lib.ListN.{length, getD, length-take}
+use Rattle.octets.proofs.Parts.{getD-any}
 use Rattle.card.specs.declared.Card.{Card}
 use Rattle.shelf.specs.Shelves.{declared, blank, findIn}
+use Rattle.shelf.specs.declared.Unit as U
 use Rattle.shelf.specs.declared.Shelf.{Shelf}
 use Rattle.shelf.specs.declared.Found as F
 use Rattle.shelf.specs.declared.Found.the-variants as found
@@ -70,3 +72,7 @@ module _ (card : Card) (shelf : Shelf) (store rows unit : ℕ) (right : Bool) (i
 
   pub let-in-housed : LetIn card shelf store rows unit right i → Housed i (unitAt shelf i) store × (i < rows)
   let-in-housed l = sound-housed card shelf store rows (l .sound) i (find-at unit (declared shelf) i .0 (l .found) .inside)
+
+-- the unit that was copied out is the one in its place
+pub copied : (shelf : Shelf) (place : ℕ) (d : U.Unit) → length (shelf .units) ≡ 32 → place < 32 → getD (shelf .units) place d ≡ unitAt shelf place
+copied shelf place d long h = getD-any (shelf .units) place d blank (omega arith)

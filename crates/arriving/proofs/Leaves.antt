@@ -7,7 +7,6 @@ use mathlib.Core.List.{List}
 use lib.ListN.{length, getD}
 use borrow.Author.Tests.{le-leb, lt-leb, eqb-true}
 use Rattle.octets.specs.Octets.{four, part}
-use Rattle.octets.proofs.Parts.{getD-any}
 use Rattle.card.specs.declared.Card.{Card}
 use Rattle.record.specs.Record.{recordAt}
 use Rattle.lookup.specs.Lookup.{soundHeader, translated}
@@ -18,7 +17,6 @@ use Rattle.store.specs.Rings.{tail, pushed, back}
 use Rattle.store.specs.Places.{Inside, slotAt, inletSlot, putAt}
 use Rattle.store.proofs.Rounds.{back-lt}
 use Rattle.store.proofs.Slots.{slot-inside}
-use Rattle.shelf.specs.Shelves.{blank}
 use Rattle.shelf.specs.declared.Unit as U
 use Rattle.shelf.specs.declared.Shelf.{Shelf}
 use Rattle.answer.specs.declared.Arrival as A
@@ -28,10 +26,6 @@ use Rattle.admit.specs.Admission.{unitAt, withUnit, Housed}
 use Rattle.arriving.specs.Arriving.{wayBy, wayOf, lostBy, arrived, inletFull, withInlet, doneBy, storeBy}
 use Rattle.arriving.specs.declared.Way.{Way}
 use Rattle.arriving.specs.declared.Way.the-variants.{Bus, Lost}
-
--- the unit that was copied out is the one in its place
-pub copied : (shelf : Shelf) (place : ℕ) (d : U.Unit) → length (shelf .units) ≡ 32 → place < 32 → getD (shelf .units) place d ≡ unitAt shelf place
-copied shelf place d long h = getD-any (shelf .units) place d blank (omega arith)
 
 -- by the header check
 pub unheaded : (card : Card) (u : U.Unit) (memory c : List ℕ) → soundHeader (four c 0) (getD c 4 0) ≡ false → Lost Hec ≡ wayOf card u memory c

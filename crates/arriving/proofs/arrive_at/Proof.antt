@@ -1,4 +1,5 @@
 -- `arriving::arrive_at` meets its contract. Assumes nothing.
+use Rattle.admit.proofs.Laws.{copied}
 use Prim.Native.Nat.{_+_, _≤_}
 use mathlib.Core.Path.{_≡_, sym, ap, subst, _∙_}
 use Rattle.octets.specs.Octets.{splice}
@@ -8,7 +9,7 @@ use lib.ListN.{length}
 use Rattle.shelf.proofs.Finding.{length-mapped}
 use Rattle.admit.specs.Admission.{unitAt}
 use Rattle.arriving.specs.Arriving.{wayOf, arrived, doneBy, storeBy}
-use Rattle.arriving.proofs.Leaves.{copied, lost-done, lost-store, full-done, full-store, queued-done, queued-store, inlet-inside}
+use Rattle.arriving.proofs.Leaves.{lost-done, lost-store, full-done, full-store, queued-done, queued-store, inlet-inside}
 use borrow.Author.Needs.{needs}
 use Rattle.arriving.proofs.arrive_at.Statement.{statement}
 use Rattle.arriving.proofs.arrive_at.Tie as tie

@@ -1,0 +1,92 @@
+-- The two ways a copy ends, and what a queued one may count on. Assumes nothing.
+use Prim.Native.Nat.{ℕ, _+_, _-_, _≤_, _<_}
+use native.Mathlib.Omega.{arith}
+use mathlib.Core.Path.{_≡_, refl, sym, ap, subst, _∙_}
+use mathlib.Core.Bool.{Bool, true, false, cond}
+use mathlib.Core.List.{List}
+use lib.Dec.{ltb}
+use lib.ListN.{length, take, length-take}
+use Rattle.outlet.specs.Outlets.{capacity, queue}
+use Rattle.outlet.specs.declared.Ring.{Ring}
+use Rattle.bus.specs.declared.Heard as H
+use Rattle.bus.specs.declared.Heard.the-variants as frame
+use Rattle.queueing.specs.Hearing.{queueOf, fate}
+use Rattle.queueing.specs.declared.Fate as F
+use Rattle.queueing.specs.declared.Fate.the-variants as fates
+use Rattle.queueing.proofs.Fates.{queue-lt}
+use Rattle.store.specs.Rings.{back, tail, pushed}
+use Rattle.store.specs.Places.{Cell, slotAt, outletSlot, putAt}
+use Rattle.store.proofs.Rounds.{back-lt}
+use Rattle.store.proofs.Slots.{by-lt, start-inside, slot-inside}
+use Rattle.shelf.specs.declared.Unit as U
+use Rattle.answer.specs.declared.Hearing as A
+use Rattle.answer.specs.declared.Hearing.the-variants.{Other, Queued}
+use Rattle.admit.specs.Admission.{Housed}
+use Rattle.hearing.specs.Hearings.{addressed, planFor, planOf, lostBy, copyWith, withQueue, copyBy, storeBy}
+use Rattle.hearing.specs.declared.Plan.{Plan}
+use Rattle.hearing.specs.declared.Plan.the-variants.{Queue, Lost}
+
+-- a copy is queued in one of the four queues
+plan-for-queue : (f : F.Fate) (p q : ℕ) → planFor f p ≡ Queue q → p ≡ q
+unfolding planFor
+plan-for-queue fates.Wide p q e = let z : _≡_ {A = ℕ} 0 1 = cc in absurd (omega arith)
+plan-for-queue fates.Full p q e = let z : _≡_ {A = ℕ} 0 1 = cc in absurd (omega arith)
+plan-for-queue fates.Clp p q e = let z : _≡_ {A = ℕ} 0 1 = cc in absurd (omega arith)
+plan-for-queue fates.Queued p q e = cc
+
+pub plan-queue : (u : U.Unit) (h : H.Heard) (q : ℕ) → planOf u h ≡ Queue q → q < 4
+unfolding planOf
+plan-queue u frame.Length q e = let z : _≡_ {A = ℕ} 0 1 = cc in absurd (omega arith)
+plan-queue u frame.Damaged q e = let z : _≡_ {A = ℕ} 0 1 = cc in absurd (omega arith)
+plan-queue u (frame.Cell target class header) q e = pick (addressed u target) e
+  where
+    pick : (b : Bool) → cond b (planFor (fate (u .outlet) (u .settings .link) class header) (queueOf (u .outlet .limits) class)) (Lost Other) ≡ Queue q → q < 4
+    pick true e = subst (λ n. n < 4) (plan-for-queue (fate (u .outlet) (u .settings .link) class header) _ q e) (queue-lt (u .outlet .limits) class)
+    pick false e = let z : _≡_ {A = ℕ} 0 1 = cc in absurd (omega arith)
+
+-- the next place of a queue lies in the store
+back-le : (cap p : ℕ) → back cap p ≤ p
+unfolding back
+back-le cap p = pick (ltb p cap)
+  where
+    pick : (b : Bool) → cond b p (p - cap) ≤ p
+    pick true = omega arith
+    pick false = omega arith
+
+pub outlet-inside : (place bytes : ℕ) (u : U.Unit) (q : ℕ) → Housed place u bytes → q < 4 →
+    slotAt place (outletSlot (u .outlet .limits) q (tail (queue (u .outlet) q) (capacity (u .outlet .limits) q))) + 56 ≤ bytes
+unfolding tail
+outlet-inside place bytes u q h few =
+    let ring = queue (u .outlet) q in
+    let cap = capacity (u .outlet .limits) q in
+    let fits = h .queues .each q few in
+    let start = start-inside (u .outlet .limits) q (h .limits) few in
+    let low = back-le cap (ring .head + ring .count) in
+    let slot : outletSlot (u .outlet .limits) q (tail ring cap) < 146 =
+    by-lt 0 cap
+    (λ some. omega (arith, start, back-lt cap (ring .head + ring .count) (omega (arith, fits .place some, fits .held))))
+    (λ none. let z : cap ≡ 0 = omega arith in omega (arith, start, low, fits .nowhere z, fits .held)) in
+    omega (arith, slot-inside place (outletSlot (u .outlet .limits) q (tail ring cap)) slot .1, h .inside)
+
+-- how a copy ends
+module _ (u : U.Unit) (p : Plan) (place : ℕ) (store : List ℕ) (cell : Cell) where
+  pub lost-copy : (fate : A.Hearing) → p ≡ Lost fate → (x : A.Hearing) → x ≡ lostBy p → copyWith u x ≡ copyBy p u
+  unfolding lostBy copyBy
+  lost-copy fate e x s = rw e (λ i. copyWith u ((s ∙ ap lostBy e) i))
+
+  pub lost-store : (fate : A.Hearing) → p ≡ Lost fate → store ≡ storeBy p u place store cell
+  unfolding storeBy
+  lost-store fate e = rw e
+
+  pub queued-copy : (q : ℕ) → p ≡ Queue q → (ring : Ring) → ring ≡ pushed (queue (u .outlet) q) → copyWith (withQueue u q ring) Queued ≡ copyBy p u
+  unfolding copyBy
+  queued-copy q e ring r = rw e (λ i. copyWith (withQueue u q (r i)) Queued)
+
+  pub queued-store : (q : ℕ) → p ≡ Queue q →
+      putAt store place (outletSlot (u .outlet .limits) q (tail (queue (u .outlet) q) (capacity (u .outlet .limits) q))) cell ≡ storeBy p u place store cell
+  unfolding storeBy
+  queued-store q e = rw e
+
+-- the 56 bytes before parity
+pub before-parity : (f : List ℕ) → length f ≡ 57 → length (take 56 f) ≡ 56
+before-parity f e = omega (arith, length-take 56 f, e)

@@ -1,0 +1,120 @@
+-- What becomes of a heard frame at a unit. Assumes nothing.
+use Prim.Native.Nat.{ℕ}
+use mathlib.Core.Bool.{Bool, true, cond}
+use mathlib.Core.List.{List}
+use lib.Dec.{eqb}
+use lib.ListN.{length, set, take}
+use Rattle.routing.specs.declared.Target as T
+use Rattle.routing.specs.declared.Target.the-variants as target
+use Rattle.bus.specs.Frame.{heard}
+use Rattle.bus.specs.declared.Heard as H
+use Rattle.bus.specs.declared.Heard.the-variants as frame
+use Rattle.card.specs.declared.Card.{Card}
+use Rattle.outlet.specs.Outlets.{capacity, queue}
+use Rattle.outlet.specs.declared.Ring.{Ring}
+use Rattle.outlet.specs.declared.Outlet.{Outlet}
+use Rattle.queueing.specs.Hearing.{queueOf, fate}
+use Rattle.queueing.specs.declared.Fate as F
+use Rattle.queueing.specs.declared.Fate.the-variants as fates
+use Rattle.store.specs.Rings.{tail, pushed}
+use Rattle.store.specs.Places.{Cell, outletSlot, putAt}
+use Rattle.shelf.specs.Sessions.{hears}
+use Rattle.shelf.specs.Shelves.{numberOf}
+use Rattle.shelf.specs.declared.Unit as U
+use Rattle.shelf.specs.declared.Shelf.{Shelf}
+use Rattle.answer.specs.declared.Hearing as A
+use Rattle.answer.specs.declared.Hearing.the-variants.{Damaged, Other, Wide, Full, Clp, Queued}
+use Rattle.answer.specs.declared.Answer.the-variants.{Heard}
+use Rattle.answer.specs.declared.Done.{Done}
+use Rattle.answer.specs.Answers.{hearingRises, row, ends, refused}
+use Rattle.admit.specs.declared.Admitted as D
+use Rattle.admit.specs.declared.Admitted.the-variants.{At, Refused}
+use Rattle.admit.specs.Admission.{admitted, unitAt, withUnit}
+use Rattle.hearing.specs.declared.Plan.{Plan}
+use Rattle.hearing.specs.declared.Plan.the-variants.{Queue, Lost}
+use Rattle.hearing.specs.declared.Copy.{Copy}
+
+-- "address 8 (unit, session, or 0 for broadcast)", "`mc` unit, session: the unit hears that session", "All declared units hear a broadcast, the
+-- sender too."
+unfoldable pub addressed : U.Unit → T.Target → Bool
+addressed u (target.Unit number) = eqb (numberOf u) number
+addressed u (target.Session session) = hears (u .sessions) session
+addressed u target.All = true
+
+-- the four fates of a copy that is addressed to the unit
+unfoldable pub planFor : F.Fate → ℕ → Plan
+planFor fates.Wide q = Lost Wide
+planFor fates.Full q = Lost Full
+planFor fates.Clp q = Lost Clp
+planFor fates.Queued q = Queue q
+
+-- "Bad parity .. is `damaged`. Not addressed: `other` .. Then: VPI above 255 at a UNI unit, `wide`; queue at capacity, `full`; CLP 1 and the
+-- queue at its limit or above, `clp`; else `queued`."
+unfoldable pub planOf : U.Unit → H.Heard → Plan
+planOf u frame.Length = Lost Damaged
+planOf u frame.Damaged = Lost Damaged
+planOf u (frame.Cell target class header) =
+    cond (addressed u target) (planFor (fate (u .outlet) (u .settings .link) class header) (queueOf (u .outlet .limits) class)) (Lost Other)
+
+-- the fate of a copy that is not queued
+unfoldable pub lostBy : Plan → A.Hearing
+lostBy (Queue q) = Queued
+lostBy (Lost fate) = fate
+
+-- the unit with another ring for a queue
+abbrev pub withQueue : U.Unit → ℕ → Ring → U.Unit
+withQueue u q ring =
+    record {
+      settings = u .settings;
+      outlet = record { limits = u .outlet .limits; queues = set (u .outlet .queues) q ring };
+      inlet = u .inlet;
+      place = u .place;
+      sessions = u .sessions;
+    }
+
+abbrev pub copyWith : U.Unit → A.Hearing → Copy
+copyWith u fate = record { unit = u; fate = fate }
+
+-- the unit afterwards and the fate; a queued copy is behind the others in its queue
+unfoldable pub copyBy : Plan → U.Unit → Copy
+copyBy (Queue q) u = copyWith (withQueue u q (pushed (queue (u .outlet) q))) Queued
+copyBy (Lost fate) u = copyWith u fate
+
+unfoldable pub storeBy : Plan → U.Unit → ℕ → List ℕ → Cell → List ℕ
+storeBy (Queue q) u place store cell =
+    putAt store place (outletSlot (u .outlet .limits) q (tail (queue (u .outlet) q) (capacity (u .outlet .limits) q))) cell
+storeBy (Lost fate) u place store cell = store
+
+abbrev pub copyOf : U.Unit → H.Heard → Copy
+copyOf u h = copyBy (planOf u h) u
+
+abbrev pub storeOf : U.Unit → H.Heard → ℕ → List ℕ → Cell → List ℕ
+storeOf u h place store cell = storeBy (planOf u h) u place store cell
+
+-- a frame handed in is heard "by the unit named with it"
+abbrev pub heardBy : Copy → Shelf → ℕ → Done
+heardBy copy shelf place = ends (Heard (copy .fate)) (withUnit shelf place (copy .unit)) (row place (hearingRises (copy .fate)))
+
+abbrev pub doneAt : Shelf → ℕ → List ℕ → Done
+doneAt shelf place f = heardBy (copyOf (unitAt shelf place) (heard f)) shelf place
+
+abbrev pub storeAt : Shelf → ℕ → List ℕ → List ℕ → List ℕ
+storeAt shelf place store f = storeOf (unitAt shelf place) (heard f) place store (take 56 f)
+
+-- by the unit with a number, if it is let in
+unfoldable pub hearBy : D.Admitted → Shelf → List ℕ → Done
+hearBy (At place) shelf f = doneAt shelf place f
+hearBy (Refused number) shelf f = refused shelf number
+
+unfoldable pub hearStoreBy : D.Admitted → Shelf → List ℕ → List ℕ → List ℕ
+hearStoreBy (At place) shelf store f = storeAt shelf place store f
+hearStoreBy (Refused number) shelf store f = store
+
+abbrev pub letIn : Card → Shelf → ℕ → ℕ → ℕ → List ℕ → D.Admitted
+letIn card shelf store rows unit f = admitted card shelf store rows unit (eqb (length f) 57)
+
+abbrev pub hearDone : Card → Shelf → ℕ → ℕ → ℕ → List ℕ → Done
+hearDone card shelf store rows unit f = hearBy (letIn card shelf store rows unit f) shelf f
+
+abbrev pub hearStore : Card → Shelf → List ℕ → ℕ → ℕ → List ℕ → List ℕ
+hearStore card shelf store rows unit f = hearStoreBy (letIn card shelf (length store) rows unit f) shelf store f

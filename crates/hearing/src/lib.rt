@@ -1,0 +1,149 @@
+// Hearing: one of damaged, other, wide, full, clp, queued, of a frame at a unit.
+use admit::Admitted;
+use answer::Answer;
+use answer::Done;
+use answer::Hearing;
+use answer::Rises;
+use bus::Heard;
+use card::Card;
+use queueing::Fate;
+use routing::Target;
+use shelf::Shelf;
+use shelf::Unit;
+ghost use mathlib.Core.Path.{_≡_};
+ghost use Prim.Native.Nat.{_<_, _≤_};
+ghost use lib.ListN.{length};
+ghost use Rattle.admit.specs.Admission.{unitAt, Housed};
+ghost use Rattle.hearing.specs.Hearings.{addressed as addressedTo, planFor, planOf, lostBy, copyOf, storeOf, doneAt, storeAt, hearDone, hearStore};
+
+// A copy is queued in this queue, or lost with this fate.
+pub enum Plan {
+    Queue(u8),
+    Lost(Hearing),
+}
+
+// A unit after it has heard a frame, and the fate of the frame there.
+pub struct Copy {
+    pub unit: Unit,
+    pub fate: Hearing,
+}
+
+// Whether a cell to this target is for the unit.
+fn addressed(unit: Unit, target: Target) -> bool
+    ensures { λ r. ⌜ r ≡ addressedTo unit target ⌝ }
+{
+    let sessions = unit.sessions;
+    match target {
+        Target::Unit(number) => unit.settings.number == number,
+        Target::Session(session) => shelf::hears(sessions, session),
+        Target::All => true,
+    }
+}
+
+// What becomes of a copy with this fate, which belongs into this queue.
+fn plan_for(fate: Fate, queue: u8) -> Plan
+    ensures { λ r. ⌜ r ≡ planFor fate queue ⌝ }
+{
+    match fate {
+        Fate::Wide => Plan::Lost(Hearing::Wide),
+        Fate::Full => Plan::Lost(Hearing::Full),
+        Fate::Clp => Plan::Lost(Hearing::Clp),
+        Fate::Queued => Plan::Queue(queue),
+    }
+}
+
+// What becomes of a heard frame at a unit. What is no frame is damaged.
+fn plan_of(unit: Unit, heard: Heard) -> Plan
+    ensures { λ r. ⌜ r ≡ planOf unit heard ⌝ }
+{
+    match heard {
+        Heard::Length => Plan::Lost(Hearing::Damaged),
+        Heard::Damaged => Plan::Lost(Hearing::Damaged),
+        Heard::Cell {
+            target,
+            class,
+            header,
+        } => {
+            if !addressed(unit, target) {
+                return Plan::Lost(Hearing::Other);
+            }
+            let settings = unit.settings;
+            let link = settings.link;
+            let outlet = unit.outlet;
+            let limits = outlet.limits;
+            plan_for(
+                queueing::fate_of(outlet, link, class, header),
+                queueing::queue_of(limits, class),
+            )
+        }
+    }
+}
+
+// The fate of a copy that is not queued.
+fn lost(plan: Plan) -> Hearing
+    ensures { λ r. ⌜ r ≡ lostBy plan ⌝ }
+{
+    match plan {
+        Plan::Queue(_) => Hearing::Queued,
+        Plan::Lost(fate) => fate,
+    }
+}
+
+// The unit in a place hears a frame of this cell. A queued copy goes behind the others in its queue.
+pub fn hear_copy(mut unit: Unit, place: usize, heard: Heard, cell: &[u8], store: &mut [u8]) -> Copy
+    requires { ⌜ (length (now cell) ≡ 56) × Housed place unit (length (now store)) ⌝ }
+    ensures { λ r. ⌜ r ≡ copyOf unit heard ⌝ }
+    ensures kept { λ _. ⌜ now (store .exit) ≡ storeOf unit heard place (now (store .entry)) (now (cell .entry)) ⌝ }
+{
+    let plan = plan_of(unit, heard);
+    let Plan::Queue(queue) = plan else {
+        return Copy {
+            unit,
+            fate: lost(plan),
+        };
+    };
+    let mut outlet = unit.outlet;
+    let limits = outlet.limits;
+    let mut queues = outlet.queues;
+    let q = queue as usize;
+    let ring = queues[q];
+    let tail = store::tail(ring, outlet::capacity(limits, queue));
+    store::put_cell(store, store::outlet_at(place, limits, queue, tail), cell);
+    queues[q] = store::pushed(ring);
+    outlet.queues = queues;
+    unit.outlet = outlet;
+    Copy {
+        unit,
+        fate: Hearing::Queued,
+    }
+}
+
+// The unit in a place hears a frame handed in.
+fn hear_at(mut shelf: Shelf, place: usize, store: &mut [u8], frame: &[u8]) -> Done
+    requires { ⌜ (length (now frame) ≡ 57) × Housed place (unitAt shelf place) (length (now store)) ⌝ }
+    ensures { λ r. ⌜ r ≡ doneAt shelf place (now (frame .entry)) ⌝ }
+    ensures kept { λ _. ⌜ now (store .exit) ≡ storeAt shelf place (now (store .entry)) (now (frame .entry)) ⌝ }
+{
+    let unit = shelf.units[place];
+    let copy = hear_copy(unit, place, bus::hear(frame), &frame[..56], store);
+    let after = copy.unit;
+    let fate = copy.fate;
+    shelf.units[place] = after;
+    answer::ends(
+        Answer::Heard(fate),
+        shelf,
+        Rises::row(place, answer::hearing_rises(fate)),
+    )
+}
+
+// Hearing of a frame by the unit with this number; everything but the counter rows, of which there are so many.
+pub fn hear(card: Card, shelf: Shelf, store: &mut [u8], rows: usize, unit: u8, frame: &[u8]) -> Done
+    ensures { λ r. ⌜ r ≡ hearDone card shelf (length (now (store .entry))) rows unit (now (frame .entry)) ⌝ }
+    ensures kept { λ _. ⌜ now (store .exit) ≡ hearStore card shelf (now (store .entry)) rows unit (now (frame .entry)) ⌝ }
+    ensures fits { λ r. ⌜ (r .rises .to ≤ 32) × (r .rises .to ≤ rows) ⌝ }
+{
+    match admit::admit(card, shelf, store.len(), rows, unit, frame.len() == 57) {
+        Admitted::At(place) => hear_at(shelf, place, store, frame),
+        Admitted::Refused(number) => answer::refused(shelf, number),
+    }
+}
