@@ -4,7 +4,10 @@ use mathlib.Core.Path.{_≡_, refl, sym, _∙_, ap, subst}
 use mathlib.Core.Bool.{Bool, true, false, cond}
 use native.Mathlib.Omega.{arith}
 use lib.ListN.{length, getD, length-take}
+use mathlib.Core.List.{[]}
 use Rattle.octets.proofs.Parts.{getD-any}
+use Rattle.header.specs.declared.Link.the-variants.{Uni}
+use Rattle.outlet.specs.declared.Mode.the-variants.{One}
 use Rattle.card.specs.declared.Card.{Card}
 use Rattle.shelf.specs.Shelves.{declared, blank, findIn}
 use Rattle.shelf.specs.declared.Unit as U
@@ -73,6 +76,17 @@ module _ (card : Card) (shelf : Shelf) (store rows unit : ℕ) (right : Bool) (i
   pub let-in-housed : LetIn card shelf store rows unit right i → Housed i (unitAt shelf i) store × (i < rows)
   let-in-housed l = sound-housed card shelf store rows (l .sound) i (find-at unit (declared shelf) i .0 (l .found) .inside)
 
+-- what rattle reads where there is no place
+abbrev pub nowhere : U.Unit
+nowhere =
+    record {
+      settings = record { number = 0; link = Uni; top = 0; priority = 0 };
+      outlet = record { limits = record { mode = One; cbrlength = 0; cbrlimit = 0; vbrlimit = 0; mark = false }; queues = [] };
+      inlet = record { head = 0; count = 0 };
+      place = 0;
+      sessions = [];
+    }
+
 -- the unit that was copied out is the one in its place
-pub copied : (shelf : Shelf) (place : ℕ) (d : U.Unit) → length (shelf .units) ≡ 32 → place < 32 → getD (shelf .units) place d ≡ unitAt shelf place
-copied shelf place d long h = getD-any (shelf .units) place d blank (omega arith)
+pub copied : (shelf : Shelf) (place : ℕ) → length (shelf .units) ≡ 32 → place < 32 → getD (shelf .units) place nowhere ≡ unitAt shelf place
+copied shelf place long h = getD-any (shelf .units) place nowhere blank (omega arith)

@@ -5,6 +5,7 @@ use mathlib.Core.Bool.{Bool, true, cond}
 use lib.ListN.{getD, set}
 use Rattle.card.specs.declared.Card.{Card}
 use Rattle.outlet.specs.Outlets.{Given, RingFits, RingsFit}
+use Rattle.outlet.specs.declared.Ring.{Ring}
 use Rattle.store.specs.Places.{Inside}
 use Rattle.shelf.specs.Shelves.{declared, blank, findIn}
 use Rattle.shelf.specs.declared.Unit as U
@@ -46,6 +47,20 @@ withUnit shelf place u =
       arbiter = shelf .arbiter;
       granted = shelf .granted;
       frame = shelf .frame;
+    }
+
+-- the unit with another ring for its inlet, or for a queue of its outlet
+abbrev pub withInlet : U.Unit → Ring → U.Unit
+withInlet u ring = record { settings = u .settings; outlet = u .outlet; inlet = ring; place = u .place; sessions = u .sessions }
+
+abbrev pub withQueue : U.Unit → ℕ → Ring → U.Unit
+withQueue u q ring =
+    record {
+      settings = u .settings;
+      outlet = record { limits = u .outlet .limits; queues = set (u .outlet .queues) q ring };
+      inlet = u .inlet;
+      place = u .place;
+      sessions = u .sessions;
     }
 
 -- the unit in a place has its part of a store of so many bytes, and its queues have their places there

@@ -22,8 +22,8 @@ use Rattle.shelf.specs.declared.Shelf.{Shelf}
 use Rattle.answer.specs.declared.Arrival as A
 use Rattle.answer.specs.declared.Arrival.the-variants.{Hec, Inletfull, Queued}
 use Rattle.answer.specs.declared.Done.{Done}
-use Rattle.admit.specs.Admission.{unitAt, withUnit, Housed}
-use Rattle.arriving.specs.Arriving.{wayBy, wayOf, lostBy, arrived, inletFull, withInlet, doneBy, storeBy}
+use Rattle.admit.specs.Admission.{unitAt, withUnit, withInlet, Housed}
+use Rattle.arriving.specs.Arriving.{wayBy, wayOf, lostBy, arrived, inletFull, doneBy, storeBy}
 use Rattle.arriving.specs.declared.Way.{Way}
 use Rattle.arriving.specs.declared.Way.the-variants.{Bus, Lost}
 

@@ -6,7 +6,6 @@ use lib.Dec.{eqb, leb}
 use lib.ListN.{length, getD}
 use Rattle.octets.specs.Octets.{four, part}
 use Rattle.card.specs.declared.Card.{Card}
-use Rattle.outlet.specs.declared.Ring.{Ring}
 use Rattle.record.specs.Record.{recordAt}
 use Rattle.lookup.specs.Lookup.{soundHeader, translated}
 use Rattle.lookup.specs.declared.Looked as L
@@ -23,7 +22,7 @@ use Rattle.answer.specs.declared.Done.{Done}
 use Rattle.answer.specs.Answers.{arrivalRises, row, ends, refused}
 use Rattle.admit.specs.declared.Admitted as D
 use Rattle.admit.specs.declared.Admitted.the-variants.{At, Refused}
-use Rattle.admit.specs.Admission.{admitted, unitAt, withUnit}
+use Rattle.admit.specs.Admission.{admitted, unitAt, withUnit, withInlet}
 use Rattle.arriving.specs.declared.Way.{Way}
 use Rattle.arriving.specs.declared.Way.the-variants.{Bus, Lost}
 
@@ -53,10 +52,7 @@ arrived shelf place fate = ends (Arrived fate) shelf (row place (arrivalRises fa
 abbrev pub inletFull : U.Unit → Bool
 inletFull u = leb 4 (u .inlet .count)
 
--- the unit with one cell more in its inlet
-abbrev pub withInlet : U.Unit → Ring → U.Unit
-withInlet u ring = record { settings = u .settings; outlet = u .outlet; inlet = ring; place = u .place; sessions = u .sessions }
-
+-- the shelf with one cell more in an inlet
 abbrev pub cellIn : Shelf → ℕ → Shelf
 cellIn shelf place = withUnit shelf place (withInlet (unitAt shelf place) (pushed (unitAt shelf place .inlet)))
 

@@ -21,8 +21,8 @@ use Rattle.store.proofs.Slots.{by-lt, start-inside, slot-inside}
 use Rattle.shelf.specs.declared.Unit as U
 use Rattle.answer.specs.declared.Hearing as A
 use Rattle.answer.specs.declared.Hearing.the-variants.{Other, Queued}
-use Rattle.admit.specs.Admission.{Housed}
-use Rattle.hearing.specs.Hearings.{addressed, planFor, planOf, lostBy, copyWith, withQueue, copyBy, storeBy}
+use Rattle.admit.specs.Admission.{withQueue, Housed}
+use Rattle.hearing.specs.Hearings.{addressed, planFor, planOf, lostBy, copyWith, copyBy, storeBy}
 use Rattle.hearing.specs.declared.Plan.{Plan}
 use Rattle.hearing.specs.declared.Plan.the-variants.{Queue, Lost}
 

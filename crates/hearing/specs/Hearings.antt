@@ -3,7 +3,7 @@ use Prim.Native.Nat.{ℕ}
 use mathlib.Core.Bool.{Bool, true, cond}
 use mathlib.Core.List.{List}
 use lib.Dec.{eqb}
-use lib.ListN.{length, set, take}
+use lib.ListN.{length, take}
 use Rattle.routing.specs.declared.Target as T
 use Rattle.routing.specs.declared.Target.the-variants as target
 use Rattle.bus.specs.Frame.{heard}
@@ -11,8 +11,6 @@ use Rattle.bus.specs.declared.Heard as H
 use Rattle.bus.specs.declared.Heard.the-variants as frame
 use Rattle.card.specs.declared.Card.{Card}
 use Rattle.outlet.specs.Outlets.{capacity, queue}
-use Rattle.outlet.specs.declared.Ring.{Ring}
-use Rattle.outlet.specs.declared.Outlet.{Outlet}
 use Rattle.queueing.specs.Hearing.{queueOf, fate}
 use Rattle.queueing.specs.declared.Fate as F
 use Rattle.queueing.specs.declared.Fate.the-variants as fates
@@ -29,7 +27,7 @@ use Rattle.answer.specs.declared.Done.{Done}
 use Rattle.answer.specs.Answers.{hearingRises, row, ends, refused}
 use Rattle.admit.specs.declared.Admitted as D
 use Rattle.admit.specs.declared.Admitted.the-variants.{At, Refused}
-use Rattle.admit.specs.Admission.{admitted, unitAt, withUnit}
+use Rattle.admit.specs.Admission.{admitted, unitAt, withUnit, withQueue}
 use Rattle.hearing.specs.declared.Plan.{Plan}
 use Rattle.hearing.specs.declared.Plan.the-variants.{Queue, Lost}
 use Rattle.hearing.specs.declared.Copy.{Copy}
@@ -61,17 +59,7 @@ unfoldable pub lostBy : Plan → A.Hearing
 lostBy (Queue q) = Queued
 lostBy (Lost fate) = fate
 
--- the unit with another ring for a queue
-abbrev pub withQueue : U.Unit → ℕ → Ring → U.Unit
-withQueue u q ring =
-    record {
-      settings = u .settings;
-      outlet = record { limits = u .outlet .limits; queues = set (u .outlet .queues) q ring };
-      inlet = u .inlet;
-      place = u .place;
-      sessions = u .sessions;
-    }
-
+-- a unit and a fate
 abbrev pub copyWith : U.Unit → A.Hearing → Copy
 copyWith u fate = record { unit = u; fate = fate }
 
