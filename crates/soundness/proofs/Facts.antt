@@ -70,7 +70,7 @@ once-iff (u ∷ us) =
     )
 
 -- the settings
-link-iff : (card : Card) (link : Link) → (holds card (On link) ≡ true) ↔ (link ≡ Nni → card ≡ Wide)
+pub link-iff : (card : Card) (link : Link) → (holds card (On link) ≡ true) ↔ (link ≡ Nni → card ≡ Wide)
 unfolding holds narrowHolds
 link-iff Wide link = (λ t e. refl, λ f. refl)
 link-iff Narrow Uni = (λ t e. let z : _≡_ {A = ℕ} 0 1 = cc in absurd (omega arith), λ f. refl)
