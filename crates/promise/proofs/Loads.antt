@@ -1,24 +1,18 @@
 -- A loaded shelf is sound: a `bus` line gives a fresh one, and every good line after it keeps it sound. Assumes nothing.
 use mathlib.Core.Path.{_≡_, refl, sym, ap, subst, _∙_}
-use mathlib.Core.Bool.{Bool, true, false}
+use mathlib.Core.Bool.{true}
 use mathlib.Core.List.{List, [], _∷_, _++_}
-use mathlib.Core.Logic.{_↔_, _⊎_, inl, inr, ⊎-elim}
+use mathlib.Core.Logic.{_⊎_, inl, inr, ⊎-elim}
 use Prim.Native.Nat.{ℕ, zero, suc, _+_, _*_, _<_, _≤_}
-use native.Mathlib.Nat.{not-suc-le-zero}
 use native.Mathlib.Omega.{arith}
 use lib.ListN.{length, getD, set, length-append, length-set, length-take, List·getD-append}
 use lib.Seq.{getD-at, getD-set-same, getD-set-other, getD-take, take-set-lt}
 use lib.Dec.{eqb, ltb}
 use borrow.Author.Tests.{eqb-true, eqb-false, ltb-true, ltb-false}
-use Rattle.header.specs.declared.Link.{Link}
-use Rattle.header.specs.declared.Link.the-variants.{Uni, Nni}
 use Rattle.card.specs.declared.Card.{Card}
 use Rattle.card.specs.declared.Ask.the-variants.{On}
 use Rattle.card.specs.Cards.{holds}
 use Rattle.record.specs.Record.{size, usable}
-use Rattle.outlet.specs.Outlets.{GivenIn, Given, capacity}
-use Rattle.outlet.specs.declared.Mode.{Mode}
-use Rattle.outlet.specs.declared.Mode.the-variants.{One, Four}
 use Rattle.outlet.specs.declared.Limits.{Limits}
 use Rattle.outlet.proofs.Laws.{rings-iff, empty-fits, fresh-fits}
 use Rattle.arbiter.specs.Arbitration.{nobody}
@@ -29,10 +23,10 @@ use Rattle.shelf.specs.declared.Shelf.{Shelf}
 use Rattle.shelf.specs.declared.Found.{Found}
 use Rattle.shelf.specs.declared.Found.the-variants.{At, Nothing}
 use Rattle.shelf.proofs.Finding.{find-at, find-nothing}
-use Rattle.soundness.specs.State.{highest, soundOf, UnitSound, DeclaredIn, Sound}
+use Rattle.soundness.specs.State.{soundOf, UnitSound, DeclaredIn, Sound}
 use Rattle.soundness.proofs.Facts.{link-iff, sound-iff, fresh-sound}
-use Rattle.line.specs.Lines.{topOf, least, mostLength, mostLimit, mostVbr}
-use Rattle.line.specs.Ranges.{LimitsIn, Given as LineGiven, InRange as LineIn}
+use Rattle.line.specs.Lines.{least}
+use Rattle.line.specs.Ranges.{Given as LineGiven, InRange as LineIn}
 use Rattle.line.specs.declared.Line.{Line}
 use Rattle.line.specs.declared.Line.the-variants.{Bus, Unit as L·Unit, Vp, Drop, Page, Vc, Mc}
 use Rattle.judge.specs.declared.Verdict.the-variants.{Fine}
@@ -47,30 +41,16 @@ use Rattle.promise.specs.Loads.{LoadSound}
 use Rattle.promise.proofs.Runs.{AllInRange, good-in-range, all-ranged}
 use Rattle.promise.proofs.Refusals.{accepted, refused, either-way}
 
--- A. what a `unit` line gives is what State asks for
-tops-agree : (link : Link) → topOf link ≡ highest link
-tops-agree Uni = refl
-tops-agree Nni = refl
-
-limits-in : (mode : Mode) (l c v : ℕ) → least mode ≤ l → l ≤ mostLength mode → least mode ≤ c → c ≤ mostLimit mode l → 1 ≤ v → v ≤ mostVbr mode l → GivenIn mode l c v
-limits-in One l c v a b d e f g = (omega arith, omega arith, f, g)
-limits-in Four l c v a b d e f g = (a, b, d, e, f, g)
-
-limits-given : (limits : Limits) → LimitsIn limits → Given limits
-limits-given x r =
-    limits-in (x .mode) (x .cbrlength) (x .cbrlimit) (x .vbrlimit) (r .cbrlength-least) (r .cbrlength-most) (r .cbrlimit-least) (r .cbrlimit-most)
-    (r .vbrlimit-least) (r .vbrlimit-most)
-
--- a freshly declared unit, where nobody is granted and nobody asks
+-- A. what a `unit` line gives is what State asks for: a freshly declared unit, where nobody is granted and nobody asks
 fresh-unit : (card : Card) (bus place : ℕ) (settings : Settings) (limits : Limits) → bus ≤ 32 → settings .number < bus → holds card (On (settings .link)) ≡ true → LineGiven settings limits → UnitSound card bus nobody [] (unit settings limits place)
 fresh-unit card bus place settings limits most below held given =
     record {
       below = below;
       link = link-iff card (settings .link) .0 held;
-      top = subst (λ t. settings .top ≤ t) (tops-agree (settings .link)) (given .settings-in .top-most);
+      top = given .settings-in .top-most;
       least = given .settings-in .priority-least;
       most = given .settings-in .priority-most;
-      limits = limits-given limits (given .limits-in);
+      limits = given .limits-in;
       inlet = empty-fits 4;
       queues = rings-iff (unit settings limits place .outlet) .0 (fresh-fits limits);
       grant = λ e. absurd (omega arith);
@@ -78,6 +58,9 @@ fresh-unit card bus place settings limits most below held given =
     }
 
 -- B. a unit more
+abbrev Once : List U.Unit → Type 0
+Once us = (i j : ℕ) → i < j → j < length us → numberOf (getD us i blank) ≡ numberOf (getD us j blank) → ⊥
+
 each-more : (P : U.Unit → Type 0) (us : List U.Unit) (n : U.Unit) → ((i : ℕ) → i < length us → P (getD us i blank)) → P n → (i : ℕ) → i < length (us ++ (n ∷ [])) → P (getD (us ++ (n ∷ [])) i blank)
 each-more P [] n f p zero h = p
 each-more P [] n f p (suc i) h = absurd (omega arith)
@@ -93,9 +76,6 @@ module _ (us : List U.Unit) (n : U.Unit) where
       let l = more-length in
       let h = w .1 in
       (w .0, omega arith, ap numberOf (List·getD-append us (n ∷ []) blank (w .0) (w .1)) ∙ w .2)
-
-  abbrev Once : List U.Unit → Type 0
-  Once vs = (i j : ℕ) → i < j → j < length vs → numberOf (getD vs i blank) ≡ numberOf (getD vs j blank) → ⊥
 
   more-once : Once us → FoundNowhere us (numberOf n) → Once (us ++ (n ∷ []))
   more-once once new i j h k e =
@@ -151,7 +131,7 @@ module _ (card : Card) (shelf : Shelf) (s : Ready card shelf) (n : U.Unit) (long
         count = omega arith;
         store = omega arith;
         rows = omega arith;
-        once = subst (Once (declared shelf) n) (sym more-units) (more-once (declared shelf) n (s .once) new);
+        once = subst Once (sym more-units) (more-once (declared shelf) n (s .once) new);
         units = subst (λ us. (i : ℕ) → i < length us → UnitSound card (shelf .bus) (shelf .granted) (shelf .arbiter .asks) (getD us i blank)) (sym more-units)
             (each-more (UnitSound card (shelf .bus) (shelf .granted) (shelf .arbiter .asks)) (declared shelf) n (s .units) unit-ready);
         granted = ⊎-elim inl (λ w. inr (now-declared (shelf .granted) w)) (s .granted);
@@ -221,7 +201,7 @@ module _ (card : Card) (shelf : Shelf) (s : Ready card shelf) (i session : ℕ) 
       heard-at (declared shelf) i session inside test (λ u. hearing-sound card (shelf .bus) (shelf .granted) (shelf .arbiter .asks) u session) j
       (s .units j (omega arith))
 
-  once-heard : Once [] blank (heard (declared shelf) i session inside)
+  once-heard : Once (heard (declared shelf) i session inside)
   once-heard j k h m e =
       let l = heard-length (declared shelf) i session inside in
       s .once j k h (omega arith) (sym (heard-number (declared shelf) i session inside j) ∙ e ∙ heard-number (declared shelf) i session inside k)
@@ -234,7 +214,7 @@ module _ (card : Card) (shelf : Shelf) (s : Ready card shelf) (i session : ℕ) 
         count = s .count;
         store = s .store;
         rows = s .rows;
-        once = subst (Once [] blank) (sym heard-units) once-heard;
+        once = subst Once (sym heard-units) once-heard;
         units = subst (λ us. (j : ℕ) → j < length us → test (getD us j blank)) (sym heard-units) each-heard;
         granted = ⊎-elim inl (λ w. inr (still-declared (shelf .granted) w)) (s .granted);
         last = λ p h. ⊎-elim inl (λ w. inr (still-declared (getD (shelf .arbiter .last) p 0) w)) (s .last p h);
