@@ -2,7 +2,7 @@
 use mathlib.Core.Path.{_≡_, refl, subst}
 use mathlib.Core.Bool.{Bool, true, false, cond}
 use mathlib.Core.List.{List, [], _∷_}
-use mathlib.Core.Logic.{inl, inr}
+use mathlib.Core.Logic.{_↔_, inl, inr}
 use Prim.Native.Nat.{ℕ, _≤_}
 use native.Mathlib.Omega.{arith}
 use lib.Dec.{eqb}
@@ -125,10 +125,14 @@ front-sound fs =
     chosen FrontSound (same (fieldOf 3 fs) wNni) (λ _. on-sound fs number Nni n) λ _.
     tt
 
--- the ranges of the limits, by the mode, are those that the outlet asks for
-limits-in : (mode : Mode) (l c v : ℕ) → least mode ≤ l → l ≤ mostLength mode → least mode ≤ c → c ≤ mostLimit mode l → 1 ≤ v → v ≤ mostVbr mode l → GivenIn mode l c v
-limits-in One l c v a b d e f g = (omega arith, omega arith, f, g)
-limits-in Four l c v a b d e f g = (a, b, d, e, f, g)
+-- the ranges that limits are read in, by the mode, are those that the outlet asks for
+abbrev Limited : Mode → ℕ → ℕ → ℕ → Type 0
+Limited mode l c v =
+    (least mode ≤ l) × (l ≤ mostLength mode) × (least mode ≤ c) × (c ≤ mostLimit mode l) × (1 ≤ v) × (v ≤ mostVbr mode l)
+
+pub limits-iff : (mode : Mode) (l c v : ℕ) → Limited mode l c v ↔ GivenIn mode l c v
+limits-iff One l c v = (λ r. (omega arith, omega arith, r .4, r .5), λ g. (omega arith, omega arith, omega arith, omega arith, g .2, g .3))
+limits-iff Four l c v = (λ r. r, λ g. g)
 
 in-sound : (fs : List (List ℕ)) (mode : Mode) → BackSound (limitsIn fs mode)
 unfolding limitsIn BackSound
@@ -137,7 +141,7 @@ in-sound fs mode =
     by-num BackSound 8 (least mode) (mostLimit mode cbrlength) _ (λ wrong. tt) λ cbrlimit c d.
     by-num BackSound 9 1 (mostVbr mode cbrlength) _ (λ wrong. tt) λ vbrlimit e f.
     by-num BackSound 10 0 1 _ (λ wrong. tt) λ mark _ _.
-    limits-in mode cbrlength cbrlimit vbrlimit a b c d e f
+    limits-iff mode cbrlength cbrlimit vbrlimit .0 (a, b, c, d, e, f)
 
 back-sound : (fs : List (List ℕ)) → BackSound (limitsOf fs)
 unfolding limitsOf BackSound

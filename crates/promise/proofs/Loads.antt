@@ -25,7 +25,6 @@ use Rattle.shelf.specs.declared.Found.the-variants.{At, Nothing}
 use Rattle.shelf.proofs.Finding.{find-at, find-nothing}
 use Rattle.soundness.specs.State.{soundOf, UnitSound, DeclaredIn, Sound}
 use Rattle.soundness.proofs.Facts.{link-iff, sound-iff, fresh-sound}
-use Rattle.line.specs.Lines.{least}
 use Rattle.line.specs.Ranges.{Given as LineGiven, InRange as LineIn}
 use Rattle.line.specs.declared.Line.{Line}
 use Rattle.line.specs.declared.Line.the-variants.{Bus, Unit as L·Unit, Vp, Drop, Page, Vc, Mc}
