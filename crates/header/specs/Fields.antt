@@ -1,5 +1,5 @@
 -- The fields of a cell header, which is the number that its four bytes say. Assumes nothing.
-use Prim.Native.Nat.{ℕ, _+_, _*_, _/_, _%_, _^_}
+use Prim.Native.Nat.{ℕ, _+_, _-_, _*_, _/_, _%_, _^_}
 use Rattle.header.specs.declared.Link.{Link}
 use Rattle.header.specs.declared.Link.the-variants.{Uni, Nni}
 use Rattle.header.specs.declared.Header.{Header}
@@ -9,6 +9,10 @@ use Rattle.header.specs.declared.Header.{Header}
 abbrev pub pathsOf : Link → ℕ
 pathsOf Uni = 2 ^ 8
 pathsOf Nni = 2 ^ 12
+
+-- "Top VPI is at most 255 for uni, 4,095 for nni."
+abbrev pub highest : Link → ℕ
+highest link = pathsOf link - 1
 
 unfoldable pub fields : Link → ℕ → Header
 fields link w =

@@ -2,7 +2,7 @@
 ghost use mathlib.Core.Path.{_≡_};
 ghost use Rattle.remainder.specs.Division.{residue};
 ghost use lib.Bits.{bitXor};
-ghost use Rattle.header.specs.Fields.{topOf, fields, word};
+ghost use Rattle.header.specs.Fields.{highest as highestOn, topOf, fields, word};
 ghost use Rattle.header.specs.Check.{divisor, check as checkOf};
 
 pub enum Link {
@@ -17,6 +17,16 @@ pub struct Header {
     pub vci: u16,
     pub pt: u8,
     pub clp: u8,
+}
+
+// The highest VPI of a link.
+pub fn highest(link: Link) -> u16
+    ensures { λ r. ⌜ r ≡ highestOn link ⌝ }
+{
+    match link {
+        Link::Uni => 255,
+        Link::Nni => 4095,
+    }
 }
 
 // The VPI, as the link reads it.

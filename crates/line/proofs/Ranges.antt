@@ -2,16 +2,18 @@
 use mathlib.Core.Path.{_≡_, refl, subst}
 use mathlib.Core.Bool.{Bool, true, false, cond}
 use mathlib.Core.List.{List, [], _∷_}
-use mathlib.Core.Logic.{inl, inr}
+use mathlib.Core.Logic.{_↔_, inl, inr}
 use Prim.Native.Nat.{ℕ, _≤_}
 use native.Mathlib.Omega.{arith}
 use lib.Dec.{eqb}
 use lib.ListN.{length}
 use borrow.Author.Tests.{eqb-true}
+use Rattle.header.specs.Fields.{highest}
 use Rattle.header.specs.declared.Link.{Link}
 use Rattle.header.specs.declared.Link.the-variants.{Uni, Nni}
 use Rattle.routing.specs.declared.Target.{Target}
 use Rattle.routing.proofs.Laws.{Sayable}
+use Rattle.outlet.specs.Outlets.{GivenIn, Given as LimitsGiven}
 use Rattle.outlet.specs.declared.Mode.{Mode}
 use Rattle.outlet.specs.declared.Mode.the-variants.{One, Four}
 use Rattle.outlet.specs.declared.Limits.{Limits}
@@ -40,8 +42,8 @@ use Rattle.line.specs.declared.Reading.the-variants.{Good, Bad}
 use Rattle.line.specs.Words.{wB, wUni, wNni, wOne, wFour}
 use Rattle.line.specs.Text.{fieldsOf, fieldOf, same}
 use Rattle.line.specs.Digits.{ranged, num, aimOf, aim}
-use Rattle.line.specs.Lines.{busLine, topOf, settingsOn, settingsOf, least, mostLength, mostLimit, mostVbr, limitsIn, limitsOf, front, back, unitLine, keyOf, key, wayOf, way, vpLine, dropLine, pageLine, vcOn, vcLine, mcLine, lineOf, countOf, wordOf, spoken, readingOf}
-use Rattle.line.specs.Ranges.{SettingsIn, LimitsIn, Given, KeyIn, WayIn, InRange}
+use Rattle.line.specs.Lines.{busLine, settingsOn, settingsOf, least, mostLength, mostLimit, mostVbr, limitsIn, limitsOf, front, back, unitLine, keyOf, key, wayOf, way, vpLine, dropLine, pageLine, vcOn, vcLine, mcLine, lineOf, countOf, wordOf, spoken, readingOf}
+use Rattle.line.specs.Ranges.{SettingsIn, Given, KeyIn, WayIn, InRange}
 use Rattle.line.proofs.Numbers.{ranged-in}
 
 -- what holds of both choices, each where it is taken, holds of the choice
@@ -75,7 +77,7 @@ FrontSound (Set settings) = SettingsIn settings
 FrontSound (NoFront wrong) = Unit {0}
 
 BackSound : Back → Type 0
-BackSound (Held limits) = LimitsIn limits
+BackSound (Held limits) = LimitsGiven limits
 BackSound (NoBack wrong) = Unit {0}
 
 Sound : Reading → Type 0
@@ -111,7 +113,7 @@ way-sound fs a b c = go (aimOf a (fieldOf a fs)) (aim-sound a (fieldOf a fs))
 on-sound : (fs : List (List ℕ)) (number : ℕ) (link : Link) → number ≤ 31 → FrontSound (settingsOn fs number link)
 unfolding settingsOn FrontSound
 on-sound fs number link n =
-    by-num FrontSound 4 0 (topOf link) _ (λ wrong. tt) λ top _ t.
+    by-num FrontSound 4 0 (highest link) _ (λ wrong. tt) λ top _ t.
     by-num FrontSound 5 1 3 _ (λ wrong. tt) λ priority p q.
     record { number-most = n; top-most = t; priority-least = p; priority-most = q }
 
@@ -123,6 +125,15 @@ front-sound fs =
     chosen FrontSound (same (fieldOf 3 fs) wNni) (λ _. on-sound fs number Nni n) λ _.
     tt
 
+-- the ranges that limits are read in, by the mode, are those that the outlet asks for
+abbrev Limited : Mode → ℕ → ℕ → ℕ → Type 0
+Limited mode l c v =
+    (least mode ≤ l) × (l ≤ mostLength mode) × (least mode ≤ c) × (c ≤ mostLimit mode l) × (1 ≤ v) × (v ≤ mostVbr mode l)
+
+pub limits-iff : (mode : Mode) (l c v : ℕ) → Limited mode l c v ↔ GivenIn mode l c v
+limits-iff One l c v = (λ r. (omega arith, omega arith, r .4, r .5), λ g. (omega arith, omega arith, omega arith, omega arith, g .2, g .3))
+limits-iff Four l c v = (λ r. r, λ g. g)
+
 in-sound : (fs : List (List ℕ)) (mode : Mode) → BackSound (limitsIn fs mode)
 unfolding limitsIn BackSound
 in-sound fs mode =
@@ -130,7 +141,7 @@ in-sound fs mode =
     by-num BackSound 8 (least mode) (mostLimit mode cbrlength) _ (λ wrong. tt) λ cbrlimit c d.
     by-num BackSound 9 1 (mostVbr mode cbrlength) _ (λ wrong. tt) λ vbrlimit e f.
     by-num BackSound 10 0 1 _ (λ wrong. tt) λ mark _ _.
-    record { cbrlength-least = a; cbrlength-most = b; cbrlimit-least = c; cbrlimit-most = d; vbrlimit-least = e; vbrlimit-most = f }
+    limits-iff mode cbrlength cbrlimit vbrlimit .0 (a, b, c, d, e, f)
 
 back-sound : (fs : List (List ℕ)) → BackSound (limitsOf fs)
 unfolding limitsOf BackSound

@@ -4,6 +4,7 @@ use mathlib.Core.Bool.{Bool, cond}
 use mathlib.Core.List.{List}
 use lib.ListN.{length}
 use lib.Dec.{eqb}
+use Rattle.header.specs.Fields.{highest}
 use Rattle.header.specs.declared.Link.{Link}
 use Rattle.header.specs.declared.Link.the-variants.{Uni, Nni}
 use Rattle.routing.specs.declared.Target.{Target}
@@ -46,14 +47,10 @@ busLine fs = num (numberIn fs 2 16 32) Bad λ n. cond (eqb n 16) (Good (Bus n)) 
 
 -- "`unit` number, `uni` or `nni`, top VPI, priority 1 to 3, mode, CBR length, CBR limit, VBR limit, mark 0 or 1."
 -- "Top VPI is at most 255 for uni, 4,095 for nni."
-abbrev pub topOf : Link → ℕ
-topOf Uni = 255
-topOf Nni = 4095
-
 -- its settings after the link
 unfoldable pub settingsOn : List (List ℕ) → ℕ → Link → Front
 settingsOn fs number link =
-    num (numberIn fs 4 0 (topOf link)) NoFront λ top.
+    num (numberIn fs 4 0 (highest link)) NoFront λ top.
     num (numberIn fs 5 1 3) NoFront λ priority.
     Set (record { number = number; link = link; top = top; priority = priority })
 

@@ -2,33 +2,26 @@
 use Prim.Native.Nat.{ℕ, _≤_}
 use mathlib.Core.Path.{_≡_}
 use mathlib.Core.Logic.{_⊎_}
+use Rattle.header.specs.Fields.{highest}
 use Rattle.routing.specs.declared.Target.{Target}
 use Rattle.routing.proofs.Laws.{Sayable}
+use Rattle.outlet.specs.Outlets.{Given as LimitsGiven}
 use Rattle.outlet.specs.declared.Limits.{Limits}
 use Rattle.shelf.specs.declared.Settings.{Settings}
 use Rattle.line.specs.declared.Line.{Line}
 use Rattle.line.specs.declared.Line.the-variants.{Bus, Unit as U·, Vp, Drop, Page, Vc, Mc}
-use Rattle.line.specs.Lines.{topOf, least, mostLength, mostLimit, mostVbr}
 
 -- the settings of a `unit` line: the top VPI by the link
 pub record SettingsIn (settings : Settings) : Type 0 where
   pub number-most : settings .number ≤ 31
-  pub top-most : settings .top ≤ topOf (settings .link)
+  pub top-most : settings .top ≤ highest (settings .link)
   pub priority-least : 1 ≤ settings .priority
   pub priority-most : settings .priority ≤ 3
 
--- its limits, by the mode
-pub record LimitsIn (limits : Limits) : Type 0 where
-  pub cbrlength-least : least (limits .mode) ≤ limits .cbrlength
-  pub cbrlength-most : limits .cbrlength ≤ mostLength (limits .mode)
-  pub cbrlimit-least : least (limits .mode) ≤ limits .cbrlimit
-  pub cbrlimit-most : limits .cbrlimit ≤ mostLimit (limits .mode) (limits .cbrlength)
-  pub vbrlimit-least : 1 ≤ limits .vbrlimit
-  pub vbrlimit-most : limits .vbrlimit ≤ mostVbr (limits .mode) (limits .cbrlength)
-
+-- with its limits, which are such as the outlet asks for
 pub record Given (settings : Settings) (limits : Limits) : Type 0 where
   pub settings-in : SettingsIn settings
-  pub limits-in : LimitsIn limits
+  pub limits-in : LimitsGiven limits
 
 -- a unit and a VPI
 pub record KeyIn (unit vpi : ℕ) : Type 0 where

@@ -9,7 +9,7 @@ ghost use Prim.Native.Nat.{_+_, _≤_};
 ghost use lib.ListN.{length, drop};
 ghost use Rattle.line.specs.Text.{at, split, fieldsOf, fieldOf, same};
 ghost use Rattle.line.specs.Digits.{digits as digitsOf, decimalOf, ranged, num as numGives, aimOf};
-ghost use Rattle.line.specs.Lines.{numberIn, busLine, topOf, settingsOn, settingsOf, least as leastOf, mostLength, mostLimit, mostVbr, limitsIn, limitsOf, unitLine, keyOf, wayOf, vpLine, dropLine, pageLine, vcOn, vcLine, mcLine, lineOf, countOf, wordOf, readingOf};
+ghost use Rattle.line.specs.Lines.{numberIn, busLine, settingsOn, settingsOf, least as leastOf, mostLength, mostLimit, mostVbr, limitsIn, limitsOf, unitLine, keyOf, wayOf, vpLine, dropLine, pageLine, vcOn, vcLine, mcLine, lineOf, countOf, wordOf, readingOf};
 
 pub enum Line {
     Bus(u8),
@@ -305,21 +305,11 @@ fn bus_line(s: &[u8]) -> Reading
     }
 }
 
-// The greatest top VPI at a link.
-fn greatest(link: Link) -> u16
-    ensures { λ r. ⌜ r ≡ topOf link ⌝ }
-{
-    match link {
-        Link::Uni => 255,
-        Link::Nni => 4095,
-    }
-}
-
 // The settings of a `unit` line whose number and link are read.
 fn settings_on(s: &[u8], number: u8, link: Link) -> Front
     ensures { λ r. ⌜ r ≡ settingsOn (fieldsOf (now (s .entry))) number link ⌝ }
 {
-    let top = match number_at(s, 4, 0, greatest(link)) {
+    let top = match number_at(s, 4, 0, header::highest(link)) {
         Num::Is(top) => top,
         Num::NoNum(wrong) => {
             return Front::NoFront(wrong);

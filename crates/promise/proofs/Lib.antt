@@ -4,3 +4,4 @@ pub mod ByLines
 pub mod Runs
 pub mod Refusals
 pub mod Cards
+pub mod Loads

@@ -14,13 +14,14 @@ use Rattle.line.specs.declared.Line.{Line}
 use Rattle.line.specs.declared.Wrong.{Wrong}
 use Rattle.line.specs.declared.Reading.{Reading}
 use Rattle.line.specs.declared.Reading.the-variants.{Good as Read, Bad}
+use Rattle.line.specs.Ranges.{InRange}
 use Rattle.line.proofs.Ranges.{read-in-range}
 use Rattle.judge.specs.declared.Verdict.{Verdict}
 use Rattle.judge.specs.declared.Verdict.the-variants.{Fine}
 use Rattle.judge.specs.Judge.{isFine}
 use Rattle.told.specs.Lines.{judge, Good, Ran, done, stopped, verdictOn, run}
 use Rattle.told.proofs.Grown.{decide}
-use Rattle.told.proofs.Memory.{Ranged, AllRanged}
+use Rattle.told.proofs.Memory.{AllRanged}
 use Rattle.table.specs.Load.{readingsOf, ranOf}
 use Rattle.table.proofs.Leaves.{fine-is}
 use Rattle.table.proofs.Turns.{ranged}
@@ -129,13 +130,13 @@ module _ (card : Card) (room : ℕ) where
 -- what was read is in range
 abbrev Ranges : List Reading → Type 0
 Ranges [] = Unit {0}
-Ranges (r ∷ rs) = ((l : Line) → r ≡ Read l → Ranged l) × Ranges rs
+Ranges (r ∷ rs) = ((l : Line) → r ≡ Read l → InRange l) × Ranges rs
 
 bad-read : {wrong : Wrong} {l : Line} → Bad wrong ≡ Read l → ⊥
 bad-read e = let z : _≡_ {A = ℕ} 0 1 = cc in omega arith
 
-reading-ranged : (text : List ℕ) (ended : Bool) (l : Line) → readingOf text ended ≡ Read l → Ranged l
-reading-ranged text ended l e = ranged l (read-in-range text ended e)
+reading-ranged : (text : List ℕ) (ended : Bool) (l : Line) → readingOf text ended ≡ Read l → InRange l
+reading-ranged text ended l e = read-in-range text ended e
 
 readings-ranged : (ps : List (List ℕ)) → Ranges (readingsOf ps)
 unfolding readingsOf
@@ -147,10 +148,21 @@ lines-ranged : (text : List ℕ) → Ranges (linesOf text)
 unfolding linesOf
 lines-ranged text = decide (eqb (length text) 0) (λ t. rw t ((λ l e. absurd (bad-read e)), tt)) (λ t. rw t (readings-ranged (split 10 text)))
 
-then-ranged : (told : List Line) (rest : List Reading) → Ranges (readThen told rest) → AllRanged told × Ranges rest
+abbrev pub AllInRange : List Line → Type 0
+AllInRange [] = Unit {0}
+AllInRange (l ∷ told) = InRange l × AllInRange told
+
+then-ranged : (told : List Line) (rest : List Reading) → Ranges (readThen told rest) → AllInRange told × Ranges rest
 unfolding readThen
 then-ranged [] rest r = (tt, r)
 then-ranged (l ∷ told) rest r = let k = then-ranged told (Read l ∷ rest) r in ((k .1 .0 l refl, k .0), k .1 .1)
 
+pub good-in-range : (card : Card) (room : ℕ) (text : List ℕ) (told : List Line) → AllGood card room (linesOf text) told → AllInRange told
+good-in-range card room text told g = then-ranged told [] (subst Ranges (g .all) (lines-ranged text)) .0
+
+pub all-ranged : (told : List Line) → AllInRange told → AllRanged told
+all-ranged [] r = tt
+all-ranged (l ∷ told) r = (ranged l (r .0), all-ranged told (r .1))
+
 pub good-ranged : (card : Card) (room : ℕ) (text : List ℕ) (told : List Line) → AllGood card room (linesOf text) told → AllRanged told
-good-ranged card room text told g = then-ranged told [] (subst Ranges (g .all) (lines-ranged text)) .0
+good-ranged card room text told g = all-ranged told (good-in-range card room text told g)

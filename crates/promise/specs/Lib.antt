@@ -3,3 +3,4 @@ pub mod Sheet
 pub mod Served
 pub mod Refusals
 pub mod Narrow
+pub mod Loads

@@ -6,7 +6,9 @@ use mathlib.Core.List.{List, [], _∷_}
 use Prim.Native.Nat.{ℕ, zero, suc, _+_, _≤_, _<_}
 use native.Mathlib.Nat.{not-suc-le-zero, zero-add, add-zero}
 use native.Mathlib.Omega.{arith}
+use lib.Dec.{eqb}
 use lib.ListN.{length, getD}
+use Rattle.header.specs.Fields.{highest}
 use Rattle.header.specs.declared.Link.{Link}
 use Rattle.header.specs.declared.Link.the-variants.{Uni, Nni}
 use Rattle.card.specs.declared.Card.{Card}
@@ -16,13 +18,13 @@ use Rattle.card.specs.Cards.{narrowHolds, holds}
 use Rattle.outlet.specs.Outlets.{Given, RingFits, RingsFit}
 use Rattle.outlet.proofs.Truth.{le-iff, lt-iff, eq-iff, and-iff, or-iff}
 use Rattle.outlet.proofs.Laws.{given-iff, fits-iff, rings-iff}
-use Rattle.arbiter.specs.Arbitration.{nobody}
+use Rattle.arbiter.specs.Arbitration.{nobody, besides}
 use Rattle.shelf.specs.Shelves.{declared, blank, fresh, numberOf, numbers, findIn}
 use Rattle.shelf.specs.declared.Unit as U
 use Rattle.shelf.specs.declared.Shelf.{Shelf}
 use Rattle.shelf.specs.declared.Found.the-variants.{At}
 use Rattle.shelf.proofs.Finding.{find-at}
-use Rattle.soundness.specs.State.{every, among, noneRepeated, highest, settingsGiven, belowBus, couldBeGiven, withinCapacity, besides, grantHasCell, requestHasCell, nobodyOr, asksKnown, arbiterKnown, soundOf, UnitSound, DeclaredIn, Sound}
+use Rattle.soundness.specs.State.{every, among, noneRepeated, settingsGiven, belowBus, couldBeGiven, withinCapacity, grantHasCell, requestHasCell, nobodyOr, asksKnown, arbiterKnown, soundOf, UnitSound, DeclaredIn, Sound}
 use Rattle.soundness.proofs.Pass.{framed-iff}
 
 -- a test that does not hold, and one that holds where another does
@@ -70,7 +72,7 @@ once-iff (u ∷ us) =
     )
 
 -- the settings
-link-iff : (card : Card) (link : Link) → (holds card (On link) ≡ true) ↔ (link ≡ Nni → card ≡ Wide)
+pub link-iff : (card : Card) (link : Link) → (holds card (On link) ≡ true) ↔ (link ≡ Nni → card ≡ Wide)
 unfolding holds narrowHolds
 link-iff Wide link = (λ t e. refl, λ f. refl)
 link-iff Narrow Uni = (λ t e. let z : _≡_ {A = ℕ} 0 1 = cc in absurd (omega arith), λ f. refl)
@@ -133,9 +135,9 @@ sound-iff card shelf store rows =
     (every-iff (grantHasCell (shelf .granted)) (λ u. numberOf u ≡ shelf .granted → 1 ≤ u .inlet .count)
     (λ u. imp-iff (eq-iff (numberOf u) (shelf .granted)) (le-iff 1 (u .inlet .count))) us))
     (every-iff (requestHasCell (shelf .granted) asks)
-    (λ u. (getD asks (numberOf u) 0 ≡ 0) ⊎ ((getD asks (numberOf u) 0 ≡ u .settings .priority) × (1 ≤ besides (shelf .granted) (numberOf u) (u .inlet .count))))
+    (λ u. (getD asks (numberOf u) 0 ≡ 0) ⊎ ((getD asks (numberOf u) 0 ≡ u .settings .priority) × (1 ≤ besides (u .inlet .count) (eqb (numberOf u) (shelf .granted)))))
     (λ u. or-iff (eq-iff (getD asks (numberOf u) 0) 0)
-    (and-iff (eq-iff (getD asks (numberOf u) 0) (u .settings .priority)) (le-iff 1 (besides (shelf .granted) (numberOf u) (u .inlet .count))))) us))
+    (and-iff (eq-iff (getD asks (numberOf u) 0) (u .settings .priority)) (le-iff 1 (besides (u .inlet .count) (eqb (numberOf u) (shelf .granted)))))) us))
     (and-iff
     (and-iff (nobodyOr-iff (shelf .granted)) (and-iff (and-iff (nobodyOr-iff (getD last 0 0)) (nobodyOr-iff (getD last 1 0))) (nobodyOr-iff (getD last 2 0))))
     (quiet-iff us asks)) in (

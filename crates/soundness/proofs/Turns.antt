@@ -1,6 +1,6 @@
 -- The tests of the code, one at a time. Assumes nothing.
 use mathlib.Core.Path.{_≡_, refl, sym, ap, ap₂, _∙_}
-use mathlib.Core.Bool.{Bool, true, false, not, _&&_, _||_, cond, and-true, and-false, or-false, and-assoc}
+use mathlib.Core.Bool.{Bool, true, false, not, _&&_, _||_, and-true, and-false, or-false, and-assoc}
 use mathlib.Core.List.{List}
 use Prim.Native.Nat.{ℕ, suc, _+_, _-_, _≤_, _<_}
 use native.Mathlib.Nat.{sub-zero}
@@ -11,13 +11,14 @@ use lib.ListN.{length, getD, drop, List·getD-eq-default, drop-of-length-le}
 use lib.Seq.{drop-cons}
 use borrow.Author.Tests.{eq-eqb, ne-eqb}
 use Rattle.outlet.proofs.Truth.{same, le-iff, and-iff}
+use Rattle.arbiter.specs.Arbitration.{besides}
 use Rattle.outlet.specs.Outlets.{within, given, ringFits, ringsFit, outletFits}
 use Rattle.card.specs.declared.Card.{Card}
 use Rattle.shelf.specs.declared.Unit as U
 use Rattle.soundness.specs.State.{settingsGiven, belowBus, unitFits, waitsAt, nobodyOr, asksKnown}
 
 -- a cell besides a granted one
-besides-flat : (granted : Bool) (cells : ℕ) → (leb 1 cells && (not granted || leb 2 cells)) ≡ leb 1 (cells - cond granted 1 0)
+besides-flat : (granted : Bool) (cells : ℕ) → (leb 1 cells && (not granted || leb 2 cells)) ≡ leb 1 (besides cells granted)
 besides-flat false cells = and-true (leb 1 cells) ∙ ap (leb 1) (sym (sub-zero cells))
 besides-flat true cells =
     let e = and-iff (le-iff 1 cells) (le-iff 2 cells) in

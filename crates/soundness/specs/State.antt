@@ -1,21 +1,21 @@
 -- When the state of a shelf is sound: 01's State, "bus not 16 or 32; a unit repeated or not below the bus number; a setting that its `unit`
 -- line on this card could not give; a count or queue position past its capacity; an open grant at a unit without a cell; a request at one
 -- without a cell besides a granted one; a last granted unit not declared; store or counter rows smaller than Store asks". Assumes nothing.
-use Prim.Native.Nat.{ℕ, suc, _*_, _-_, _≤_, _<_}
+use Prim.Native.Nat.{ℕ, suc, _*_, _≤_, _<_}
 use mathlib.Core.Path.{_≡_}
 use mathlib.Core.Logic.{_⊎_}
-use mathlib.Core.Bool.{Bool, true, false, not, _&&_, _||_, cond}
+use mathlib.Core.Bool.{Bool, true, false, not, _&&_, _||_}
 use mathlib.Core.List.{List, [], _∷_}
 use lib.Dec.{eqb, leb, ltb}
 use lib.ListN.{length, getD}
-use Rattle.header.specs.declared.Link.{Link}
-use Rattle.header.specs.declared.Link.the-variants.{Uni, Nni}
+use Rattle.header.specs.Fields.{highest}
+use Rattle.header.specs.declared.Link.the-variants.{Nni}
 use Rattle.card.specs.declared.Card.{Card}
 use Rattle.card.specs.declared.Card.the-variants.{Wide}
 use Rattle.card.specs.declared.Ask.the-variants.{On}
 use Rattle.card.specs.Cards.{holds}
 use Rattle.outlet.specs.Outlets.{between, given, Given, ringFits, RingFits, ringsFit, RingsFit}
-use Rattle.arbiter.specs.Arbitration.{nobody}
+use Rattle.arbiter.specs.Arbitration.{nobody, besides}
 use Rattle.shelf.specs.Shelves.{declared, blank, numberOf, numbers}
 use Rattle.shelf.specs.declared.Settings.{Settings}
 use Rattle.shelf.specs.declared.Unit as U
@@ -39,10 +39,6 @@ unfoldable pub framed : ℕ → ℕ → ℕ → ℕ → Bool
 framed bus count store rows = (eqb bus 16 || eqb bus 32) && leb count 32 && leb (8192 * count) store && leb count rows
 
 -- "Top VPI is at most 255 for uni, 4,095 for nni", "priority 1 to 3"; nni only on the wide card
-abbrev pub highest : Link → ℕ
-highest Uni = 255
-highest Nni = 4095
-
 unfoldable pub settingsGiven : Card → Settings → Bool
 settingsGiven card s = holds card (On (s .link)) && leb (s .top) (highest (s .link)) && between 1 3 (s .priority)
 
@@ -64,11 +60,8 @@ abbrev pub grantHeld : ℕ → ℕ → ℕ → Bool
 grantHeld granted number cells = not (eqb number granted) || leb 1 cells
 
 -- "a request at one without a cell besides a granted one": a request is 0 or at the unit's priority
-abbrev pub besides : ℕ → ℕ → ℕ → ℕ
-besides granted number cells = cells - cond (eqb number granted) 1 0
-
 abbrev pub askHeld : ℕ → ℕ → ℕ → ℕ → ℕ → Bool
-askHeld granted ask number priority cells = eqb ask 0 || eqb ask priority && leb 1 (besides granted number cells)
+askHeld granted ask number priority cells = eqb ask 0 || eqb ask priority && leb 1 (besides cells (eqb number granted))
 
 unfoldable pub waitsAt : ℕ → ℕ → ℕ → ℕ → ℕ → Bool
 waitsAt granted ask number priority cells = grantHeld granted number cells && askHeld granted ask number priority cells
@@ -117,7 +110,7 @@ pub record UnitSound (card : Card) (bus granted : ℕ) (asks : List ℕ) (u : U.
   pub inlet : RingFits (u .inlet) 4
   pub queues : RingsFit (u .outlet)
   pub grant : numberOf u ≡ granted → 1 ≤ u .inlet .count
-  pub ask : (getD asks (numberOf u) 0 ≡ 0) ⊎ ((getD asks (numberOf u) 0 ≡ u .settings .priority) × (1 ≤ besides granted (numberOf u) (u .inlet .count)))
+  pub ask : (getD asks (numberOf u) 0 ≡ 0) ⊎ ((getD asks (numberOf u) 0 ≡ u .settings .priority) × (1 ≤ besides (u .inlet .count) (eqb (numberOf u) granted)))
 
 -- a unit with this number is declared
 abbrev pub DeclaredIn : List U.Unit → ℕ → Type 0

@@ -9,17 +9,7 @@ use shelf::Unit;
 ghost use mathlib.Core.Path.{_≡_};
 ghost use mathlib.Core.Bool.{false};
 ghost use lib.ListN.{getD};
-ghost use Rattle.soundness.specs.State.{highest as highestOn, settingsGiven, framed as framedIn, unitFits, waitsAt, nobodyOr, asksKnown, arbiterKnown, soundOf};
-
-// The highest top VPI of a link.
-fn highest(link: Link) -> u16
-    ensures { λ r. ⌜ r ≡ highestOn link ⌝ }
-{
-    match link {
-        Link::Uni => 255,
-        Link::Nni => 4095,
-    }
-}
+ghost use Rattle.soundness.specs.State.{settingsGiven, framed as framedIn, unitFits, waitsAt, nobodyOr, asksKnown, arbiterKnown, soundOf};
 
 // Whether a `unit` line on this card could give these settings.
 pub fn settings_given(card: Card, settings: Settings) -> bool
@@ -27,7 +17,7 @@ pub fn settings_given(card: Card, settings: Settings) -> bool
 {
     let link = settings.link;
     card::holds(card, Ask::On(link))
-        & (settings.top <= highest(link))
+        & (settings.top <= header::highest(link))
         & ((1 <= settings.priority) & (settings.priority <= 3))
 }
 

@@ -100,13 +100,14 @@ module _ (card : Card) (room : ℕ) (told : List Line) where
       let p = kept (isFirst told) (asked card (A·Bus bus) Fine) (Order 1) order-fine e in
       (p .0, kept (holds card (A·Bus bus)) Fine Wide wide-fine (p .1) .0)
 
-  pub record UnitFine (number top : ℕ) : Type 0 where
+  pub record UnitFine (settings : Settings) : Type 0 where
     pub begun : isFirst told ≡ false
-    pub below : number < shelfOf told .bus
-    pub new : topOf told (ofUnit number) ≡ none
-    pub roomy : size * total told + size * (top + 1) ≤ room
+    pub below : settings .number < shelfOf told .bus
+    pub new : topOf told (ofUnit (settings .number)) ≡ none
+    pub held : holds card (On (settings .link)) ≡ true
+    pub roomy : size * total told + size * (settings .top + 1) ≤ room
 
-  pub fine-unit : (settings : Settings) (limits : Limits) → judge card room told (L·Unit settings limits) ≡ Fine → UnitFine (settings .number) (settings .top)
+  pub fine-unit : (settings : Settings) (limits : Limits) → judge card room told (L·Unit settings limits) ≡ Fine → UnitFine settings
   unfolding judge judgeUnit
   fine-unit settings limits e =
       let p = begun told _ e in
@@ -117,6 +118,7 @@ module _ (card : Card) (room : ℕ) (told : List Line) where
         begun = p .0;
         below = leb-false _ _ (q .0);
         new = undeclared _ (d .0);
+        held = h .0;
         roomy = roomy room (size * total told) (settings .top + 1) (h .1);
       }
 

@@ -86,7 +86,7 @@ pub record Shelved (told : List Line) : Type 0 where
 
 -- a unit more
 module _ (shelf : Shelf) (n : U.Unit) (room : shelf .count < length (shelf .units)) where
-  declared-more : declared (declare shelf n) ≡ declared shelf ++ (n ∷ [])
+  pub declared-more : declared (declare shelf n) ≡ declared shelf ++ (n ∷ [])
   unfolding declare
   declared-more = ap (λ k. take k (set (shelf .units) (shelf .count) n)) (add-one (shelf .count)) ∙ take-suc-set (shelf .units) (shelf .count) n room
 

@@ -7,8 +7,8 @@ use borrow.Author.Needs.{needs}
 use Rattle.line.proofs.settings_on.Statement.{statement}
 use Rattle.line.proofs.settings_on.Tie as tie
 
-greatest-requires : tie.Need-greatest-requires
-greatest-requires c κs = search needs
+highest-requires : tie.Need-highest-requires
+highest-requires c κs = search needs
 
 number-at-requires : tie.Need-number-at-requires
 number-at-requires c κs = search needs
@@ -23,7 +23,7 @@ returns : tie.Need-returns
 unfolding settingsOn
 returns c =
     let p1 = c .before .before .before .before in
-    simp (sym (rw (p1 .greatest .ensures) at (c .before .before .before .number-at .ensures)) ∙ c .before .wrong .given .1)
+    simp (sym (rw (p1 .highest .ensures) at (c .before .before .before .number-at .ensures)) ∙ c .before .wrong .given .1)
 
 number-at-requires-2 : tie.Need-number-at-requires-2
 number-at-requires-2 c κs = search needs
@@ -41,19 +41,19 @@ returns-2 : tie.Need-returns-2
 unfolding settingsOn
 returns-2 c =
     let p1 = c .before .before .before .before .before in
-    simp (sym (rw (p1 .before .before .before .greatest .ensures) at (p1 .before .before .number-at .ensures)) ∙ p1 .top .given .1, sym (c .before .before .before .number-at2 .ensures) ∙ c .before .n .given .1)
+    simp (sym (rw (p1 .before .before .before .highest .ensures) at (p1 .before .before .number-at .ensures)) ∙ p1 .top .given .1, sym (c .before .before .before .number-at2 .ensures) ∙ c .before .n .given .1)
 
 returns-3 : tie.Need-returns-3
 unfolding settingsOn
 returns-3 c =
     let p1 = c .before .before .before .before .before in
-    simp (sym (rw (p1 .before .before .before .greatest .ensures) at (p1 .before .before .number-at .ensures)) ∙ p1 .top .given .1, sym (c .before .before .before .number-at2 .ensures) ∙ c .before .wrong2 .given .1)
+    simp (sym (rw (p1 .before .before .before .highest .ensures) at (p1 .before .before .number-at .ensures)) ∙ p1 .top .given .1, sym (c .before .before .before .number-at2 .ensures) ∙ c .before .wrong2 .given .1)
 
 pub settings-on-spec : {M : Type 1} → statement M
 settings-on-spec =
     tie.close
     (tie.spec
-    greatest-requires
+    highest-requires
     number-at-requires
     enum-known-top
     enum-known-wrong

@@ -1,7 +1,7 @@
--- `line::greatest` meets its contract. Assumes nothing.
+-- `header::highest` meets its contract. Assumes nothing.
 use borrow.Author.Needs.{needs}
-use Rattle.line.proofs.greatest.Statement.{statement}
-use Rattle.line.proofs.greatest.Tie as tie
+use Rattle.header.proofs.highest.Statement.{statement}
+use Rattle.header.proofs.highest.Tie as tie
 
 enum-told : tie.Need-enum-told
 enum-told c = search needs
@@ -15,5 +15,5 @@ returns c = rw (c .enum-told .given .1)
 returns-2 : tie.Need-returns-2
 returns-2 c = rw (c .enum-told2 .given .1)
 
-pub greatest-spec : {M : Type 1} → statement M
-greatest-spec = tie.close (tie.spec enum-told enum-told-2 returns returns-2)
+pub highest-spec : {M : Type 1} → statement M
+highest-spec = tie.close (tie.spec enum-told enum-told-2 returns returns-2)
