@@ -1,0 +1,3 @@
+pub mod Requests
+pub mod Sending
+pub mod Frames

@@ -1,0 +1,99 @@
+-- A unit sends, and every declared unit hears it. Assumes nothing.
+use Prim.Native.Nat.{ℕ, suc, _+_, _<_}
+use mathlib.Core.Bool.{Bool, true, false, _||_}
+use mathlib.Core.List.{List, [], _∷_}
+use lib.Bits.{bitOr}
+use lib.ListN.{length, getD, set, take, replicate}
+use Rattle.bus.specs.Frame.{sealed, heard}
+use Rattle.bus.specs.declared.Heard as H
+use Rattle.store.specs.Rings.{popped}
+use Rattle.store.specs.Places.{Cell, inletSlot, cellAt}
+use Rattle.shelf.specs.Shelves.{declared}
+use Rattle.shelf.specs.declared.Unit as U
+use Rattle.shelf.specs.declared.Shelf.{Shelf}
+use Rattle.answer.specs.declared.Hearing as A
+use Rattle.answer.specs.declared.Hearing.the-variants.{Damaged, Other, Wide, Full, Clp, Queued}
+use Rattle.answer.specs.Answers.{#sent, #unheard, hearingRises}
+use Rattle.admit.specs.Admission.{unitAt, withUnit, withInlet, Housed}
+use Rattle.hearing.specs.Hearings.{copyOf, storeOf}
+use Rattle.hearing.specs.declared.Copy.{Copy}
+use Rattle.framing.specs.declared.Listened.{Listened}
+
+-- "copies queued"
+unfoldable pub queuedOne : A.Hearing → ℕ
+queuedOne Damaged = 0
+queuedOne Other = 0
+queuedOne Wide = 0
+queuedOne Full = 0
+queuedOne Clp = 0
+queuedOne Queued = 1
+
+-- "a damaged frame addresses none"
+unfoldable pub isAddressed : A.Hearing → Bool
+isAddressed Damaged = false
+isAddressed Other = false
+isAddressed Wide = true
+isAddressed Full = true
+isAddressed Clp = true
+isAddressed Queued = true
+
+-- nothing is heard yet
+abbrev pub silence : Shelf → Listened
+silence shelf = record { shelf = shelf; each = replicate 32 0; copies = 0; addressed = false }
+
+-- the unit in a place has heard it, with this outcome
+abbrev pub after : ℕ → Copy → Listened → Listened
+after place copy l =
+    record {
+      shelf = withUnit (l .shelf) place (copy .unit);
+      each = set (l .each) place (hearingRises (copy .fate));
+      copies = l .copies + queuedOne (copy .fate);
+      addressed = l .addressed || isAddressed (copy .fate);
+    }
+
+-- these units, the first of them in a place, hear it one after the other
+unfoldable pub heardFrom : H.Heard → ℕ → List U.Unit → Listened → Listened
+heardFrom h place [] l = l
+heardFrom h place (u ∷ us) l = heardFrom h (suc place) us (after place (copyOf u h) l)
+
+unfoldable pub storeFrom : H.Heard → ℕ → List U.Unit → List ℕ → Cell → List ℕ
+storeFrom h place [] store cell = store
+storeFrom h place (u ∷ us) store cell = storeFrom h (suc place) us (storeOf u h place store cell) cell
+
+-- "a sent frame is heard by every declared unit"
+abbrev pub heardByAll : Shelf → H.Heard → Listened
+heardByAll shelf h = heardFrom h 0 (declared shelf) (silence shelf)
+
+abbrev pub heardStore : Shelf → H.Heard → List ℕ → Cell → List ℕ
+heardStore shelf h store cell = storeFrom h 0 (declared shelf) store cell
+
+-- "A sent cell addressing no declared unit also counts `unheard` at its sender"
+unfoldable pub sentRises : Bool → ℕ
+sentRises true = #sent
+sentRises false = #sent + #unheard
+
+abbrev pub countSent : ℕ → Listened → Listened
+countSent place l =
+    record {
+      shelf = l .shelf;
+      each = set (l .each) place (bitOr (getD (l .each) place 0) (sentRises (l .addressed)));
+      copies = l .copies;
+      addressed = l .addressed;
+    }
+
+-- "the unit granted in the frame before sends its oldest cell": the frame, and the shelf without it
+unfoldable pub sentFrame : Shelf → ℕ → List ℕ → List ℕ
+sentFrame shelf place store = sealed (cellAt store place (inletSlot (unitAt shelf place .inlet .head)))
+
+unfoldable pub cellOut : Shelf → ℕ → Shelf
+cellOut shelf place = withUnit shelf place (withInlet (unitAt shelf place) (popped (unitAt shelf place .inlet) 4))
+
+unfoldable pub sentBy : Shelf → ℕ → List ℕ → Listened
+sentBy shelf place store = countSent place (heardByAll (cellOut shelf place) (heard (sentFrame shelf place store)))
+
+unfoldable pub sentStore : Shelf → ℕ → List ℕ → List ℕ
+sentStore shelf place store = heardStore (cellOut shelf place) (heard (sentFrame shelf place store)) store (take 56 (sentFrame shelf place store))
+
+-- each declared unit has its part of a store of so many bytes
+abbrev pub AllHoused : Shelf → ℕ → Type 0
+AllHoused shelf bytes = (i : ℕ) → i < length (declared shelf) → Housed i (unitAt shelf i) bytes
