@@ -1,56 +1,63 @@
+use Rattle.framing.specs.Sending.{isAddressed}
 use borrow.Author.Needs.{needs}
 use Rattle.framing.proofs.is_addressed.Statement.{statement}
 use Rattle.framing.proofs.is_addressed.Tie as tie
 use Rattle.framing.proofs.is_addressed.Reads as reads
 use Rattle.framing.proofs.is_addressed.Lts as lts
 
--- src/lib.rt:76:29
+
 enum-told : tie.Need-enum-told
 enum-told c = search needs
 
--- src/lib.rt:77:27
+
 enum-told-2 : tie.Need-enum-told-2
 enum-told-2 c = search needs
 
--- src/lib.rt:78:26
+
 enum-told-3 : tie.Need-enum-told-3
 enum-told-3 c = search needs
 
--- src/lib.rt:79:26
+
 enum-told-4 : tie.Need-enum-told-4
 enum-told-4 c = search needs
 
--- src/lib.rt:80:25
+
 enum-told-5 : tie.Need-enum-told-5
 enum-told-5 c = search needs
 
--- src/lib.rt:81:28
+
 enum-told-6 : tie.Need-enum-told-6
 enum-told-6 c = search needs
 
--- src/lib.rt:72:1
+
 returns : tie.Need-returns
-returns c = ?
+unfolding isAddressed
+returns c = rw (c .enum-told .given .1)
 
--- src/lib.rt:72:1
+
 returns-2 : tie.Need-returns-2
-returns-2 c = ?
+unfolding isAddressed
+returns-2 c = rw (c .enum-told2 .given .1)
 
--- src/lib.rt:72:1
+
 returns-3 : tie.Need-returns-3
-returns-3 c = ?
+unfolding isAddressed
+returns-3 c = rw (c .enum-told3 .given .1)
 
--- src/lib.rt:72:1
+
 returns-4 : tie.Need-returns-4
-returns-4 c = ?
+unfolding isAddressed
+returns-4 c = rw (c .enum-told4 .given .1)
 
--- src/lib.rt:72:1
+
 returns-5 : tie.Need-returns-5
-returns-5 c = ?
+unfolding isAddressed
+returns-5 c = rw (c .enum-told5 .given .1)
 
--- src/lib.rt:72:1
+
 returns-6 : tie.Need-returns-6
-returns-6 c = ?
+unfolding isAddressed
+returns-6 c = rw (c .enum-told6 .given .1)
 
 pub is-addressed-spec : {M : Type 1} → statement M
 is-addressed-spec =

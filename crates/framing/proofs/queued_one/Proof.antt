@@ -1,56 +1,65 @@
+use Rattle.framing.specs.Sending.{queuedOne}
+use mathlib.Core.Path.{sym, ap}
+use native.Mathlib.Omega.{arith}
 use borrow.Author.Needs.{needs}
 use Rattle.framing.proofs.queued_one.Statement.{statement}
 use Rattle.framing.proofs.queued_one.Tie as tie
 use Rattle.framing.proofs.queued_one.Reads as reads
 use Rattle.framing.proofs.queued_one.Lts as lts
 
--- src/lib.rt:62:29
+
 enum-told : tie.Need-enum-told
 enum-told c = search needs
 
--- src/lib.rt:63:27
+
 enum-told-2 : tie.Need-enum-told-2
 enum-told-2 c = search needs
 
--- src/lib.rt:64:26
+
 enum-told-3 : tie.Need-enum-told-3
 enum-told-3 c = search needs
 
--- src/lib.rt:65:26
+
 enum-told-4 : tie.Need-enum-told-4
 enum-told-4 c = search needs
 
--- src/lib.rt:66:25
+
 enum-told-5 : tie.Need-enum-told-5
 enum-told-5 c = search needs
 
--- src/lib.rt:67:28
+
 enum-told-6 : tie.Need-enum-told-6
 enum-told-6 c = search needs
 
--- src/lib.rt:57:1
+
 returns : tie.Need-returns
-returns c = ?
+unfolding queuedOne
+returns c = (ap queuedOne (sym (c .enum-told .given .1)), omega arith)
 
--- src/lib.rt:57:1
+
 returns-2 : tie.Need-returns-2
-returns-2 c = ?
+unfolding queuedOne
+returns-2 c = (ap queuedOne (sym (c .enum-told2 .given .1)), omega arith)
 
--- src/lib.rt:57:1
+
 returns-3 : tie.Need-returns-3
-returns-3 c = ?
+unfolding queuedOne
+returns-3 c = (ap queuedOne (sym (c .enum-told3 .given .1)), omega arith)
 
--- src/lib.rt:57:1
+
 returns-4 : tie.Need-returns-4
-returns-4 c = ?
+unfolding queuedOne
+returns-4 c = (ap queuedOne (sym (c .enum-told4 .given .1)), omega arith)
 
--- src/lib.rt:57:1
+
 returns-5 : tie.Need-returns-5
-returns-5 c = ?
+unfolding queuedOne
+returns-5 c = (ap queuedOne (sym (c .enum-told5 .given .1)), omega arith)
 
--- src/lib.rt:57:1
+
 returns-6 : tie.Need-returns-6
-returns-6 c = ?
+unfolding queuedOne
+returns-6 c = (ap queuedOne (sym (c .enum-told6 .given .1)), omega arith)
 
 pub queued-one-spec : {M : Type 1} → statement M
 queued-one-spec =

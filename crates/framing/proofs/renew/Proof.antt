@@ -1,3 +1,7 @@
+use mathlib.Core.Path.{sym, ap, _∙_}
+use borrow.Author.Tests.{not-true, not-false}
+use Rattle.arbiter.specs.Arbitration.{renewed}
+use Rattle.framing.specs.Requests.{renewal}
 use borrow.Author.Needs.{needs}
 use Rattle.framing.proofs.renew.Statement.{statement}
 use Rattle.framing.proofs.renew.Tie as tie
@@ -7,25 +11,27 @@ use Rattle.arbiter.proofs.Arbiter.renew.Reads as renew-reads
 use Rattle.arbiter.proofs.asking.Reads as asking-reads
 use Rattle.arbiter.proofs.due.Reads as due-reads
 
--- src/lib.rt:34:9
+
 due-requires : tie.Need-due-requires
 due-requires c κs = search needs
 
--- src/lib.rt:35:9
-returns : tie.Need-returns
-returns c = ?
 
--- src/lib.rt:37:9
+returns : tie.Need-returns
+unfolding renewal
+returns c = rw (sym (c .before .due .ensures) ∙ not-true _ (c .if1 .taken))
+
+
 asking-requires : tie.Need-asking-requires
 asking-requires c κs = search needs
 
--- src/lib.rt:38:5
+
 renew-requires : tie.Need-renew-requires
 renew-requires c κs = search needs
 
--- src/lib.rt:29:1
+
 returns-2 : tie.Need-returns-2
-returns-2 c = ?
+unfolding renewal
+returns-2 c = rw (sym (c .before .before .before .due .ensures) ∙ not-false _ (c .before .before .if1 .left)) (c .renew .ensures ∙ ap (renewed (c .before .before .before .before .before .args .requests) (c .before .before .before .before .before .args .unit .settings .number)) (c .before .asking .ensures))
 
 pub renew-spec : {M : Type 1} → statement M
 renew-spec = tie.close (tie.spec due-requires returns asking-requires renew-requires returns-2)

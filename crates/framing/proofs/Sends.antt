@@ -1,0 +1,1 @@
+-- a unit sends

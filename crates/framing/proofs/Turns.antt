@@ -1,0 +1,79 @@
+-- One declared unit at a time. Assumes nothing.
+use Prim.Native.Nat.{ℕ, suc, _+_, _≤_, _<_, min}
+use native.Mathlib.Numerals.{add-one}
+use native.Mathlib.Omega.{arith}
+use mathlib.Core.Path.{_≡_, refl, sym, ap, _∙_}
+use mathlib.Core.Bool.{Bool, _||_}
+use mathlib.Core.List.{List, [], _∷_}
+use lib.ListN.{length, getD, set, drop, drop-of-length-le}
+use lib.Seq.{drop-cons}
+use Rattle.arbiter.specs.declared.Arbiter.{Arbiter}
+use Rattle.bus.specs.declared.Heard as H
+use Rattle.store.specs.Places.{Cell}
+use Rattle.shelf.specs.Shelves.{declared}
+use Rattle.shelf.specs.declared.Unit as U
+use Rattle.shelf.specs.declared.Shelf.{Shelf}
+use Rattle.shelf.proofs.Finding.{declared-length, declared-at}
+use Rattle.answer.specs.Answers.{hearingRises}
+use Rattle.admit.specs.Admission.{withUnit}
+use Rattle.admit.proofs.Laws.{nowhere}
+use Rattle.hearing.specs.Hearings.{copyOf, storeOf}
+use Rattle.hearing.specs.declared.Copy.{Copy}
+use Rattle.framing.specs.Requests.{renewal, renewals}
+use Rattle.framing.specs.Sending.{queuedOne, isAddressed, after, heardFrom, storeFrom}
+use Rattle.framing.specs.declared.Listened.{Listened}
+
+-- what has been heard so far
+abbrev pub listening : Shelf → List ℕ → ℕ → Bool → Listened
+listening shelf each copies addressed = record { shelf = shelf; each = each; copies = copies; addressed = addressed }
+
+module _ (shelf : Shelf) (long : length (shelf .units) ≡ 32) (i : ℕ) where
+  -- no unit is left
+  pub none-left : min (shelf .count) 32 ≤ i → drop i (declared shelf) ≡ []
+  none-left h = drop-of-length-le (declared shelf) {i = i} (omega (arith, declared-length shelf long))
+
+  module _ (less : i < min (shelf .count) 32) where
+    pub inside : i < length (declared shelf)
+    inside = omega (arith, declared-length shelf long)
+
+    -- the next of those that are left
+    pub one-left : drop i (declared shelf) ≡ getD (shelf .units) i nowhere ∷ drop (i + 1) (declared shelf)
+    one-left =
+        drop-cons (declared shelf) i nowhere inside
+        ∙ (λ k. declared-at shelf i nowhere (omega (arith, less)) k ∷ drop (sym (add-one i) k) (declared shelf))
+
+    pub asked : (bus frame granted : ℕ) (a b : Arbiter) → b ≡ renewal bus frame granted a (getD (shelf .units) i nowhere) →
+        renewals bus frame granted a (drop i (declared shelf)) ≡ renewals bus frame granted b (drop (i + 1) (declared shelf))
+    unfolding renewals
+    asked bus frame granted a b e = ap (renewals bus frame granted a) one-left ∙ ap (λ x. renewals bus frame granted x (drop (i + 1) (declared shelf))) (sym e)
+
+    module _ (h : H.Heard) (k : Copy) (e : k ≡ copyOf (getD (shelf .units) i nowhere) h) where
+      pub turned : (now : Shelf) (each : List ℕ) (copies : ℕ) (addressed : Bool) (r q : ℕ) (b : Bool) →
+          r ≡ hearingRises (k .fate) → q ≡ queuedOne (k .fate) → b ≡ isAddressed (k .fate) →
+          heardFrom h i (drop i (declared shelf)) (listening now each copies addressed)
+          ≡ heardFrom h (i + 1) (drop (i + 1) (declared shelf)) (listening (withUnit now i (k .unit)) (set each i r) (copies + q) (addressed || b))
+      unfolding heardFrom
+      turned now each copies addressed r q b er eq eb =
+          let left = drop (i + 1) (declared shelf) in
+          ap (λ l. heardFrom h i l (listening now each copies addressed)) one-left
+          ∙ (λ t. heardFrom h (sym (add-one i) t) left (after i (sym e t) (listening now each copies addressed)))
+          ∙ (λ t. heardFrom h (i + 1) left (listening (withUnit now i (k .unit)) (set each i (sym er t)) (copies + sym eq t) (addressed || sym eb t)))
+
+    pub stored : (h : H.Heard) (store now : List ℕ) (cell : Cell) → now ≡ storeOf (getD (shelf .units) i nowhere) h i store cell →
+        storeFrom h i (drop i (declared shelf)) store cell ≡ storeFrom h (i + 1) (drop (i + 1) (declared shelf)) now cell
+    unfolding storeFrom
+    stored h store now cell e =
+        ap (λ l. storeFrom h i l store cell) one-left ∙ (λ t. storeFrom h (sym (add-one i) t) (drop (i + 1) (declared shelf)) (sym e t) cell)
+
+-- no unit is left, and all is said
+pub heard-none : (h : H.Heard) (place : ℕ) (us : List U.Unit) (l : Listened) → us ≡ [] → heardFrom h place us l ≡ l
+unfolding heardFrom
+heard-none h place us l e = rw e
+
+pub store-none : (h : H.Heard) (place : ℕ) (us : List U.Unit) (store : List ℕ) (cell : Cell) → us ≡ [] → storeFrom h place us store cell ≡ store
+unfolding storeFrom
+store-none h place us store cell e = rw e
+
+pub asks-none : (bus frame granted : ℕ) (a : Arbiter) (us : List U.Unit) → us ≡ [] → renewals bus frame granted a us ≡ a
+unfolding renewals
+asks-none bus frame granted a us e = rw e
