@@ -1,10 +1,11 @@
 -- What an event that is let in may count on. Assumes nothing.
-use Prim.Native.Nat.{ℕ, _<_, _≤_}
+use Prim.Native.Nat.{ℕ, _+_, _<_, _≤_}
 use mathlib.Core.Path.{_≡_, refl, sym, _∙_, ap, subst}
 use mathlib.Core.Bool.{Bool, true, false, cond}
 use native.Mathlib.Omega.{arith}
-use lib.ListN.{length, getD, length-take}
-use mathlib.Core.List.{[]}
+use lib.ListN.{length, getD, drop, length-take, length-drop}
+use mathlib.Core.List.{List, []}
+use Rattle.octets.specs.Octets.{part}
 use Rattle.octets.proofs.Parts.{getD-any}
 use Rattle.header.specs.declared.Link.the-variants.{Uni}
 use Rattle.outlet.specs.declared.Mode.the-variants.{One}
@@ -90,3 +91,7 @@ nowhere =
 -- the unit that was copied out is the one in its place
 pub copied : (shelf : Shelf) (place : ℕ) → length (shelf .units) ≡ 32 → place < 32 → getD (shelf .units) place nowhere ≡ unitAt shelf place
 copied shelf place long h = getD-any (shelf .units) place nowhere blank (omega arith)
+
+-- a cell has 56 bytes
+pub cell-length : (store : List ℕ) (at : ℕ) (cell : List ℕ) → at + 56 ≤ length store → cell ≡ part store at 56 → length cell ≡ 56
+cell-length store at cell h e = ap length e ∙ omega (arith, length-take 56 (drop at store), length-drop at store)

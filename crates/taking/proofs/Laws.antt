@@ -3,9 +3,9 @@ use Prim.Native.Nat.{ℕ, _+_, _≤_, _<_}
 use native.Mathlib.Omega.{arith}
 use mathlib.Core.Path.{_≡_, refl, sym, ap, subst, _∙_}
 use mathlib.Core.List.{List, [], _∷_, _++_, append-nil}
-use lib.ListN.{length, getD, drop, set, length-take, length-drop, drop-of-length-le}
+use lib.ListN.{length, getD, drop, set, length-drop, drop-of-length-le}
 use lib.Seq.{drop-cons, set-at}
-use Rattle.octets.specs.Octets.{be4, splice, part}
+use Rattle.octets.specs.Octets.{be4, splice}
 use Rattle.octets.proofs.Parts.{written}
 use Rattle.header.specs.Check.{check}
 use Rattle.outlet.specs.Outlets.{capacity, queue}
@@ -56,10 +56,6 @@ module _ (u : U.Unit) (q : ℕ) (e : leaving (u .outlet) ≡ leaves.Queue q) whe
       let slot : outletSlot (u .outlet .limits) q (queue (u .outlet) q .head) < 146 =
       omega (arith, start-inside (u .outlet .limits) q (h .limits) leaving-few, fits .place some) in
       omega (arith, slot-inside place (outletSlot (u .outlet .limits) q (queue (u .outlet) q .head)) slot .1, h .inside)
-
--- a cell has 56 bytes
-pub cell-length : (store : List ℕ) (at : ℕ) (cell : List ℕ) → at + 56 ≤ length store → cell ≡ part store at 56 → length cell ≡ 56
-cell-length store at cell h e = ap length e ∙ omega (arith, length-take 56 (drop at store), length-drop at store)
 
 -- how a take ends
 module _ (shelf : Shelf) (place : ℕ) (u : U.Unit) (same : u ≡ unitAt shelf place) (l : L.Leaving) (store buffer : List ℕ) where

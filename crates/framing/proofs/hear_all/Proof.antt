@@ -1,3 +1,4 @@
+-- `framing::hear_all` meets its contract. Assumes nothing.
 use Prim.Native.Nat.{ℕ, _-_, _≤_, _<_, min}
 use native.Mathlib.Omega.{arith}
 use mathlib.Core.Path.{_≡_, refl, sym, ap, subst, _∙_}
@@ -13,13 +14,6 @@ use Rattle.framing.specs.Sending.{heardFrom, storeFrom, heardByAll, hear
 use Rattle.framing.proofs.Turns.{listening, none-left, inside, turned, stored, heard-none, store-none}
 use Rattle.framing.proofs.hear_all.Statement.{statement}
 use Rattle.framing.proofs.hear_all.Tie as tie
-use Rattle.framing.proofs.hear_all.Reads as reads
-use Rattle.framing.proofs.hear_all.Lts as lts
-use Rattle.answer.proofs.hearing_rises.Reads as hearing-rises-reads
-use Rattle.framing.proofs.is_addressed.Reads as is-addressed-reads
-use Rattle.framing.proofs.queued_one.Reads as queued-one-reads
-use Rattle.hearing.proofs.hear_copy.Reads as hear-copy-reads
-use Rattle.shelf.proofs.held.Reads as held-reads
 
 abbrev Inv-loop : tie.InvT-loop
 Inv-loop heard cell store₀ shelf₀ end each₀ copies₀ addressed₀ i₀ store shelf each copies addressed i =
@@ -33,7 +27,6 @@ Inv-loop heard cell store₀ shelf₀ end each₀ copies₀ addressed₀ i₀ st
 abbrev μ-loop : tie.MeasureT-loop
 μ-loop heard cell store₀ shelf₀ end each₀ copies₀ addressed₀ i₀ store shelf each copies addressed i = end - i
 
-
 -- there are 32 places
 long : (c : tie.Start Inv-loop μ-loop) → length (c .args .t1 .units) ≡ 32
 long c = search (needs, length-mapped)
@@ -41,70 +34,53 @@ long c = search (needs, length-mapped)
 held-requires : tie.Need-held-requires Inv-loop μ-loop
 held-requires c κs = search needs
 
-
 loop-holds : tie.Need-loop-holds Inv-loop μ-loop
 loop-holds c = (omega arith, omega arith, refl, λ j h. refl, refl, refl)
-
 
 mul-unit : tie.Need-mul-unit Inv-loop μ-loop
 mul-unit c = let e = c .before .before .held .ensures in omega arith
 
-
 element-copy-out-unit : tie.Need-element-copy-out-unit Inv-loop μ-loop
 element-copy-out-unit c = let e = c .before .before .held .ensures in omega arith
-
 
 hear-copy-requires : tie.Need-hear-copy-requires Inv-loop μ-loop
 hear-copy-requires c κs = let a = c .before .before .before .before .before .before .before .args in let e = c .before .before .before .before .held .ensures in let w = c .before .before .before .loop .inv in let n = c .before .before .before .loop .i in let less : n < min (a .t1 .count) 32 = omega (arith, e, c .before .before .loop-test .taken) in let u = w .3 n (omega arith) ∙ copied (a .t1) n (long (c .before .before .before .before .before .before .before)) (omega (arith, less)) in (c .before .before .before .before .before .before .before .pre .0, subst (λ b. Housed n (getD (c .before .before .before .loop .shelf .units) n nowhere) b) (sym (w .2)) (subst (λ x. Housed n x (length (a .store .now))) (sym u) (c .before .before .before .before .before .before .before .pre .1 n (inside (a .t1) (long (c .before .before .before .before .before .before .before)) n less))))
 
-
 mul-after : tie.Need-mul-after Inv-loop μ-loop
 mul-after c = let e = c .before .before .before .before .before .before .before .before .held .ensures in omega arith
-
 
 element-set-from-after : tie.Need-element-set-from-after Inv-loop μ-loop
 element-set-from-after c = let e = c .before .before .before .before .before .before .before .before .held .ensures in omega arith
 
-
 hearing-rises-requires : tie.Need-hearing-rises-requires Inv-loop μ-loop
 hearing-rises-requires c κs = search needs
-
 
 mul-each : tie.Need-mul-each Inv-loop μ-loop
 mul-each c = let e = c .before .before .before .before .before .before .before .before .before .held .ensures in omega arith
 
-
 array-write-each : tie.Need-array-write-each Inv-loop μ-loop
 array-write-each c = let e = c .before .before .before .before .before .before .before .before .before .held .ensures in omega arith
-
 
 queued-one-requires : tie.Need-queued-one-requires Inv-loop μ-loop
 queued-one-requires c κs = search needs
 
-
 add-copies : tie.Need-add-copies Inv-loop μ-loop
 add-copies c = let a = c .before .before .before .before .before .before .before .before .before .before .before .before .before .args in let e = c .before .before .before .before .before .before .before .before .before .before .held .ensures in let w = c .before .before .before .before .before .before .before .before .before .loop .inv in let q = c .queued-one .ensures .1 in omega (arith, w .1, q, e)
-
 
 is-addressed-requires : tie.Need-is-addressed-requires Inv-loop μ-loop
 is-addressed-requires c κs = search needs
 
-
 add-i : tie.Need-add-i Inv-loop μ-loop
 add-i c = let e = c .before .before .before .before .before .before .before .before .before .before .before .held .ensures in omega arith
-
 
 loop-less : tie.Need-loop-less Inv-loop μ-loop
 loop-less c = omega arith
 
-
 loop-again : tie.Need-loop-again Inv-loop μ-loop
 loop-again c = let a = c .before .before .before .before .before .before .before .before .before .before .before .before .before .before .args in let e = c .before .before .before .before .before .before .before .before .before .before .before .held .ensures in let w = c .before .before .before .before .before .before .before .before .before .before .loop .inv in let n = c .before .before .before .before .before .before .before .before .before .before .loop .i in let less : n < min (a .t1 .count) 32 = omega (arith, e, c .before .before .before .before .before .before .before .before .before .loop-test .taken) in let u = w .3 n (omega arith) in let f = c .before .before .before .before .before .before .hear-copy .ensures in (omega (arith, e, less), omega (arith, w .1, c .before .queued-one .ensures .1), c .before .before .before .before .before .store .given ∙ w .2, λ j h. getD-set-other (c .before .before .before .before .before .before .before .before .before .before .loop .shelf .units) n j (c .before .before .before .before .before .before .hear-copy .result .unit) nowhere (omega arith) ∙ w .3 j (omega arith), w .4 ∙ turned (a .t1) (long (c .before .before .before .before .before .before .before .before .before .before .before .before .before .before)) n less (a .heard) (c .before .before .before .before .before .before .hear-copy .result) (f .0 ∙ ap (λ x. copyOf x (a .heard)) u) (c .before .before .before .before .before .before .before .before .before .before .loop .shelf) (c .before .before .before .before .before .before .before .before .before .before .loop .each) (c .before .before .before .before .before .before .before .before .before .before .loop .copies) (c .before .before .before .before .before .before .before .before .before .before .loop .addressed) _ _ _ (c .before .before .hearing-rises .ensures) (c .before .queued-one .ensures .0) (c .is-addressed .ensures), w .5 ∙ stored (a .t1) (long (c .before .before .before .before .before .before .before .before .before .before .before .before .before .before)) n less (a .heard) (c .before .before .before .before .before .before .before .before .before .before .loop .store) _ (a .cell .now) (f .1 ∙ ap (λ x. storeOf x (a .heard) n (c .before .before .before .before .before .before .before .before .before .before .loop .store) (a .cell .now)) u))
 
-
 same-length : tie.Need-same-length Inv-loop μ-loop
 same-length c = c .before .loop .inv .2
-
 
 returns : tie.Need-returns Inv-loop μ-loop
 returns c = let a = c .before .before .before .before .before .args in let e = c .before .before .held .ensures in let w = c .before .loop .inv in let n = none-left (a .t1) (long (c .before .before .before .before .before)) (c .before .loop .i) (omega (arith, e)) in (sym (w .4 ∙ heard-none (a .heard) (c .before .loop .i) _ _ n), sym (w .5 ∙ store-none (a .heard) (c .before .loop .i) _ _ _ n))

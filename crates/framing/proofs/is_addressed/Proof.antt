@@ -1,59 +1,46 @@
+-- `framing::is_addressed` meets its contract. Assumes nothing.
 use Rattle.framing.specs.Sending.{isAddressed}
 use borrow.Author.Needs.{needs}
 use Rattle.framing.proofs.is_addressed.Statement.{statement}
 use Rattle.framing.proofs.is_addressed.Tie as tie
-use Rattle.framing.proofs.is_addressed.Reads as reads
-use Rattle.framing.proofs.is_addressed.Lts as lts
-
 
 enum-told : tie.Need-enum-told
 enum-told c = search needs
 
-
 enum-told-2 : tie.Need-enum-told-2
 enum-told-2 c = search needs
-
 
 enum-told-3 : tie.Need-enum-told-3
 enum-told-3 c = search needs
 
-
 enum-told-4 : tie.Need-enum-told-4
 enum-told-4 c = search needs
-
 
 enum-told-5 : tie.Need-enum-told-5
 enum-told-5 c = search needs
 
-
 enum-told-6 : tie.Need-enum-told-6
 enum-told-6 c = search needs
-
 
 returns : tie.Need-returns
 unfolding isAddressed
 returns c = rw (c .enum-told .given .1)
 
-
 returns-2 : tie.Need-returns-2
 unfolding isAddressed
 returns-2 c = rw (c .enum-told2 .given .1)
-
 
 returns-3 : tie.Need-returns-3
 unfolding isAddressed
 returns-3 c = rw (c .enum-told3 .given .1)
 
-
 returns-4 : tie.Need-returns-4
 unfolding isAddressed
 returns-4 c = rw (c .enum-told4 .given .1)
 
-
 returns-5 : tie.Need-returns-5
 unfolding isAddressed
 returns-5 c = rw (c .enum-told5 .given .1)
-
 
 returns-6 : tie.Need-returns-6
 unfolding isAddressed

@@ -1,61 +1,48 @@
+-- `framing::queued_one` meets its contract. Assumes nothing.
 use Rattle.framing.specs.Sending.{queuedOne}
 use mathlib.Core.Path.{sym, ap}
 use native.Mathlib.Omega.{arith}
 use borrow.Author.Needs.{needs}
 use Rattle.framing.proofs.queued_one.Statement.{statement}
 use Rattle.framing.proofs.queued_one.Tie as tie
-use Rattle.framing.proofs.queued_one.Reads as reads
-use Rattle.framing.proofs.queued_one.Lts as lts
-
 
 enum-told : tie.Need-enum-told
 enum-told c = search needs
 
-
 enum-told-2 : tie.Need-enum-told-2
 enum-told-2 c = search needs
-
 
 enum-told-3 : tie.Need-enum-told-3
 enum-told-3 c = search needs
 
-
 enum-told-4 : tie.Need-enum-told-4
 enum-told-4 c = search needs
-
 
 enum-told-5 : tie.Need-enum-told-5
 enum-told-5 c = search needs
 
-
 enum-told-6 : tie.Need-enum-told-6
 enum-told-6 c = search needs
-
 
 returns : tie.Need-returns
 unfolding queuedOne
 returns c = (ap queuedOne (sym (c .enum-told .given .1)), omega arith)
 
-
 returns-2 : tie.Need-returns-2
 unfolding queuedOne
 returns-2 c = (ap queuedOne (sym (c .enum-told2 .given .1)), omega arith)
-
 
 returns-3 : tie.Need-returns-3
 unfolding queuedOne
 returns-3 c = (ap queuedOne (sym (c .enum-told3 .given .1)), omega arith)
 
-
 returns-4 : tie.Need-returns-4
 unfolding queuedOne
 returns-4 c = (ap queuedOne (sym (c .enum-told4 .given .1)), omega arith)
 
-
 returns-5 : tie.Need-returns-5
 unfolding queuedOne
 returns-5 c = (ap queuedOne (sym (c .enum-told5 .given .1)), omega arith)
-
 
 returns-6 : tie.Need-returns-6
 unfolding queuedOne

@@ -1,3 +1,4 @@
+-- `framing::renew` meets its contract. Assumes nothing.
 use mathlib.Core.Path.{sym, ap, _∙_}
 use borrow.Author.Tests.{not-true, not-false}
 use Rattle.arbiter.specs.Arbitration.{renewed}
@@ -5,29 +6,19 @@ use Rattle.framing.specs.Requests.{renewal}
 use borrow.Author.Needs.{needs}
 use Rattle.framing.proofs.renew.Statement.{statement}
 use Rattle.framing.proofs.renew.Tie as tie
-use Rattle.framing.proofs.renew.Reads as reads
-use Rattle.framing.proofs.renew.Lts as lts
-use Rattle.arbiter.proofs.Arbiter.renew.Reads as renew-reads
-use Rattle.arbiter.proofs.asking.Reads as asking-reads
-use Rattle.arbiter.proofs.due.Reads as due-reads
-
 
 due-requires : tie.Need-due-requires
 due-requires c κs = search needs
-
 
 returns : tie.Need-returns
 unfolding renewal
 returns c = rw (sym (c .before .due .ensures) ∙ not-true _ (c .if1 .taken))
 
-
 asking-requires : tie.Need-asking-requires
 asking-requires c κs = search needs
 
-
 renew-requires : tie.Need-renew-requires
 renew-requires c κs = search needs
-
 
 returns-2 : tie.Need-returns-2
 unfolding renewal

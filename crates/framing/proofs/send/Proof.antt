@@ -1,95 +1,81 @@
+-- `framing::send` meets its contract. Assumes nothing.
+use Prim.Native.Nat.{_+_, _≤_}
+use native.Mathlib.Omega.{arith}
+use mathlib.Core.Path.{_≡_, sym, ap, subst, _∙_}
+use lib.ListN.{length, getD}
+use Rattle.octets.specs.Octets.{part}
+use Rattle.shelf.proofs.Finding.{length-mapped}
+use Rattle.admit.specs.Admission.{Housed}
+use Rattle.admit.proofs.Laws.{nowhere, copied, cell-length}
+use Rattle.hearing.proofs.Plans.{before-parity}
+use Rattle.framing.proofs.Sends.{head-inside, sealed-length, out-is, out-housed, frame-is, sent-done, sent-store}
 use borrow.Author.Needs.{needs}
 use Rattle.framing.proofs.send.Statement.{statement}
 use Rattle.framing.proofs.send.Tie as tie
-use Rattle.framing.proofs.send.Reads as reads
-use Rattle.framing.proofs.send.Lts as lts
-use Rattle.bus.proofs.hear.Reads as hear-reads
-use Rattle.bus.proofs.seal.Reads as seal-reads
-use Rattle.framing.proofs.hear_all.Reads as hear-all-reads
-use Rattle.framing.proofs.sent_rises.Reads as sent-rises-reads
-use Rattle.store.proofs.get_cell.Reads as get-cell-reads
-use Rattle.store.proofs.inlet_at.Reads as inlet-at-reads
-use Rattle.store.proofs.popped.Reads as popped-reads
 
--- src/lib.rt:144:20
+-- there are 32 places
+long : (c : tie.Start) → length (c .args .t1 .units) ≡ 32
+long c = search (needs, length-mapped)
+
 mul-unit : tie.Need-mul-unit
-mul-unit c = ?
+mul-unit c = let h = c .before .before .pre .2 (c .before .before .args .place) (c .before .before .pre .1) in let b = h .below in omega (arith, b)
 
--- src/lib.rt:144:20
 element-copy-out-unit : tie.Need-element-copy-out-unit
-element-copy-out-unit c = ?
+element-copy-out-unit c = let h = c .before .before .pre .2 (c .before .before .args .place) (c .before .before .pre .1) in let b = h .below in omega (arith, b)
 
--- src/lib.rt:147:32
 inlet-at-requires : tie.Need-inlet-at-requires
-inlet-at-requires c κs = ?
+inlet-at-requires c κs = (c .before .before .before .before .before .pre .2 (c .before .before .before .before .before .args .place) (c .before .before .before .before .before .pre .1)) .below
 
--- src/lib.rt:147:9
 get-cell-requires : tie.Need-get-cell-requires
-get-cell-requires c κs = ?
+get-cell-requires c κs = let a = c .before .before .before .before .before .before .args in let h = c .before .before .before .before .before .before .pre .2 (a .place) (c .before .before .before .before .before .before .pre .1) in let u = copied (a .t1) (a .place) (long (c .before .before .before .before .before .before)) (h .below) in let u₀ = getD (a .t1 .units) (a .place) nowhere in let hu = subst (λ x. Housed (a .place) x (length (a .store .now))) (sym u) h in let at = subst (λ n. n + 56 ≤ length (a .store .now)) (sym (c .inlet-at .ensures)) (head-inside (a .place) (length (a .store .now)) u₀ hu) in at
 
--- src/lib.rt:146:5
 seal-requires : tie.Need-seal-requires
-seal-requires c κs = ?
+seal-requires c κs = let a = c .before .before .before .before .before .before .before .before .args in let h = c .before .before .before .before .before .before .before .before .pre .2 (a .place) (c .before .before .before .before .before .before .before .before .pre .1) in let u = copied (a .t1) (a .place) (long (c .before .before .before .before .before .before .before .before)) (h .below) in let u₀ = getD (a .t1 .units) (a .place) nowhere in let hu = subst (λ x. Housed (a .place) x (length (a .store .now))) (sym u) h in let at = subst (λ n. n + 56 ≤ length (a .store .now)) (sym (c .before .before .inlet-at .ensures)) (head-inside (a .place) (length (a .store .now)) u₀ hu) in let cl = cell-length (a .store .now) (c .before .before .inlet-at .result) (c .before .get-cell .result .now) at (c .before .get-cell .ensures) in (cl, c .before .before .before .before .before .before .before .before .pre .0)
 
--- src/lib.rt:150:5
 popped-requires : tie.Need-popped-requires
 popped-requires c κs = search needs
 
--- src/lib.rt:151:5
 mul-unit-2 : tie.Need-mul-unit-2
-mul-unit-2 c = ?
+mul-unit-2 c = let h = c .before .before .before .before .before .before .before .before .before .before .before .before .pre .2 (c .before .before .before .before .before .before .before .before .before .before .before .before .args .place) (c .before .before .before .before .before .before .before .before .before .before .before .before .pre .1) in let b = h .below in omega (arith, b)
 
--- src/lib.rt:151:5
 element-set-from-unit : tie.Need-element-set-from-unit
-element-set-from-unit c = ?
+element-set-from-unit c = let h = c .before .before .before .before .before .before .before .before .before .before .before .before .pre .2 (c .before .before .before .before .before .before .before .before .before .before .before .before .args .place) (c .before .before .before .before .before .before .before .before .before .before .before .before .pre .1) in let b = h .below in omega (arith, b)
 
--- src/lib.rt:152:40
 hear-requires : tie.Need-hear-requires
 hear-requires c κs = search needs
 
--- src/lib.rt:152:59
 slice-reshare-prefix-hear-all : tie.Need-slice-reshare-prefix-hear-all
 slice-reshare-prefix-hear-all c = search needs
 
--- src/lib.rt:152:59
 slice-aggregate-hear-all : tie.Need-slice-aggregate-hear-all
-slice-aggregate-hear-all c = ?
+slice-aggregate-hear-all c = let a = c .before .before .before .before .before .before .before .before .before .before .before .before .before .before .before .args in let h = c .before .before .before .before .before .before .before .before .before .before .before .before .before .before .before .pre .2 (a .place) (c .before .before .before .before .before .before .before .before .before .before .before .before .before .before .before .pre .1) in let u = copied (a .t1) (a .place) (long (c .before .before .before .before .before .before .before .before .before .before .before .before .before .before .before)) (h .below) in let u₀ = getD (a .t1 .units) (a .place) nowhere in let hu = subst (λ x. Housed (a .place) x (length (a .store .now))) (sym u) h in let at = subst (λ n. n + 56 ≤ length (a .store .now)) (sym (c .before .before .before .before .before .before .before .before .before .inlet-at .ensures)) (head-inside (a .place) (length (a .store .now)) u₀ hu) in let cl = cell-length (a .store .now) (c .before .before .before .before .before .before .before .before .before .inlet-at .result) (c .before .before .before .before .before .before .before .before .get-cell .result .now) at (c .before .before .before .before .before .before .before .before .get-cell .ensures) in let fl = ap length (c .before .before .before .before .before .before .seal .ensures) ∙ sealed-length (c .before .before .before .before .before .before .before .before .get-cell .result .now) cl in sym (before-parity (c .before .before .before .before .before .before .seal .last .1 .0) fl)
 
--- src/lib.rt:152:9
 hear-all-requires : tie.Need-hear-all-requires
-hear-all-requires c κs = ?
+hear-all-requires c κs = let a = c .before .before .before .before .before .before .before .before .before .before .before .before .before .before .before .before .args in let h = c .before .before .before .before .before .before .before .before .before .before .before .before .before .before .before .before .pre .2 (a .place) (c .before .before .before .before .before .before .before .before .before .before .before .before .before .before .before .before .pre .1) in let u = copied (a .t1) (a .place) (long (c .before .before .before .before .before .before .before .before .before .before .before .before .before .before .before .before)) (h .below) in let u₀ = getD (a .t1 .units) (a .place) nowhere in let hu = subst (λ x. Housed (a .place) x (length (a .store .now))) (sym u) h in let at = subst (λ n. n + 56 ≤ length (a .store .now)) (sym (c .before .before .before .before .before .before .before .before .before .before .inlet-at .ensures)) (head-inside (a .place) (length (a .store .now)) u₀ hu) in let cl = cell-length (a .store .now) (c .before .before .before .before .before .before .before .before .before .before .inlet-at .result) (c .before .before .before .before .before .before .before .before .before .get-cell .result .now) at (c .before .before .before .before .before .before .before .before .before .get-cell .ensures) in let fl = ap length (c .before .before .before .before .before .before .before .seal .ensures) ∙ sealed-length (c .before .before .before .before .before .before .before .before .before .get-cell .result .now) cl in (before-parity (c .before .before .before .before .before .before .before .seal .last .1 .0) fl, out-housed (a .t1) (a .place) (length (a .store .now)) u₀ u (c .before .before .before .before .popped .result) (c .before .before .before .before .popped .ensures) (c .before .before .before .before .before .before .before .before .before .before .before .before .before .before .before .before .pre .1) (c .before .before .before .before .before .before .before .before .before .before .before .before .before .before .before .before .pre .2))
 
--- src/lib.rt:154:19
 mul-each : tie.Need-mul-each
-mul-each c = ?
+mul-each c = let h = c .before .before .before .before .before .before .before .before .before .before .before .before .before .before .before .before .before .before .before .before .pre .2 (c .before .before .before .before .before .before .before .before .before .before .before .before .before .before .before .before .before .before .before .before .args .place) (c .before .before .before .before .before .before .before .before .before .before .before .before .before .before .before .before .before .before .before .before .pre .1) in let b = h .below in omega (arith, b)
 
--- src/lib.rt:154:19
 array-read-each : tie.Need-array-read-each
-array-read-each c = ?
+array-read-each c = let h = c .before .before .before .before .before .before .before .before .before .before .before .before .before .before .before .before .before .before .before .before .pre .2 (c .before .before .before .before .before .before .before .before .before .before .before .before .before .before .before .before .before .before .before .before .args .place) (c .before .before .before .before .before .before .before .before .before .before .before .before .before .before .before .before .before .before .before .before .pre .1) in let b = h .below in omega (arith, b)
 
--- src/lib.rt:154:33
 sent-rises-requires : tie.Need-sent-rises-requires
 sent-rises-requires c κs = search needs
 
--- src/lib.rt:154:5
 mul-each-2 : tie.Need-mul-each-2
-mul-each-2 c = ?
+mul-each-2 c = let h = c .before .before .before .before .before .before .before .before .before .before .before .before .before .before .before .before .before .before .before .before .before .pre .2 (c .before .before .before .before .before .before .before .before .before .before .before .before .before .before .before .before .before .before .before .before .before .args .place) (c .before .before .before .before .before .before .before .before .before .before .before .before .before .before .before .before .before .before .before .before .before .pre .1) in let b = h .below in omega (arith, b)
 
--- src/lib.rt:154:5
 array-write-each : tie.Need-array-write-each
-array-write-each c = ?
+array-write-each c = let h = c .before .before .before .before .before .before .before .before .before .before .before .before .before .before .before .before .before .before .before .before .before .pre .2 (c .before .before .before .before .before .before .before .before .before .before .before .before .before .before .before .before .before .before .before .before .before .args .place) (c .before .before .before .before .before .before .before .before .before .before .before .before .before .before .before .before .before .before .before .before .before .pre .1) in let b = h .below in omega (arith, b)
 
--- src/lib.rt:139:1
 same-length : tie.Need-same-length
 same-length c = search needs
 
--- src/lib.rt:139:1
 same-length-2 : tie.Need-same-length-2
 same-length-2 c = search needs
 
--- src/lib.rt:139:1
 returns : tie.Need-returns
-returns c = ?
+returns c = let a = c .before .before .before .before .before .before .before .before .before .before .before .before .before .before .before .before .before .before .before .before .before .args in let h = c .before .before .before .before .before .before .before .before .before .before .before .before .before .before .before .before .before .before .before .before .before .pre .2 (a .place) (c .before .before .before .before .before .before .before .before .before .before .before .before .before .before .before .before .before .before .before .before .before .pre .1) in let u = copied (a .t1) (a .place) (long (c .before .before .before .before .before .before .before .before .before .before .before .before .before .before .before .before .before .before .before .before .before)) (h .below) in let u₀ = getD (a .t1 .units) (a .place) nowhere in let hu = subst (λ x. Housed (a .place) x (length (a .store .now))) (sym u) h in let at = subst (λ n. n + 56 ≤ length (a .store .now)) (sym (c .before .before .before .before .before .before .before .before .before .before .before .before .before .before .before .inlet-at .ensures)) (head-inside (a .place) (length (a .store .now)) u₀ hu) in let cl = cell-length (a .store .now) (c .before .before .before .before .before .before .before .before .before .before .before .before .before .before .before .inlet-at .result) (c .before .before .before .before .before .before .before .before .before .before .before .before .before .before .get-cell .result .now) at (c .before .before .before .before .before .before .before .before .before .before .before .before .before .before .get-cell .ensures) in let fl = ap length (c .before .before .before .before .before .before .before .before .before .before .before .before .seal .ensures) ∙ sealed-length (c .before .before .before .before .before .before .before .before .before .before .before .before .before .before .get-cell .result .now) cl in let es = out-is (a .t1) (a .place) (length (a .store .now)) u₀ u (c .before .before .before .before .before .before .before .before .before .popped .result) (c .before .before .before .before .before .before .before .before .before .popped .ensures) in let ef = c .before .before .before .before .before .before .before .before .before .before .before .before .seal .ensures ∙ frame-is (a .t1) (a .place) (a .store .now) u₀ u (c .before .before .before .before .before .before .before .before .before .before .before .before .before .before .get-cell .result .now) (c .before .before .before .before .before .before .before .before .before .before .before .before .before .before .get-cell .ensures ∙ ap (λ n. part (a .store .now) n 56) (c .before .before .before .before .before .before .before .before .before .before .before .before .before .before .before .inlet-at .ensures)) in (sent-done (a .t1) (a .place) (a .store .now) _ _ _ es ef (c .before .before .before .before .before .before .before .hear .ensures) (c .before .before .before .before .hear-all .result) _ (c .before .before .before .before .hear-all .ensures .0) (c .sent-rises .ensures), (sent-store (a .t1) (a .place) (a .store .now) _ _ _ es ef (c .before .before .before .before .before .before .before .hear .ensures) _ (c .before .before .before .before .hear-all .ensures .1), ef))
 
 pub send-spec : {M : Type 1} → statement M
 send-spec =

@@ -1,47 +1,40 @@
+-- `framing::send_granted` meets its contract. Assumes nothing.
+use mathlib.Core.Path.{sym, ap, _∙_}
+use Rattle.shelf.specs.Shelves.{declared}
+use Rattle.shelf.proofs.Finding.{find-at}
+use Rattle.framing.specs.Frames.{listenedBy, storeBy, bufferBy}
 use borrow.Author.Needs.{needs}
 use Rattle.framing.proofs.send_granted.Statement.{statement}
 use Rattle.framing.proofs.send_granted.Tie as tie
-use Rattle.framing.proofs.send_granted.Reads as reads
-use Rattle.framing.proofs.send_granted.Lts as lts
-use Rattle.framing.proofs.send.Reads as send-reads
-use Rattle.framing.proofs.silence.Reads as silence-reads
-use Rattle.shelf.proofs.find.Reads as find-reads
 
--- src/lib.rt:165:11
 find-requires : tie.Need-find-requires
 find-requires c κs = search needs
 
--- src/lib.rt:166:19
 enum-known-place : tie.Need-enum-known-place
 enum-known-place c = search needs
 
--- src/lib.rt:166:29
 send-requires : tie.Need-send-requires
-send-requires c κs = ?
+send-requires c κs = let a = c .before .before .before .before .before .before .before .before .args in let e = sym (c .before .before .before .before .before .find .ensures) ∙ c .before .before .before .place .given .1 in (c .before .before .before .before .before .before .before .before .pre .0, find-at (a .shelf .granted) (declared (a .shelf)) _ .0 e .inside, c .before .before .before .before .before .before .before .before .pre .1)
 
--- src/lib.rt:167:27
 enum-told : tie.Need-enum-told
 enum-told c = search needs
 
--- src/lib.rt:167:27
 silence-requires : tie.Need-silence-requires
 silence-requires c κs = search needs
 
--- src/lib.rt:160:1
 same-length : tie.Need-same-length
 same-length c = search needs
 
--- src/lib.rt:160:1
 same-length-2 : tie.Need-same-length-2
 same-length-2 c = search needs
 
--- src/lib.rt:160:1
 returns : tie.Need-returns
-returns c = ?
+unfolding listenedBy storeBy bufferBy
+returns c = let a = c .before .before .before .before .before .before .before .before .before .before .before .before .before .args in let e = sym (c .before .before .before .before .before .before .before .before .before .before .find .ensures) ∙ c .before .before .before .before .before .before .before .before .place .given .1 in (c .before .before .before .before .send .ensures .0 ∙ ap (λ x. listenedBy x (a .shelf) (a .store .now)) (sym e), (c .before .before .before .before .send .ensures .1 .0 ∙ ap (λ x. storeBy x (a .shelf) (a .store .now)) (sym e), c .before .before .before .before .send .ensures .1 .1 ∙ ap (λ x. bufferBy x (a .shelf) (a .store .now) (a .buffer .now)) (sym e)))
 
--- src/lib.rt:160:1
 returns-2 : tie.Need-returns-2
-returns-2 c = ?
+unfolding listenedBy storeBy bufferBy
+returns-2 c = let a = c .before .before .before .before .before .before .args in let e = sym (c .before .before .before .find .ensures) ∙ c .before .enum-told .given .1 in (c .silence .ensures ∙ ap (λ x. listenedBy x (a .shelf) (a .store .now)) (sym e), (ap (λ x. storeBy x (a .shelf) (a .store .now)) (sym e), ap (λ x. bufferBy x (a .shelf) (a .store .now) (a .buffer .now)) (sym e)))
 
 pub send-granted-spec : {M : Type 1} → statement M
 send-granted-spec =

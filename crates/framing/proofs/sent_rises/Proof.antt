@@ -1,19 +1,15 @@
+-- `framing::sent_rises` meets its contract. Assumes nothing.
 use Rattle.framing.specs.Sending.{sentRises}
 use borrow.Author.Needs.{needs}
 use Rattle.framing.proofs.sent_rises.Statement.{statement}
 use Rattle.framing.proofs.sent_rises.Tie as tie
-use Rattle.framing.proofs.sent_rises.Reads as reads
-use Rattle.framing.proofs.sent_rises.Lts as lts
-
 
 add-result : tie.Need-add-result
 add-result c = search needs
 
-
 returns : tie.Need-returns
 unfolding sentRises
 returns c = rw (c .if1 .taken)
-
 
 returns-2 : tie.Need-returns-2
 unfolding sentRises

@@ -12,8 +12,8 @@ use Rattle.shelf.proofs.Finding.{length-mapped}
 use Rattle.answer.specs.declared.Answer.the-variants.{Taken, Empty}
 use Rattle.answer.specs.Answers.{ends}
 use Rattle.admit.specs.Admission.{unitAt, withUnit, Housed}
-use Rattle.admit.proofs.Laws.{nowhere, copied}
-use Rattle.taking.proofs.Laws.{leaving-few, oldest-inside, cell-length, empty-done, empty-buffer, taken-done, taken-buffer}
+use Rattle.admit.proofs.Laws.{nowhere, copied, cell-length}
+use Rattle.taking.proofs.Laws.{leaving-few, oldest-inside, empty-done, empty-buffer, taken-done, taken-buffer}
 use borrow.Author.Needs.{needs}
 use Rattle.taking.proofs.take_at.Statement.{statement}
 use Rattle.taking.proofs.take_at.Tie as tie
