@@ -111,8 +111,7 @@ pub fn arrive(
     unit: u8,
     cell: &[u8],
 ) -> Done
-    ensures { λ r. ⌜ r ≡ arriveDone card shelf (now (memory .entry)) (length (now (store .entry))) rows unit (now (cell .entry)) ⌝ }
-    ensures kept { λ _. ⌜ now (store .exit) ≡ arriveStore card shelf (now (memory .entry)) (now (store .entry)) rows unit (now (cell .entry)) ⌝ }
+    ensures { λ r. ⌜ (r ≡ arriveDone card shelf (now (memory .entry)) (length (now (store .entry))) rows unit (now (cell .entry))) × (now (store .exit) ≡ arriveStore card shelf (now (memory .entry)) (now (store .entry)) rows unit (now (cell .entry))) ⌝ }
     ensures fits { λ r. ⌜ (r .rises .to ≤ 32) × (r .rises .to ≤ rows) ⌝ }
 {
     match admit::admit(card, shelf, store.len(), rows, unit, cell.len() == 53) {

@@ -202,8 +202,7 @@ fn frame_on(shelf: Shelf, store: &mut [u8], buffer: &mut [u8]) -> Done
 
 // A frame; everything but the counter rows, of which there are so many.
 pub fn frame(card: Card, shelf: Shelf, store: &mut [u8], rows: usize, buffer: &mut [u8]) -> Done
-    ensures { λ r. ⌜ r ≡ frameDone card shelf (now (store .entry)) rows (length (now (buffer .entry))) ⌝ }
-    ensures kept { λ _. ⌜ (now (store .exit) ≡ frameStore card shelf (now (store .entry)) rows (length (now (buffer .entry)))) × (now (buffer .exit) ≡ frameBuffer card shelf (now (store .entry)) rows (now (buffer .entry))) ⌝ }
+    ensures { λ r. ⌜ (r ≡ frameDone card shelf (now (store .entry)) rows (length (now (buffer .entry)))) × ((now (store .exit) ≡ frameStore card shelf (now (store .entry)) rows (length (now (buffer .entry)))) × (now (buffer .exit) ≡ frameBuffer card shelf (now (store .entry)) rows (now (buffer .entry)))) ⌝ }
     ensures fits { λ r. ⌜ (r .rises .to ≤ 32) × (r .rises .to ≤ rows) ⌝ }
 {
     if !soundness::sound(card, shelf, store.len(), rows) {

@@ -138,8 +138,7 @@ fn hear_at(mut shelf: Shelf, place: usize, store: &mut [u8], frame: &[u8]) -> Do
 
 // Hearing of a frame by the unit with this number; everything but the counter rows, of which there are so many.
 pub fn hear(card: Card, shelf: Shelf, store: &mut [u8], rows: usize, unit: u8, frame: &[u8]) -> Done
-    ensures { λ r. ⌜ r ≡ hearDone card shelf (length (now (store .entry))) rows unit (now (frame .entry)) ⌝ }
-    ensures kept { λ _. ⌜ now (store .exit) ≡ hearStore card shelf (now (store .entry)) rows unit (now (frame .entry)) ⌝ }
+    ensures { λ r. ⌜ (r ≡ hearDone card shelf (length (now (store .entry))) rows unit (now (frame .entry))) × (now (store .exit) ≡ hearStore card shelf (now (store .entry)) rows unit (now (frame .entry))) ⌝ }
     ensures fits { λ r. ⌜ (r .rises .to ≤ 32) × (r .rises .to ≤ rows) ⌝ }
 {
     match admit::admit(card, shelf, store.len(), rows, unit, frame.len() == 57) {

@@ -37,8 +37,7 @@ fn done_of(loading: Loading) -> Done
 
 // Loads a table; everything but the counter rows, of which there are so many.
 pub fn load(card: Card, text: &[u8], memory: &mut [u8], store: &[u8], rows: usize) -> Done
-    ensures { λ r. ⌜ r ≡ loadDone card (now (text .entry)) (now (memory .entry)) (length (now (store .entry))) rows ⌝ }
-    ensures kept { λ _. ⌜ now (memory .exit) ≡ loadMemory card (now (text .entry)) (now (memory .entry)) (length (now (store .entry))) rows ⌝ }
+    ensures { λ r. ⌜ (r ≡ loadDone card (now (text .entry)) (now (memory .entry)) (length (now (store .entry))) rows) × (now (memory .exit) ≡ loadMemory card (now (text .entry)) (now (memory .entry)) (length (now (store .entry))) rows) ⌝ }
     ensures fits { λ r. ⌜ (r .rises .to ≤ 32) × (r .rises .to ≤ rows) ⌝ }
 {
     done_of(table::load(card, text, memory, store.len(), rows))

@@ -81,8 +81,7 @@ pub fn take(
     unit: u8,
     buffer: &mut [u8],
 ) -> Done
-    ensures { λ r. ⌜ r ≡ takeDone card shelf (length (now (store .entry))) rows unit (length (now (buffer .entry))) ⌝ }
-    ensures kept { λ _. ⌜ now (buffer .exit) ≡ takeBuffer card shelf (now (store .entry)) rows unit (now (buffer .entry)) ⌝ }
+    ensures { λ r. ⌜ (r ≡ takeDone card shelf (length (now (store .entry))) rows unit (length (now (buffer .entry)))) × (now (buffer .exit) ≡ takeBuffer card shelf (now (store .entry)) rows unit (now (buffer .entry))) ⌝ }
     ensures fits { λ r. ⌜ (r .rises .to ≤ 32) × (r .rises .to ≤ rows) ⌝ }
 {
     match admit::admit(card, shelf, store.len(), rows, unit, buffer.len() == 53) {
