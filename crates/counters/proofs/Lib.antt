@@ -1,0 +1,4 @@
+pub mod Arrays
+pub mod Calls
+pub mod Row
+pub mod Settling

@@ -1,0 +1,137 @@
+// The counters of the units: a lent row of records.
+use answer::Done;
+use answer::Reply;
+use answer::Rises;
+ghost use mathlib.Core.Path.{_≡_};
+ghost use Prim.Native.Nat.{_<_, _≤_};
+ghost use lib.ListN.{length, getD};
+ghost use Rattle.counters.specs.Counting.{zero as zeros, tick as ticked, raised as raisedBy, rowAfter, settled};
+
+pub struct Counters {
+    pub arrived: u32,
+    pub hec: u32,
+    pub ignored: u32,
+    pub misrouted: u32,
+    pub inletfull: u32,
+    pub sent: u32,
+    pub unheard: u32,
+    pub damaged: u32,
+    pub queued: u32,
+    pub full: u32,
+    pub clp: u32,
+    pub wide: u32,
+    pub taken: u32,
+}
+
+// A counter one up if its bit is in the set.
+fn tick(bit: u16, counters: u16, value: u32) -> u32
+    requires { ⌜ 0 < bit ⌝ }
+    ensures { λ r. ⌜ r ≡ ticked bit counters value ⌝ }
+{
+    std::num::wrapping_add_u32(value, (counters / bit % 2) as u32)
+}
+
+impl Counters {
+    pub fn zero() -> Counters
+        ensures { λ r. ⌜ r ≡ zeros ⌝ }
+    {
+        Counters {
+            arrived: 0,
+            hec: 0,
+            ignored: 0,
+            misrouted: 0,
+            inletfull: 0,
+            sent: 0,
+            unheard: 0,
+            damaged: 0,
+            queued: 0,
+            full: 0,
+            clp: 0,
+            wide: 0,
+            taken: 0,
+        }
+    }
+
+    // Each of this set of counters one up.
+    pub fn raised(self, counters: u16) -> Counters
+        ensures { λ r. ⌜ r ≡ raisedBy self counters ⌝ }
+    {
+        Counters {
+            arrived: tick(answer::ARRIVED, counters, self.arrived),
+            hec: tick(answer::HEC, counters, self.hec),
+            ignored: tick(answer::IGNORED, counters, self.ignored),
+            misrouted: tick(answer::MISROUTED, counters, self.misrouted),
+            inletfull: tick(answer::INLETFULL, counters, self.inletfull),
+            sent: tick(answer::SENT, counters, self.sent),
+            unheard: tick(answer::UNHEARD, counters, self.unheard),
+            damaged: tick(answer::DAMAGED, counters, self.damaged),
+            queued: tick(answer::QUEUED, counters, self.queued),
+            full: tick(answer::FULL, counters, self.full),
+            clp: tick(answer::CLP, counters, self.clp),
+            wide: tick(answer::WIDE, counters, self.wide),
+            taken: tick(answer::TAKEN, counters, self.taken),
+        }
+    }
+}
+
+// What becomes of the row c at place i.
+pub fn row_after(c: Counters, rises: Rises, i: usize) -> Counters
+    requires { ⌜ i < 32 ⌝ }
+    ensures { λ r. ⌜ r ≡ rowAfter c rises i ⌝ }
+{
+    if rises.anew {
+        return Counters::zero();
+    }
+    c.raised(rises.each[i])
+}
+
+pub fn rises_of(done: Done) -> Rises
+    ensures { λ r. ⌜ r ≡ done .rises ⌝ }
+{
+    done.rises
+}
+
+pub fn reply_of(done: Done) -> Reply
+    ensures { λ r. ⌜ r ≡ done .reply ⌝ }
+{
+    done.reply
+}
+
+// The first place whose row changes, and the place after the last.
+pub fn first(rises: Rises) -> usize
+    ensures { λ r. ⌜ r ≡ rises .from ⌝ }
+{
+    rises.from
+}
+
+pub fn last(rises: Rises) -> usize
+    ensures { λ r. ⌜ r ≡ rises .to ⌝ }
+{
+    rises.to
+}
+
+// The only function that writes counters.
+pub fn settle(rows: &mut [Counters], done: Done) -> Reply
+    requires { ⌜ (done .rises .to ≤ 32) × (done .rises .to ≤ length (now rows)) ⌝ }
+    ensures { λ r. ⌜ (r ≡ done .reply) × (now (rows .exit) ≡ settled (now (rows .entry)) (done .rises)) ⌝ }
+{
+    let rises = rises_of(done);
+    let n = last(rises);
+    let mut i = first(rises);
+    while i < n {
+        let c = rows[i];
+        rows[i] = row_after(c, rises, i);
+        i += 1;
+    }
+    reply_of(done)
+}
+
+// The row at a place; zeros where there is none.
+pub fn read_row(rows: &[Counters], at: usize) -> Counters
+    ensures { λ r. ⌜ r ≡ getD (now (rows .entry)) at zeros ⌝ }
+{
+    if at < rows.len() {
+        return rows[at];
+    }
+    Counters::zero()
+}

@@ -1,0 +1,139 @@
+// The six functions that others call. Each has a covered function do all but the counters, and `counters::settle` write those.
+use admit::Place;
+use answer::Reply;
+use card::Card;
+use counters::Counters;
+use shelf::Shelf;
+ghost use mathlib.Core.Path.{_≡_};
+ghost use lib.ListN.{length};
+ghost use Rattle.counters.specs.Counting.{settled};
+ghost use Rattle.arriving.specs.Arriving.{arriveDone, arriveStore};
+ghost use Rattle.framing.specs.Frames.{frameDone, frameStore, frameBuffer};
+ghost use Rattle.taking.specs.Takes.{takeDone, takeBuffer};
+ghost use Rattle.hearing.specs.Hearings.{hearDone, hearStore};
+ghost use Rattle.loading.specs.Loads.{loadDone, loadMemory};
+ghost use Rattle.admit.specs.Admission.{counted as placeOf};
+ghost use Rattle.entry.specs.Counts.{countOf, counted as countedOf};
+
+// A cell arrives at a unit.
+pub fn arrive(
+    card: Card,
+    shelf: Shelf,
+    memory: &[u8],
+    store: &mut [u8],
+    rows: &mut [Counters],
+    unit: u8,
+    cell: &[u8],
+) -> Reply
+    ensures { λ r. ⌜ (r ≡ arriveDone card shelf (now (memory .entry)) (length (now (store .entry))) (length (now (rows .entry))) unit (now (cell .entry)) .reply)
+        × ((now (store .exit) ≡ arriveStore card shelf (now (memory .entry)) (now (store .entry)) (length (now (rows .entry))) unit (now (cell .entry)))
+        × (now (rows .exit) ≡ settled (now (rows .entry)) (arriveDone card shelf (now (memory .entry)) (length (now (store .entry))) (length (now (rows .entry))) unit (now (cell .entry)) .rises))) ⌝ }
+{
+    let n = rows.len();
+    let done = arriving::arrive(card, shelf, memory, store, n, unit, cell);
+    counters::settle(rows, done)
+}
+
+// A frame on the bus.
+pub fn frame(
+    card: Card,
+    shelf: Shelf,
+    store: &mut [u8],
+    rows: &mut [Counters],
+    buffer: &mut [u8],
+) -> Reply
+    ensures { λ r. ⌜ (r ≡ frameDone card shelf (now (store .entry)) (length (now (rows .entry))) (length (now (buffer .entry))) .reply)
+        × ((now (store .exit) ≡ frameStore card shelf (now (store .entry)) (length (now (rows .entry))) (length (now (buffer .entry))))
+        × ((now (buffer .exit) ≡ frameBuffer card shelf (now (store .entry)) (length (now (rows .entry))) (now (buffer .entry)))
+        × (now (rows .exit) ≡ settled (now (rows .entry)) (frameDone card shelf (now (store .entry)) (length (now (rows .entry))) (length (now (buffer .entry))) .rises)))) ⌝ }
+{
+    let n = rows.len();
+    let done = framing::frame(card, shelf, store, n, buffer);
+    counters::settle(rows, done)
+}
+
+// The oldest cell is taken from a unit.
+pub fn take(
+    card: Card,
+    shelf: Shelf,
+    store: &[u8],
+    rows: &mut [Counters],
+    unit: u8,
+    buffer: &mut [u8],
+) -> Reply
+    ensures { λ r. ⌜ (r ≡ takeDone card shelf (length (now (store .entry))) (length (now (rows .entry))) unit (length (now (buffer .entry))) .reply)
+        × ((now (buffer .exit) ≡ takeBuffer card shelf (now (store .entry)) (length (now (rows .entry))) unit (now (buffer .entry)))
+        × (now (rows .exit) ≡ settled (now (rows .entry)) (takeDone card shelf (length (now (store .entry))) (length (now (rows .entry))) unit (length (now (buffer .entry))) .rises))) ⌝ }
+{
+    let n = rows.len();
+    let done = taking::take(card, shelf, store, n, unit, buffer);
+    counters::settle(rows, done)
+}
+
+// A frame is handed in to a unit.
+pub fn hear(
+    card: Card,
+    shelf: Shelf,
+    store: &mut [u8],
+    rows: &mut [Counters],
+    unit: u8,
+    frame: &[u8],
+) -> Reply
+    ensures { λ r. ⌜ (r ≡ hearDone card shelf (length (now (store .entry))) (length (now (rows .entry))) unit (now (frame .entry)) .reply)
+        × ((now (store .exit) ≡ hearStore card shelf (now (store .entry)) (length (now (rows .entry))) unit (now (frame .entry)))
+        × (now (rows .exit) ≡ settled (now (rows .entry)) (hearDone card shelf (length (now (store .entry))) (length (now (rows .entry))) unit (now (frame .entry)) .rises))) ⌝ }
+{
+    let n = rows.len();
+    let done = hearing::hear(card, shelf, store, n, unit, frame);
+    counters::settle(rows, done)
+}
+
+// A route table is loaded.
+pub fn load(
+    card: Card,
+    text: &[u8],
+    memory: &mut [u8],
+    store: &[u8],
+    rows: &mut [Counters],
+) -> Reply
+    ensures { λ r. ⌜ (r ≡ loadDone card (now (text .entry)) (now (memory .entry)) (length (now (store .entry))) (length (now (rows .entry))) .reply)
+        × ((now (memory .exit) ≡ loadMemory card (now (text .entry)) (now (memory .entry)) (length (now (store .entry))) (length (now (rows .entry))))
+        × (now (rows .exit) ≡ settled (now (rows .entry)) (loadDone card (now (text .entry)) (now (memory .entry)) (length (now (store .entry))) (length (now (rows .entry))) .rises))) ⌝ }
+{
+    let n = rows.len();
+    let done = loading::load(card, text, memory, store, n);
+    counters::settle(rows, done)
+}
+
+// What a count answers: the counters of the unit, or the number of the refusal.
+pub enum Counted {
+    Counters(Counters),
+    Refused(u8),
+}
+
+pub fn row_at(place: Place) -> usize
+    ensures { λ r. ⌜ r ≡ place .at ⌝ }
+{
+    place.at
+}
+
+pub fn counted_at(place: Place, row: Counters) -> Counted
+    ensures { λ r. ⌜ r ≡ countedOf place row ⌝ }
+{
+    let number = place.number;
+    if number == 0 {
+        return Counted::Counters(row);
+    }
+    Counted::Refused(number)
+}
+
+// The counters of a unit.
+pub fn count(card: Card, shelf: Shelf, store: &[u8], rows: &[Counters], unit: u8) -> Counted
+    ensures { λ r. ⌜ r ≡ countOf (placeOf card shelf (length (now (store .entry))) (length (now (rows .entry))) unit) (now (rows .entry)) ⌝ }
+{
+    let n = rows.len();
+    let place = admit::counted(card, shelf, store, n, unit);
+    let at = row_at(place);
+    let row = counters::read_row(rows, at);
+    counted_at(place, row)
+}
