@@ -21,7 +21,7 @@ pub use types.Kit.{Given, Item, ‵, runs, atRet, Sq, _$_, _∵_, !, qed, by, mo
 pub use types.Run.{look, init, stop, hop, fld, from, load, addr, of-opd, and-then, no-more, assigns, land, returns, enter, alloc1, alloc0, params1, pass1, pass0}
 pub use types.Part.{agg, whole, sub, look-in}
 pub use sound.WpLaws.{fmOf, WpFn-mono}
-pub use denote.RattleType.{RattleType, Denots, Valss, owns}
+pub use denote.RattleType.{owns}
 pub use denote.Laws.{Is, shows}
 pub use denote.Plain.{uint-makes, uint-lawful, uint-vals, uint-tells}
 pub use denote.Builtin.{u8, usize}

@@ -1,0 +1,119 @@
+// The entry points for a program that keeps its counter rows in an array: the rows go in by value and come back.
+use answer::Reply;
+use card::Card;
+use counters::Counters;
+use entry::Counted;
+use shelf::Shelf;
+ghost use mathlib.Core.Path.{_≡_};
+ghost use lib.ListN.{length};
+ghost use Rattle.counters.specs.Counting.{settled};
+ghost use Rattle.arriving.specs.Arriving.{arriveDone, arriveStore};
+ghost use Rattle.framing.specs.Frames.{frameDone, frameStore, frameBuffer};
+ghost use Rattle.taking.specs.Takes.{takeDone, takeBuffer};
+ghost use Rattle.hearing.specs.Hearings.{hearDone, hearStore};
+ghost use Rattle.loading.specs.Loads.{loadDone, loadMemory};
+ghost use Rattle.admit.specs.Admission.{counted as placeOf};
+ghost use Rattle.entry.specs.Counts.{countOf};
+
+// What is given back, and the rows afterwards.
+pub struct After {
+    pub reply: Reply,
+    pub rows: [Counters; 40],
+}
+
+pub fn joined(reply: Reply, rows: [Counters; 40]) -> After
+    ensures { λ r. ⌜ (r .reply ≡ reply) × (r .rows ≡ rows) ⌝ }
+{
+    After { reply, rows }
+}
+
+pub fn arrive(
+    card: Card,
+    shelf: Shelf,
+    memory: &[u8],
+    store: &mut [u8],
+    rows: [Counters; 40],
+    unit: u8,
+    cell: &[u8],
+) -> After
+    ensures { λ r. ⌜ (r .reply ≡ arriveDone card shelf (now (memory .entry)) (length (now (store .entry))) 40 unit (now (cell .entry)) .reply)
+        × ((now (store .exit) ≡ arriveStore card shelf (now (memory .entry)) (now (store .entry)) 40 unit (now (cell .entry)))
+        × (r .rows ≡ settled rows (arriveDone card shelf (now (memory .entry)) (length (now (store .entry))) 40 unit (now (cell .entry)) .rises))) ⌝ }
+{
+    let mut rs = rows;
+    let reply = entry::arrive(card, shelf, memory, store, &mut rs, unit, cell);
+    joined(reply, rs)
+}
+
+pub fn frame(
+    card: Card,
+    shelf: Shelf,
+    store: &mut [u8],
+    rows: [Counters; 40],
+    buffer: &mut [u8],
+) -> After
+    ensures { λ r. ⌜ (r .reply ≡ frameDone card shelf (now (store .entry)) 40 (length (now (buffer .entry))) .reply)
+        × ((now (store .exit) ≡ frameStore card shelf (now (store .entry)) 40 (length (now (buffer .entry))))
+        × ((now (buffer .exit) ≡ frameBuffer card shelf (now (store .entry)) 40 (now (buffer .entry)))
+        × (r .rows ≡ settled rows (frameDone card shelf (now (store .entry)) 40 (length (now (buffer .entry))) .rises)))) ⌝ }
+{
+    let mut rs = rows;
+    let reply = entry::frame(card, shelf, store, &mut rs, buffer);
+    joined(reply, rs)
+}
+
+pub fn take(
+    card: Card,
+    shelf: Shelf,
+    store: &[u8],
+    rows: [Counters; 40],
+    unit: u8,
+    buffer: &mut [u8],
+) -> After
+    ensures { λ r. ⌜ (r .reply ≡ takeDone card shelf (length (now (store .entry))) 40 unit (length (now (buffer .entry))) .reply)
+        × ((now (buffer .exit) ≡ takeBuffer card shelf (now (store .entry)) 40 unit (now (buffer .entry)))
+        × (r .rows ≡ settled rows (takeDone card shelf (length (now (store .entry))) 40 unit (length (now (buffer .entry))) .rises))) ⌝ }
+{
+    let mut rs = rows;
+    let reply = entry::take(card, shelf, store, &mut rs, unit, buffer);
+    joined(reply, rs)
+}
+
+pub fn hear(
+    card: Card,
+    shelf: Shelf,
+    store: &mut [u8],
+    rows: [Counters; 40],
+    unit: u8,
+    frame: &[u8],
+) -> After
+    ensures { λ r. ⌜ (r .reply ≡ hearDone card shelf (length (now (store .entry))) 40 unit (now (frame .entry)) .reply)
+        × ((now (store .exit) ≡ hearStore card shelf (now (store .entry)) 40 unit (now (frame .entry)))
+        × (r .rows ≡ settled rows (hearDone card shelf (length (now (store .entry))) 40 unit (now (frame .entry)) .rises))) ⌝ }
+{
+    let mut rs = rows;
+    let reply = entry::hear(card, shelf, store, &mut rs, unit, frame);
+    joined(reply, rs)
+}
+
+pub fn load(card: Card, text: &[u8], memory: &mut [u8], store: &[u8], rows: [Counters; 40]) -> After
+    ensures { λ r. ⌜ (r .reply ≡ loadDone card (now (text .entry)) (now (memory .entry)) (length (now (store .entry))) 40 .reply)
+        × ((now (memory .exit) ≡ loadMemory card (now (text .entry)) (now (memory .entry)) (length (now (store .entry))) 40)
+        × (r .rows ≡ settled rows (loadDone card (now (text .entry)) (now (memory .entry)) (length (now (store .entry))) 40 .rises))) ⌝ }
+{
+    let mut rs = rows;
+    let reply = entry::load(card, text, memory, store, &mut rs);
+    joined(reply, rs)
+}
+
+pub fn count(card: Card, shelf: Shelf, store: &[u8], rows: [Counters; 40], unit: u8) -> Counted
+    ensures { λ r. ⌜ r ≡ countOf (placeOf card shelf (length (now (store .entry))) 40 unit) rows ⌝ }
+{
+    let place = admit::counted(card, shelf, store, 40, unit);
+    let at = entry::row_at(place);
+    if at < 40 {
+        let row = rows[at];
+        return entry::counted_at(place, row);
+    }
+    entry::counted_at(place, Counters::zero())
+}
