@@ -1,8 +1,8 @@
 // The six functions that others call. Each has a covered function do all but the counters, and `counters::settle` write those.
+use admit::Place;
 use answer::Reply;
 use card::Card;
 use counters::Counters;
-use admit::Place;
 use shelf::Shelf;
 ghost use mathlib.Core.Path.{_≡_};
 ghost use lib.ListN.{length};

@@ -1,0 +1,295 @@
+// Document 01's listing and its values on each side of a line, and data sheet 004's worked examples, through the six entry points.
+use answer::Answer;
+use answer::Arrival;
+use answer::Hearing;
+use card::Card;
+use counters::Counters;
+use entry::Counted;
+use routing::Target;
+use shelf::Shelf;
+
+// A shelf and its counter rows.
+struct World {
+    shelf: Shelf,
+    rows: [Counters; 40],
+}
+
+fn say(text: &[u8]) {
+    io::write_all(1, text);
+}
+
+fn say_number(n: u64) {
+    io::write_all(1, b" ");
+    io::print_decimal(1, n);
+}
+
+// A unit's number, or `-` for nobody.
+fn say_unit(n: u8) {
+    if n == 255 {
+        say(b" -");
+    } else {
+        say_number(n as u64);
+    }
+}
+
+fn say_arrival(fate: Arrival) {
+    match fate {
+        Arrival::Hec => say(b" hec"),
+        Arrival::Ignored => say(b" ignored"),
+        Arrival::Misrouted => say(b" misrouted"),
+        Arrival::Inletfull => say(b" inletfull"),
+        Arrival::Queued => say(b" queued"),
+    }
+}
+
+fn say_hearing(fate: Hearing) {
+    match fate {
+        Hearing::Damaged => say(b" damaged"),
+        Hearing::Other => say(b" other"),
+        Hearing::Wide => say(b" wide"),
+        Hearing::Full => say(b" full"),
+        Hearing::Clp => say(b" clp"),
+        Hearing::Queued => say(b" queued"),
+    }
+}
+
+fn say_answer(answer: Answer) {
+    match answer {
+        Answer::Loaded(used) => {
+            say(b"table ok");
+            say_number(used as u64);
+        }
+        Answer::Unloaded { number, line } => {
+            say(b"table refused");
+            say_number(number as u64);
+            say_number(line as u64);
+        }
+        Answer::Refused(number) => {
+            say(b"refused");
+            say_number(number as u64);
+        }
+        Answer::Arrived(fate) => {
+            say(b"arrive");
+            say_arrival(fate);
+        }
+        Answer::Framed {
+            number,
+            sender,
+            granted,
+            copies,
+        } => {
+            say(b"frame");
+            say_number(number as u64);
+            say_unit(sender);
+            say_unit(granted);
+            say_number(copies as u64);
+        }
+        Answer::Heard(fate) => {
+            say(b"hear");
+            say_hearing(fate);
+        }
+        Answer::Taken => say(b"take"),
+        Answer::Empty => say(b"take empty"),
+    }
+}
+
+fn kept(after: owned::After) -> World {
+    let reply = after.reply;
+    let shelf = reply.shelf;
+    let rows = after.rows;
+    World { shelf, rows }
+}
+
+fn load(text: &[u8], memory: &mut [u8], store: &[u8]) -> World {
+    let after = owned::load(Card::Wide, text, memory, store, [Counters::zero(); 40]);
+    let reply = after.reply;
+    let answer = reply.answer;
+    say_answer(answer);
+    say(b"\n");
+    kept(after)
+}
+
+fn arrive(w: World, memory: &[u8], store: &mut [u8], unit: u8, cell: &[u8]) -> World {
+    let shelf = w.shelf;
+    let rows = w.rows;
+    let after = owned::arrive(Card::Wide, shelf, memory, store, rows, unit, cell);
+    let reply = after.reply;
+    let answer = reply.answer;
+    say_answer(answer);
+    say(b"\n");
+    kept(after)
+}
+
+fn frame(w: World, store: &mut [u8], buffer: &mut [u8]) -> World {
+    let shelf = w.shelf;
+    let rows = w.rows;
+    let after = owned::frame(Card::Wide, shelf, store, rows, buffer);
+    let reply = after.reply;
+    let answer = reply.answer;
+    say_answer(answer);
+    say(b"\n");
+    kept(after)
+}
+
+fn hear(w: World, store: &mut [u8], unit: u8, frame: &[u8]) -> World {
+    let shelf = w.shelf;
+    let rows = w.rows;
+    let after = owned::hear(Card::Wide, shelf, store, rows, unit, frame);
+    let reply = after.reply;
+    let answer = reply.answer;
+    say_answer(answer);
+    say(b"\n");
+    kept(after)
+}
+
+fn say_small(n: u32) {
+    say_number(n as u64);
+}
+
+fn say_byte(n: u8) {
+    say_number(n as u64);
+}
+
+// The header, the check and the first payload byte.
+fn say_bytes(buffer: [u8; 53]) {
+    say_byte(buffer[0]);
+    say_byte(buffer[1]);
+    say_byte(buffer[2]);
+    say_byte(buffer[3]);
+    say_byte(buffer[4]);
+    say_byte(buffer[5]);
+    say(b"\n");
+}
+
+// Prints the header, the check and the first payload byte of the cell, or that there is none.
+fn take(w: World, store: &[u8], unit: u8) -> World {
+    let shelf = w.shelf;
+    let rows = w.rows;
+    let mut buffer = [238u8; 53];
+    let after = owned::take(Card::Wide, shelf, store, rows, unit, &mut buffer);
+    let reply = after.reply;
+    let answer = reply.answer;
+    say_answer(answer);
+    say_bytes(buffer);
+    kept(after)
+}
+
+fn say_counters(c: Counters) {
+    say(b"count");
+    say_small(c.arrived);
+    say_small(c.hec);
+    say_small(c.ignored);
+    say_small(c.misrouted);
+    say_small(c.inletfull);
+    say_small(c.sent);
+    say_small(c.unheard);
+    say_small(c.damaged);
+    say_small(c.queued);
+    say_small(c.full);
+    say_small(c.clp);
+    say_small(c.wide);
+    say_small(c.taken);
+}
+
+fn count(w: World, store: &[u8], unit: u8) {
+    let shelf = w.shelf;
+    let rows = w.rows;
+    match owned::count(Card::Wide, shelf, store, rows, unit) {
+        Counted::Counters(c) => say_counters(c),
+        Counted::Refused(number) => {
+            say(b"count refused");
+            say_number(number as u64);
+        }
+    }
+    say(b"\n");
+}
+
+// A line cell of this header and check, its payload one byte over and over.
+fn cell_of(header: u32, check: u8, byte: u8) -> [u8; 53] {
+    let mut cell = [byte; 53];
+    octets::put_four(&mut cell, 0, header);
+    cell[4] = check;
+    cell
+}
+
+// A bus frame to unit 0 of this class and cell header.
+fn frame_of(class: u8, header: u32) -> [u8; 57] {
+    let payload = [165u8; 48];
+    let mut cell = [0u8; 56];
+    bus::compose(
+        routing::write(Target::Unit(0), class),
+        header,
+        &payload,
+        &mut cell,
+    );
+    let mut frame = [0u8; 57];
+    bus::seal(&cell, &mut frame);
+    frame
+}
+
+// One step of a script, by its letter.
+fn step(w: World, memory: &[u8], store: &mut [u8], letter: u8) -> World {
+    match letter {
+        // a good cell arrives at unit 0, one with a wrong check; at a unit that is not declared; one byte short
+        65 => arrive(w, memory, store, 0, &cell_of(5243408, 43, 165)),
+        66 => arrive(w, memory, store, 0, &cell_of(273678864, 79, 165)),
+        67 => arrive(w, memory, store, 9, &cell_of(5243408, 43, 165)),
+        68 => arrive(w, memory, store, 0, &[0; 52]),
+        // a frame
+        70 => frame(w, store, &mut [238; 57]),
+        // unit 0 hears a cell of each class with CLP 0, and with CLP 1
+        48 => hear(w, store, 0, &frame_of(0, 16)),
+        49 => hear(w, store, 0, &frame_of(1, 16)),
+        50 => hear(w, store, 0, &frame_of(2, 16)),
+        51 => hear(w, store, 0, &frame_of(3, 16)),
+        52 => hear(w, store, 0, &frame_of(0, 17)),
+        53 => hear(w, store, 0, &frame_of(1, 17)),
+        54 => hear(w, store, 0, &frame_of(2, 17)),
+        55 => hear(w, store, 0, &frame_of(3, 17)),
+        // a cell is taken at units 3 and 0
+        83 => take(w, store, 3),
+        84 => take(w, store, 0),
+        _ => w,
+    }
+}
+
+// Loads a table, goes through a script, and counts units 0, 3 and 9.
+fn run(text: &[u8], script: &[u8]) {
+    let mut memory = [7u8; 16384];
+    let mut store = [7u8; 16384];
+    let mut w = load(text, &mut memory, &store);
+    let mut i: usize = 0;
+    while i < script.len() {
+        w = step(w, &memory, &mut store, script[i]);
+        i += 1;
+    }
+    count(w, &store, 0);
+    count(w, &store, 3);
+    count(w, &store, 9);
+}
+
+fn main() {
+    // 01's listing; then the inlet's fourth and fifth cell, a unit that is not declared, a cell of 52 bytes
+    run(
+        b"bus\t16\nunit\t0\tuni\t5\t2\tone\t0\t0\t100\t0\nunit\t3\tuni\t0\t1\tfour\t40\t30\t20\t1\npage\t0\t5\t33\nvc\t0\t5\t33\tu3\t2\t9\t40\n",
+        b"ABFFSSAAAAACD",
+    );
+    // mode one with limit 123: cells 123 and 124 with CLP 0
+    run(
+        b"bus\t16\nunit\t0\tuni\t0\t1\tone\t0\t0\t123\t0\n",
+        b"1111111111111111111111111111111111111111111111111111111111111111111111111111111111111111111111111111111111111111111111111111",
+    );
+    // mode one with limit 2: CLP 1 just below it and at it
+    run(b"bus\t16\nunit\t0\tuni\t0\t1\tone\t0\t0\t2\t0\n", b"666");
+    // mode four with CBR length 3 and limit 2, VBR limit 2: CLP 1 in each queue, then CLP 0
+    run(
+        b"bus\t16\nunit\t0\tuni\t0\t1\tfour\t3\t2\t2\t0\n",
+        b"444555116662777777777777777777777777777777777",
+    );
+    // data sheet 004, figures 15 and 16
+    run(b"bus\t16\nunit\t0\tuni\t0\t1\tone\t0\t0\t2\t1\n", b"222TTT");
+    run(
+        b"bus\t16\nunit\t0\tuni\t0\t1\tfour\t40\t3\t2\t1\n",
+        b"11122TTTTT",
+    );
+}
