@@ -45,7 +45,7 @@ fn way_of(card: Card, unit: Unit, memory: &[u8], cell: &[u8]) -> Way
     way_by(lookup::translate(card, link, settings.top, unit.place, memory, word))
 }
 
-// The fate of a cell that goes nowhere.
+// The fate of a cell that goes nowhere; nobody asks of one that goes to the bus.
 fn lost(way: Way) -> Arrival
     ensures { λ r. ⌜ r ≡ lostBy way ⌝ }
 {

@@ -79,7 +79,7 @@ fn plan_of(unit: Unit, heard: Heard) -> Plan
     }
 }
 
-// The fate of a copy that is not queued.
+// The fate of a copy that is lost, or that of one that is queued.
 fn lost(plan: Plan) -> Hearing
     ensures { λ r. ⌜ r ≡ lostBy plan ⌝ }
 {

@@ -22,13 +22,19 @@ enum-told : tie.Need-enum-told
 enum-told c = search needs
 
 returns-2 : tie.Need-returns-2
-returns-2 c = let a = c .before .before .before .before .before .args in sym (stranger (a .card) (a .shelf) (a .store) (a .rows) (a .unit) (a .right) (sym (c .before .before .before .before .sound .ensures) ∙ not-false _ (c .before .before .before .if1 .left)) (sym (c .before .before .find .ensures) ∙ c .enum-told .given .1))
+returns-2 c =
+    let a = c .before .before .before .before .before .args in
+    sym (stranger (a .card) (a .shelf) (a .store) (a .rows) (a .unit) (a .right) (sym (c .before .before .before .before .sound .ensures) ∙ not-false _ (c .before .before .before .if1 .left)) (sym (c .before .before .find .ensures) ∙ c .enum-told .given .1))
 
 returns-3 : tie.Need-returns-3
-returns-3 c = let a = c .before .before .before .before .before .before .before .args in sym (misfit (a .card) (a .shelf) (a .store) (a .rows) (a .unit) (a .right) _ (sym (c .before .before .before .before .before .before .sound .ensures) ∙ not-false _ (c .before .before .before .before .before .if1 .left)) (sym (c .before .before .before .before .find .ensures) ∙ c .before .before .place .given .1) (not-true _ (c .if2 .taken)))
+returns-3 c =
+    let a = c .before .before .before .before .before .before .before .args in
+    sym (misfit (a .card) (a .shelf) (a .store) (a .rows) (a .unit) (a .right) _ (sym (c .before .before .before .before .before .before .sound .ensures) ∙ not-false _ (c .before .before .before .before .before .if1 .left)) (sym (c .before .before .before .before .find .ensures) ∙ c .before .before .place .given .1) (not-true _ (c .if2 .taken)))
 
 returns-4 : tie.Need-returns-4
-returns-4 c = let a = c .before .before .before .before .before .before .before .args in sym (let-in (a .card) (a .shelf) (a .store) (a .rows) (a .unit) (a .right) _ (sym (c .before .before .before .before .before .before .sound .ensures) ∙ not-false _ (c .before .before .before .before .before .if1 .left)) (sym (c .before .before .before .before .find .ensures) ∙ c .before .before .place .given .1) (not-false _ (c .if2 .left)))
+returns-4 c =
+    let a = c .before .before .before .before .before .before .before .args in
+    sym (let-in (a .card) (a .shelf) (a .store) (a .rows) (a .unit) (a .right) _ (sym (c .before .before .before .before .before .before .sound .ensures) ∙ not-false _ (c .before .before .before .before .before .if1 .left)) (sym (c .before .before .before .before .find .ensures) ∙ c .before .before .place .given .1) (not-false _ (c .if2 .left)))
 
 pub admit-spec : {M : Type 1} → statement M
 admit-spec =

@@ -21,7 +21,12 @@ enum-known-place : tie.Need-enum-known-place
 enum-known-place c = search needs
 
 arrive-at-requires : tie.Need-arrive-at-requires
-arrive-at-requires c κs = let a = c .before .before .before .before .before .before .before .before .args in let e = sym (c .before .before .before .before .admit .ensures) ∙ c .before .before .place .given .1 in let l = at-let-in (a .card) (a .shelf) (length (a .store .now)) (a .rows) (a .unit) (eqb (length (a .cell .now)) 53) _ e in let h = let-in-housed (a .card) (a .shelf) (length (a .store .now)) (a .rows) (a .unit) (eqb (length (a .cell .now)) 53) _ l in (eqb-true (length (a .cell .now)) 53 (l .fits), h .0)
+arrive-at-requires c κs =
+    let a = c .before .before .before .before .before .before .before .before .args in
+    let e = sym (c .before .before .before .before .admit .ensures) ∙ c .before .before .place .given .1 in
+    let l = at-let-in (a .card) (a .shelf) (length (a .store .now)) (a .rows) (a .unit) (eqb (length (a .cell .now)) 53) _ e in
+    let h = let-in-housed (a .card) (a .shelf) (length (a .store .now)) (a .rows) (a .unit) (eqb (length (a .cell .now)) 53) _ l in
+    (eqb-true (length (a .cell .now)) 53 (l .fits), h .0)
 
 enum-known-number : tie.Need-enum-known-number
 enum-known-number c = search needs
@@ -34,11 +39,29 @@ same-length c = search needs
 
 returns : tie.Need-returns
 unfolding arriveBy arriveStoreBy
-returns c = let a = c .before .before .before .before .before .before .before .before .before .before .before .args in let e = sym (c .before .before .before .before .before .before .before .admit .ensures) ∙ c .before .before .before .before .before .place .given .1 in let l = at-let-in (a .card) (a .shelf) (length (a .store .now)) (a .rows) (a .unit) (eqb (length (a .cell .now)) 53) _ e in let h = let-in-housed (a .card) (a .shelf) (length (a .store .now)) (a .rows) (a .unit) (eqb (length (a .cell .now)) 53) _ l in ((c .before .before .arrive-at .ensures .0 ∙ ap (λ x. arriveBy x (a .card) (a .shelf) (a .memory .now) (a .cell .now)) (sym e), c .before .before .arrive-at .ensures .1 ∙ ap (λ x. arriveStoreBy x (a .card) (a .shelf) (a .memory .now) (a .store .now) (a .cell .now)) (sym e)), subst (λ (x : Done). (x .rises .to ≤ 32) × (x .rises .to ≤ a .rows)) (sym (c .before .before .arrive-at .ensures .0)) (done-fits (wayOf (a .card) (unitAt (a .shelf) _) (a .memory .now) (a .cell .now)) (a .shelf) _ (a .rows) (h .0 .below) (h .1)))
+returns c =
+    let a = c .before .before .before .before .before .before .before .before .before .before .before .args in
+    let e = sym (c .before .before .before .before .before .before .before .admit .ensures) ∙ c .before .before .before .before .before .place .given .1 in
+    let l = at-let-in (a .card) (a .shelf) (length (a .store .now)) (a .rows) (a .unit) (eqb (length (a .cell .now)) 53) _ e in
+    let h = let-in-housed (a .card) (a .shelf) (length (a .store .now)) (a .rows) (a .unit) (eqb (length (a .cell .now)) 53) _ l in (
+      (
+        c .before .before .arrive-at .ensures .0 ∙ ap (λ x. arriveBy x (a .card) (a .shelf) (a .memory .now) (a .cell .now)) (sym e),
+        c .before .before .arrive-at .ensures .1 ∙ ap (λ x. arriveStoreBy x (a .card) (a .shelf) (a .memory .now) (a .store .now) (a .cell .now)) (sym e),
+      ),
+      subst (λ (x : Done). (x .rises .to ≤ 32) × (x .rises .to ≤ a .rows)) (sym (c .before .before .arrive-at .ensures .0)) (done-fits (wayOf (a .card) (unitAt (a .shelf) _) (a .memory .now) (a .cell .now)) (a .shelf) _ (a .rows) (h .0 .below) (h .1)),
+    )
 
 returns-2 : tie.Need-returns-2
 unfolding arriveBy arriveStoreBy
-returns-2 c = let a = c .before .before .before .before .before .before .before .before .args in let e = sym (c .before .before .before .before .admit .ensures) ∙ c .before .before .number .given .1 in ((c .refused .ensures ∙ ap (λ x. arriveBy x (a .card) (a .shelf) (a .memory .now) (a .cell .now)) (sym e), ap (λ x. arriveStoreBy x (a .card) (a .shelf) (a .memory .now) (a .store .now) (a .cell .now)) (sym e)), subst (λ (x : Done). (x .rises .to ≤ 32) × (x .rises .to ≤ a .rows)) (sym (c .refused .ensures)) (omega arith, omega arith))
+returns-2 c =
+    let a = c .before .before .before .before .before .before .before .before .args in
+    let e = sym (c .before .before .before .before .admit .ensures) ∙ c .before .before .number .given .1 in (
+      (
+        c .refused .ensures ∙ ap (λ x. arriveBy x (a .card) (a .shelf) (a .memory .now) (a .cell .now)) (sym e),
+        ap (λ x. arriveStoreBy x (a .card) (a .shelf) (a .memory .now) (a .store .now) (a .cell .now)) (sym e),
+      ),
+      subst (λ (x : Done). (x .rises .to ≤ 32) × (x .rises .to ≤ a .rows)) (sym (c .refused .ensures)) (omega arith, omega arith),
+    )
 
 pub arrive-spec : {M : Type 1} → statement M
 arrive-spec =

@@ -40,13 +40,34 @@ arrived-requires : tie.Need-arrived-requires
 arrived-requires c κs = search needs
 
 returns : tie.Need-returns
-returns c = let a = c .before .before .before .before .before .before .before .before .before .args in let h = c .before .before .before .before .before .before .before .before .before .pre .1 in let u = copied (a .t2) (a .place) (long (c .before .before .before .before .before .before .before .before .before)) (h .below) in let w = (c .before .before .before .before .way-of .ensures ∙ ap (λ x. wayOf (a .card) x (a .memory .now) (a .cell .now)) u) in (c .arrived .ensures ∙ ap (arrived (a .t2) (a .place)) (c .before .lost .ensures) ∙ lost-done (a .t2) (a .place) _ u (a .store .now) (a .cell .now) _ _ (c .before .before .enum-told .given .1) ∙ ap (λ x. doneBy x (a .t2) (a .place)) w, lost-store (a .t2) (a .place) _ u (a .store .now) (a .cell .now) _ _ (c .before .before .enum-told .given .1) ∙ ap (λ x. storeBy x (unitAt (a .t2) (a .place)) (a .place) (a .store .now) (a .cell .now)) w)
+returns c =
+    let a = c .before .before .before .before .before .before .before .before .before .args in
+    let h = c .before .before .before .before .before .before .before .before .before .pre .1 in
+    let u = copied (a .t2) (a .place) (long (c .before .before .before .before .before .before .before .before .before)) (h .below) in
+    let w = (c .before .before .before .before .way-of .ensures ∙ ap (λ x. wayOf (a .card) x (a .memory .now) (a .cell .now)) u) in (
+      c .arrived .ensures
+          ∙ ap (arrived (a .t2) (a .place)) (c .before .lost .ensures)
+          ∙ lost-done (a .t2) (a .place) _ u (a .store .now) (a .cell .now) _ _ (c .before .before .enum-told .given .1)
+          ∙ ap (λ x. doneBy x (a .t2) (a .place)) w,
+      lost-store (a .t2) (a .place) _ u (a .store .now) (a .cell .now) _ _ (c .before .before .enum-told .given .1)
+          ∙ ap (λ x. storeBy x (unitAt (a .t2) (a .place)) (a .place) (a .store .now) (a .cell .now)) w,
+    )
 
 arrived-requires-2 : tie.Need-arrived-requires-2
 arrived-requires-2 c κs = search needs
 
 returns-2 : tie.Need-returns-2
-returns-2 c = let a = c .before .before .before .before .before .before .before .before .before .before .before .before .args in let h = c .before .before .before .before .before .before .before .before .before .before .before .before .pre .1 in let u = copied (a .t2) (a .place) (long (c .before .before .before .before .before .before .before .before .before .before .before .before)) (h .below) in let w = (c .before .before .before .before .before .before .before .way-of .ensures ∙ ap (λ x. wayOf (a .card) x (a .memory .now) (a .cell .now)) u) in (c .arrived2 .ensures ∙ full-done (a .t2) (a .place) _ u (a .store .now) (a .cell .now) _ _ _ (c .before .before .before .before .before .way .given .1) (c .before .if1 .taken) ∙ ap (λ x. doneBy x (a .t2) (a .place)) w, full-store (a .t2) (a .place) _ u (a .store .now) (a .cell .now) _ _ _ (c .before .before .before .before .before .way .given .1) (c .before .if1 .taken) ∙ ap (λ x. storeBy x (unitAt (a .t2) (a .place)) (a .place) (a .store .now) (a .cell .now)) w)
+returns-2 c =
+    let a = c .before .before .before .before .before .before .before .before .before .before .before .before .args in
+    let h = c .before .before .before .before .before .before .before .before .before .before .before .before .pre .1 in
+    let u = copied (a .t2) (a .place) (long (c .before .before .before .before .before .before .before .before .before .before .before .before)) (h .below) in
+    let w = (c .before .before .before .before .before .before .before .way-of .ensures ∙ ap (λ x. wayOf (a .card) x (a .memory .now) (a .cell .now)) u) in (
+      c .arrived2 .ensures
+          ∙ full-done (a .t2) (a .place) _ u (a .store .now) (a .cell .now) _ _ _ (c .before .before .before .before .before .way .given .1) (c .before .if1 .taken)
+          ∙ ap (λ x. doneBy x (a .t2) (a .place)) w,
+      full-store (a .t2) (a .place) _ u (a .store .now) (a .cell .now) _ _ _ (c .before .before .before .before .before .way .given .1) (c .before .if1 .taken)
+          ∙ ap (λ x. storeBy x (unitAt (a .t2) (a .place)) (a .place) (a .store .now) (a .cell .now)) w,
+    )
 
 sub-compose : tie.Need-sub-compose
 sub-compose c = search needs
@@ -73,7 +94,13 @@ slice-aggregate-put-cell : tie.Need-slice-aggregate-put-cell
 slice-aggregate-put-cell c = search needs
 
 put-cell-requires : tie.Need-put-cell-requires
-put-cell-requires c κs = let a = c .before .before .before .before .before .before .before .before .before .before .before .before .before .before .before .before .before .before .before .args in let h = c .before .before .before .before .before .before .before .before .before .before .before .before .before .before .before .before .before .before .before .pre .1 in let u = copied (a .t2) (a .place) (long (c .before .before .before .before .before .before .before .before .before .before .before .before .before .before .before .before .before .before .before)) (h .below) in (search needs, subst (λ n. n + 56 ≤ length (a .store .now)) (sym (c .before .inlet-at .ensures ∙ ap (λ p. slotAt (a .place) (inletSlot p)) (c .before .before .before .tail .ensures))) (inlet-inside (a .place) (length (a .store .now)) _ (h .inside) (subst (λ x. RingFits (x .inlet) 4) (sym u) (h .inlet)) (c .before .before .before .before .before .before .before .before .if1 .left)))
+put-cell-requires c κs =
+    let a = c .before .before .before .before .before .before .before .before .before .before .before .before .before .before .before .before .before .before .before .args in
+    let h = c .before .before .before .before .before .before .before .before .before .before .before .before .before .before .before .before .before .before .before .pre .1 in
+    let u = copied (a .t2) (a .place) (long (c .before .before .before .before .before .before .before .before .before .before .before .before .before .before .before .before .before .before .before)) (h .below) in (
+      search needs,
+      subst (λ n. n + 56 ≤ length (a .store .now)) (sym (c .before .inlet-at .ensures ∙ ap (λ p. slotAt (a .place) (inletSlot p)) (c .before .before .before .tail .ensures))) (inlet-inside (a .place) (length (a .store .now)) _ (h .inside) (subst (λ x. RingFits (x .inlet) 4) (sym u) (h .inlet)) (c .before .before .before .before .before .before .before .before .if1 .left)),
+    )
 
 pushed-requires : tie.Need-pushed-requires
 pushed-requires c κs = search needs
@@ -92,12 +119,16 @@ same-length c = search needs
 
 returns-3 : tie.Need-returns-3
 unfolding putAt
-returns-3 c = let a = c .before .before .before .before .before .before .before .before .before .before .before .before .before .before .before .before .before .before .before .before .before .before .before .before .args in let h = c .before .before .before .before .before .before .before .before .before .before .before .before .before .before .before .before .before .before .before .before .before .before .before .before .pre .1 in let u = copied (a .t2) (a .place) (long (c .before .before .before .before .before .before .before .before .before .before .before .before .before .before .before .before .before .before .before .before .before .before .before .before)) (h .below) in let w = (c .before .before .before .before .before .before .before .before .before .before .before .before .before .before .before .before .before .before .before .way-of .ensures ∙ ap (λ x. wayOf (a .card) x (a .memory .now) (a .cell .now)) u) in (
-  c .arrived3 .ensures
-      ∙ queued-done (a .t2) (a .place) _ u (a .store .now) (a .cell .now) _ _ _ (c .before .before .before .before .before .before .before .before .before .before .before .before .before .before .before .before .before .way .given .1) _ (c .before .pushed .ensures) (c .before .before .before .before .before .before .before .before .before .before .before .before .before .if1 .left) ∙ ap (λ x. doneBy x (a .t2) (a .place)) w,
-  c .before .before .before .before .put-cell .ensures ∙ (λ i. splice (a .store .now) ((c .before .before .before .before .before .before .inlet-at .ensures ∙ ap (λ p. slotAt (a .place) (inletSlot p)) (c .before .before .before .before .before .before .before .before .tail .ensures)) i) (c .before .before .before .before .before .before .before .before .before .before .compose .ensures i))
-      ∙ queued-store (a .t2) (a .place) _ u (a .store .now) (a .cell .now) _ _ _ (c .before .before .before .before .before .before .before .before .before .before .before .before .before .before .before .before .before .way .given .1) (c .before .before .before .before .before .before .before .before .before .before .before .before .before .if1 .left) ∙ ap (λ x. storeBy x (unitAt (a .t2) (a .place)) (a .place) (a .store .now) (a .cell .now)) w,
-)
+returns-3 c =
+    let a = c .before .before .before .before .before .before .before .before .before .before .before .before .before .before .before .before .before .before .before .before .before .before .before .before .args in
+    let h = c .before .before .before .before .before .before .before .before .before .before .before .before .before .before .before .before .before .before .before .before .before .before .before .before .pre .1 in
+    let u = copied (a .t2) (a .place) (long (c .before .before .before .before .before .before .before .before .before .before .before .before .before .before .before .before .before .before .before .before .before .before .before .before)) (h .below) in
+    let w = (c .before .before .before .before .before .before .before .before .before .before .before .before .before .before .before .before .before .before .before .way-of .ensures ∙ ap (λ x. wayOf (a .card) x (a .memory .now) (a .cell .now)) u) in (
+      c .arrived3 .ensures
+          ∙ queued-done (a .t2) (a .place) _ u (a .store .now) (a .cell .now) _ _ _ (c .before .before .before .before .before .before .before .before .before .before .before .before .before .before .before .before .before .way .given .1) _ (c .before .pushed .ensures) (c .before .before .before .before .before .before .before .before .before .before .before .before .before .if1 .left) ∙ ap (λ x. doneBy x (a .t2) (a .place)) w,
+      c .before .before .before .before .put-cell .ensures ∙ (λ i. splice (a .store .now) ((c .before .before .before .before .before .before .inlet-at .ensures ∙ ap (λ p. slotAt (a .place) (inletSlot p)) (c .before .before .before .before .before .before .before .before .tail .ensures)) i) (c .before .before .before .before .before .before .before .before .before .before .compose .ensures i))
+          ∙ queued-store (a .t2) (a .place) _ u (a .store .now) (a .cell .now) _ _ _ (c .before .before .before .before .before .before .before .before .before .before .before .before .before .before .before .before .before .way .given .1) (c .before .before .before .before .before .before .before .before .before .before .before .before .before .if1 .left) ∙ ap (λ x. storeBy x (unitAt (a .t2) (a .place)) (a .place) (a .store .now) (a .cell .now)) w,
+    )
 
 pub arrive-at-spec : {M : Type 1} → statement M
 arrive-at-spec =

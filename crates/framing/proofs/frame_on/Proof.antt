@@ -31,7 +31,12 @@ same-length-2 : tie.Need-same-length-2
 same-length-2 c = search needs
 
 returns : tie.Need-returns
-returns c = let a = c .before .before .before .before .before .before .before .before .before .before .before .before .before .before .before .before .before .args in (c .ends .ensures ∙ frame-done (a .shelf) (a .store .now) (c .before .before .before .before .before .before .grant .result) (c .before .before .before .before .before .before .before .before .before .before .before .send-granted .result) _ (c .before .before .before .before .before .before .grant .ensures ∙ ap grantedBy (c .before .before .before .before .before .before .before .before .before .before .before .before .before .before .renew-all .ensures)) (c .before .before .before .before .before .before .before .before .before .before .before .send-granted .ensures .0) (c .before .before .wrapping-add-u16 .ensures), c .before .before .before .before .before .before .before .before .before .before .before .send-granted .ensures .1)
+returns c =
+    let a = c .before .before .before .before .before .before .before .before .before .before .before .before .before .before .before .before .before .args in (
+      c .ends .ensures
+          ∙ frame-done (a .shelf) (a .store .now) (c .before .before .before .before .before .before .grant .result) (c .before .before .before .before .before .before .before .before .before .before .before .send-granted .result) _ (c .before .before .before .before .before .before .grant .ensures ∙ ap grantedBy (c .before .before .before .before .before .before .before .before .before .before .before .before .before .before .renew-all .ensures)) (c .before .before .before .before .before .before .before .before .before .before .before .send-granted .ensures .0) (c .before .before .wrapping-add-u16 .ensures),
+      c .before .before .before .before .before .before .before .before .before .before .before .send-granted .ensures .1,
+    )
 
 pub frame-on-spec : {M : Type 1} → statement M
 frame-on-spec =

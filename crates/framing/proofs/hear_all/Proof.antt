@@ -44,7 +44,16 @@ element-copy-out-unit : tie.Need-element-copy-out-unit Inv-loop μ-loop
 element-copy-out-unit c = let e = c .before .before .held .ensures in omega arith
 
 hear-copy-requires : tie.Need-hear-copy-requires Inv-loop μ-loop
-hear-copy-requires c κs = let a = c .before .before .before .before .before .before .before .args in let e = c .before .before .before .before .held .ensures in let w = c .before .before .before .loop .inv in let n = c .before .before .before .loop .i in let less : n < min (a .t1 .count) 32 = omega (arith, e, c .before .before .loop-test .taken) in let u = w .3 n (omega arith) ∙ copied (a .t1) n (long (c .before .before .before .before .before .before .before)) (omega (arith, less)) in (c .before .before .before .before .before .before .before .pre .0, subst (λ b. Housed n (getD (c .before .before .before .loop .shelf .units) n nowhere) b) (sym (w .2)) (subst (λ x. Housed n x (length (a .store .now))) (sym u) (c .before .before .before .before .before .before .before .pre .1 n (inside (a .t1) (long (c .before .before .before .before .before .before .before)) n less))))
+hear-copy-requires c κs =
+    let a = c .before .before .before .before .before .before .before .args in
+    let e = c .before .before .before .before .held .ensures in
+    let w = c .before .before .before .loop .inv in
+    let n = c .before .before .before .loop .i in
+    let less : n < min (a .t1 .count) 32 = omega (arith, e, c .before .before .loop-test .taken) in
+    let u = w .3 n (omega arith) ∙ copied (a .t1) n (long (c .before .before .before .before .before .before .before)) (omega (arith, less)) in (
+      c .before .before .before .before .before .before .before .pre .0,
+      subst (λ b. Housed n (getD (c .before .before .before .loop .shelf .units) n nowhere) b) (sym (w .2)) (subst (λ x. Housed n x (length (a .store .now))) (sym u) (c .before .before .before .before .before .before .before .pre .1 n (inside (a .t1) (long (c .before .before .before .before .before .before .before)) n less))),
+    )
 
 mul-after : tie.Need-mul-after Inv-loop μ-loop
 mul-after c = let e = c .before .before .before .before .before .before .before .before .held .ensures in omega arith
@@ -65,7 +74,12 @@ queued-one-requires : tie.Need-queued-one-requires Inv-loop μ-loop
 queued-one-requires c κs = search needs
 
 add-copies : tie.Need-add-copies Inv-loop μ-loop
-add-copies c = let a = c .before .before .before .before .before .before .before .before .before .before .before .before .before .args in let e = c .before .before .before .before .before .before .before .before .before .before .held .ensures in let w = c .before .before .before .before .before .before .before .before .before .loop .inv in let q = c .queued-one .ensures .1 in omega (arith, w .1, q, e)
+add-copies c =
+    let a = c .before .before .before .before .before .before .before .before .before .before .before .before .before .args in
+    let e = c .before .before .before .before .before .before .before .before .before .before .held .ensures in
+    let w = c .before .before .before .before .before .before .before .before .before .loop .inv in
+    let q = c .queued-one .ensures .1 in
+    omega (arith, w .1, q, e)
 
 is-addressed-requires : tie.Need-is-addressed-requires Inv-loop μ-loop
 is-addressed-requires c κs = search needs
@@ -77,13 +91,35 @@ loop-less : tie.Need-loop-less Inv-loop μ-loop
 loop-less c = omega arith
 
 loop-again : tie.Need-loop-again Inv-loop μ-loop
-loop-again c = let a = c .before .before .before .before .before .before .before .before .before .before .before .before .before .before .args in let e = c .before .before .before .before .before .before .before .before .before .before .before .held .ensures in let w = c .before .before .before .before .before .before .before .before .before .before .loop .inv in let n = c .before .before .before .before .before .before .before .before .before .before .loop .i in let less : n < min (a .t1 .count) 32 = omega (arith, e, c .before .before .before .before .before .before .before .before .before .loop-test .taken) in let u = w .3 n (omega arith) in let f = c .before .before .before .before .before .before .hear-copy .ensures in (omega (arith, e, less), omega (arith, w .1, c .before .queued-one .ensures .1), c .before .before .before .before .before .store .given ∙ w .2, λ j h. getD-set-other (c .before .before .before .before .before .before .before .before .before .before .loop .shelf .units) n j (c .before .before .before .before .before .before .hear-copy .result .unit) nowhere (omega arith) ∙ w .3 j (omega arith), w .4 ∙ turned (a .t1) (long (c .before .before .before .before .before .before .before .before .before .before .before .before .before .before)) n less (a .heard) (c .before .before .before .before .before .before .hear-copy .result) (f .0 ∙ ap (λ x. copyOf x (a .heard)) u) (c .before .before .before .before .before .before .before .before .before .before .loop .shelf) (c .before .before .before .before .before .before .before .before .before .before .loop .each) (c .before .before .before .before .before .before .before .before .before .before .loop .copies) (c .before .before .before .before .before .before .before .before .before .before .loop .addressed) _ _ _ (c .before .before .hearing-rises .ensures) (c .before .queued-one .ensures .0) (c .is-addressed .ensures), w .5 ∙ stored (a .t1) (long (c .before .before .before .before .before .before .before .before .before .before .before .before .before .before)) n less (a .heard) (c .before .before .before .before .before .before .before .before .before .before .loop .store) _ (a .cell .now) (f .1 ∙ ap (λ x. storeOf x (a .heard) n (c .before .before .before .before .before .before .before .before .before .before .loop .store) (a .cell .now)) u))
+loop-again c =
+    let a = c .before .before .before .before .before .before .before .before .before .before .before .before .before .before .args in
+    let e = c .before .before .before .before .before .before .before .before .before .before .before .held .ensures in
+    let w = c .before .before .before .before .before .before .before .before .before .before .loop .inv in
+    let n = c .before .before .before .before .before .before .before .before .before .before .loop .i in
+    let less : n < min (a .t1 .count) 32 = omega (arith, e, c .before .before .before .before .before .before .before .before .before .loop-test .taken) in
+    let u = w .3 n (omega arith) in
+    let f = c .before .before .before .before .before .before .hear-copy .ensures in (
+      omega (arith, e, less),
+      omega (arith, w .1, c .before .queued-one .ensures .1),
+      c .before .before .before .before .before .store .given ∙ w .2,
+      λ j h. getD-set-other (c .before .before .before .before .before .before .before .before .before .before .loop .shelf .units) n j (c .before .before .before .before .before .before .hear-copy .result .unit) nowhere (omega arith)
+          ∙ w .3 j (omega arith),
+      w .4
+          ∙ turned (a .t1) (long (c .before .before .before .before .before .before .before .before .before .before .before .before .before .before)) n less (a .heard) (c .before .before .before .before .before .before .hear-copy .result) (f .0 ∙ ap (λ x. copyOf x (a .heard)) u) (c .before .before .before .before .before .before .before .before .before .before .loop .shelf) (c .before .before .before .before .before .before .before .before .before .before .loop .each) (c .before .before .before .before .before .before .before .before .before .before .loop .copies) (c .before .before .before .before .before .before .before .before .before .before .loop .addressed) _ _ _ (c .before .before .hearing-rises .ensures) (c .before .queued-one .ensures .0) (c .is-addressed .ensures),
+      w .5
+          ∙ stored (a .t1) (long (c .before .before .before .before .before .before .before .before .before .before .before .before .before .before)) n less (a .heard) (c .before .before .before .before .before .before .before .before .before .before .loop .store) _ (a .cell .now) (f .1 ∙ ap (λ x. storeOf x (a .heard) n (c .before .before .before .before .before .before .before .before .before .before .loop .store) (a .cell .now)) u),
+    )
 
 same-length : tie.Need-same-length Inv-loop μ-loop
 same-length c = c .before .loop .inv .2
 
 returns : tie.Need-returns Inv-loop μ-loop
-returns c = let a = c .before .before .before .before .before .args in let e = c .before .before .held .ensures in let w = c .before .loop .inv in let n = none-left (a .t1) (long (c .before .before .before .before .before)) (c .before .loop .i) (omega (arith, e)) in (sym (w .4 ∙ heard-none (a .heard) (c .before .loop .i) _ _ n), sym (w .5 ∙ store-none (a .heard) (c .before .loop .i) _ _ _ n))
+returns c =
+    let a = c .before .before .before .before .before .args in
+    let e = c .before .before .held .ensures in
+    let w = c .before .loop .inv in
+    let n = none-left (a .t1) (long (c .before .before .before .before .before)) (c .before .loop .i) (omega (arith, e)) in
+    (sym (w .4 ∙ heard-none (a .heard) (c .before .loop .i) _ _ n), sym (w .5 ∙ store-none (a .heard) (c .before .loop .i) _ _ _ n))
 
 pub hear-all-spec : {M : Type 1} → statement M
 hear-all-spec =

@@ -22,7 +22,8 @@ renew-requires c κs = search needs
 
 returns-2 : tie.Need-returns-2
 unfolding renewal
-returns-2 c = rw (sym (c .before .before .before .due .ensures) ∙ not-false _ (c .before .before .if1 .left)) (c .renew .ensures ∙ ap (renewed (c .before .before .before .before .before .args .requests) (c .before .before .before .before .before .args .unit .settings .number)) (c .before .asking .ensures))
+returns-2 c =
+    rw (sym (c .before .before .before .due .ensures) ∙ not-false _ (c .before .before .if1 .left)) (c .renew .ensures ∙ ap (renewed (c .before .before .before .before .before .args .requests) (c .before .before .before .before .before .args .unit .settings .number)) (c .before .asking .ensures))
 
 pub renew-spec : {M : Type 1} → statement M
 renew-spec = tie.close (tie.spec due-requires returns asking-requires renew-requires returns-2)

@@ -44,10 +44,19 @@ loop-less : tie.Need-loop-less Inv-loop μ-loop
 loop-less c = omega arith
 
 loop-again : tie.Need-loop-again Inv-loop μ-loop
-loop-again c = let a = c .before .before .before .before .before .before .args in let e = c .before .before .before .before .before .held .ensures in (omega arith, c .before .before .before .loop .inv .1 ∙ asked (a .t1) (long (c .before .before .before .before .before .before)) (c .before .before .before .loop .i) (omega (arith, e)) (a .t1 .bus) (a .t1 .frame) (a .t1 .granted) (c .before .before .before .loop .requests) _ (c .renew .ensures))
+loop-again c =
+    let a = c .before .before .before .before .before .before .args in
+    let e = c .before .before .before .before .before .held .ensures in (
+      omega arith,
+      c .before .before .before .loop .inv .1
+          ∙ asked (a .t1) (long (c .before .before .before .before .before .before)) (c .before .before .before .loop .i) (omega (arith, e)) (a .t1 .bus) (a .t1 .frame) (a .t1 .granted) (c .before .before .before .loop .requests) _ (c .renew .ensures),
+    )
 
 returns : tie.Need-returns Inv-loop μ-loop
-returns c = let a = c .before .before .before .before .args in let e = c .before .before .before .held .ensures in sym (c .before .loop .inv .1 ∙ asks-none (a .t1 .bus) (a .t1 .frame) (a .t1 .granted) (c .before .loop .requests) _ (none-left (a .t1) (long (c .before .before .before .before)) (c .before .loop .i) (omega (arith, e))))
+returns c =
+    let a = c .before .before .before .before .args in
+    let e = c .before .before .before .held .ensures in
+    sym (c .before .loop .inv .1 ∙ asks-none (a .t1 .bus) (a .t1 .frame) (a .t1 .granted) (c .before .loop .requests) _ (none-left (a .t1) (long (c .before .before .before .before)) (c .before .loop .i) (omega (arith, e))))
 
 pub renew-all-spec : {M : Type 1} → statement M
 renew-all-spec =

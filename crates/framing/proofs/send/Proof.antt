@@ -27,19 +27,40 @@ inlet-at-requires : tie.Need-inlet-at-requires
 inlet-at-requires c κs = (c .before .before .before .before .before .pre .2 (c .before .before .before .before .before .args .place) (c .before .before .before .before .before .pre .1)) .below
 
 get-cell-requires : tie.Need-get-cell-requires
-get-cell-requires c κs = let a = c .before .before .before .before .before .before .args in let h = c .before .before .before .before .before .before .pre .2 (a .place) (c .before .before .before .before .before .before .pre .1) in let u = copied (a .t1) (a .place) (long (c .before .before .before .before .before .before)) (h .below) in let u₀ = getD (a .t1 .units) (a .place) nowhere in let hu = subst (λ x. Housed (a .place) x (length (a .store .now))) (sym u) h in let at = subst (λ n. n + 56 ≤ length (a .store .now)) (sym (c .inlet-at .ensures)) (head-inside (a .place) (length (a .store .now)) u₀ hu) in at
+get-cell-requires c κs =
+    let a = c .before .before .before .before .before .before .args in
+    let h = c .before .before .before .before .before .before .pre .2 (a .place) (c .before .before .before .before .before .before .pre .1) in
+    let u = copied (a .t1) (a .place) (long (c .before .before .before .before .before .before)) (h .below) in
+    let u₀ = getD (a .t1 .units) (a .place) nowhere in
+    let hu = subst (λ x. Housed (a .place) x (length (a .store .now))) (sym u) h in
+    let at = subst (λ n. n + 56 ≤ length (a .store .now)) (sym (c .inlet-at .ensures)) (head-inside (a .place) (length (a .store .now)) u₀ hu) in
+    at
 
 seal-requires : tie.Need-seal-requires
-seal-requires c κs = let a = c .before .before .before .before .before .before .before .before .args in let h = c .before .before .before .before .before .before .before .before .pre .2 (a .place) (c .before .before .before .before .before .before .before .before .pre .1) in let u = copied (a .t1) (a .place) (long (c .before .before .before .before .before .before .before .before)) (h .below) in let u₀ = getD (a .t1 .units) (a .place) nowhere in let hu = subst (λ x. Housed (a .place) x (length (a .store .now))) (sym u) h in let at = subst (λ n. n + 56 ≤ length (a .store .now)) (sym (c .before .before .inlet-at .ensures)) (head-inside (a .place) (length (a .store .now)) u₀ hu) in let cl = cell-length (a .store .now) (c .before .before .inlet-at .result) (c .before .get-cell .result .now) at (c .before .get-cell .ensures) in (cl, c .before .before .before .before .before .before .before .before .pre .0)
+seal-requires c κs =
+    let a = c .before .before .before .before .before .before .before .before .args in
+    let h = c .before .before .before .before .before .before .before .before .pre .2 (a .place) (c .before .before .before .before .before .before .before .before .pre .1) in
+    let u = copied (a .t1) (a .place) (long (c .before .before .before .before .before .before .before .before)) (h .below) in
+    let u₀ = getD (a .t1 .units) (a .place) nowhere in
+    let hu = subst (λ x. Housed (a .place) x (length (a .store .now))) (sym u) h in
+    let at = subst (λ n. n + 56 ≤ length (a .store .now)) (sym (c .before .before .inlet-at .ensures)) (head-inside (a .place) (length (a .store .now)) u₀ hu) in
+    let cl = cell-length (a .store .now) (c .before .before .inlet-at .result) (c .before .get-cell .result .now) at (c .before .get-cell .ensures) in
+    (cl, c .before .before .before .before .before .before .before .before .pre .0)
 
 popped-requires : tie.Need-popped-requires
 popped-requires c κs = search needs
 
 mul-unit-2 : tie.Need-mul-unit-2
-mul-unit-2 c = let h = c .before .before .before .before .before .before .before .before .before .before .before .before .pre .2 (c .before .before .before .before .before .before .before .before .before .before .before .before .args .place) (c .before .before .before .before .before .before .before .before .before .before .before .before .pre .1) in let b = h .below in omega (arith, b)
+mul-unit-2 c =
+    let h = c .before .before .before .before .before .before .before .before .before .before .before .before .pre .2 (c .before .before .before .before .before .before .before .before .before .before .before .before .args .place) (c .before .before .before .before .before .before .before .before .before .before .before .before .pre .1) in
+    let b = h .below in
+    omega (arith, b)
 
 element-set-from-unit : tie.Need-element-set-from-unit
-element-set-from-unit c = let h = c .before .before .before .before .before .before .before .before .before .before .before .before .pre .2 (c .before .before .before .before .before .before .before .before .before .before .before .before .args .place) (c .before .before .before .before .before .before .before .before .before .before .before .before .pre .1) in let b = h .below in omega (arith, b)
+element-set-from-unit c =
+    let h = c .before .before .before .before .before .before .before .before .before .before .before .before .pre .2 (c .before .before .before .before .before .before .before .before .before .before .before .before .args .place) (c .before .before .before .before .before .before .before .before .before .before .before .before .pre .1) in
+    let b = h .below in
+    omega (arith, b)
 
 hear-requires : tie.Need-hear-requires
 hear-requires c κs = search needs
@@ -48,25 +69,57 @@ slice-reshare-prefix-hear-all : tie.Need-slice-reshare-prefix-hear-all
 slice-reshare-prefix-hear-all c = search needs
 
 slice-aggregate-hear-all : tie.Need-slice-aggregate-hear-all
-slice-aggregate-hear-all c = let a = c .before .before .before .before .before .before .before .before .before .before .before .before .before .before .before .args in let h = c .before .before .before .before .before .before .before .before .before .before .before .before .before .before .before .pre .2 (a .place) (c .before .before .before .before .before .before .before .before .before .before .before .before .before .before .before .pre .1) in let u = copied (a .t1) (a .place) (long (c .before .before .before .before .before .before .before .before .before .before .before .before .before .before .before)) (h .below) in let u₀ = getD (a .t1 .units) (a .place) nowhere in let hu = subst (λ x. Housed (a .place) x (length (a .store .now))) (sym u) h in let at = subst (λ n. n + 56 ≤ length (a .store .now)) (sym (c .before .before .before .before .before .before .before .before .before .inlet-at .ensures)) (head-inside (a .place) (length (a .store .now)) u₀ hu) in let cl = cell-length (a .store .now) (c .before .before .before .before .before .before .before .before .before .inlet-at .result) (c .before .before .before .before .before .before .before .before .get-cell .result .now) at (c .before .before .before .before .before .before .before .before .get-cell .ensures) in let fl = ap length (c .before .before .before .before .before .before .seal .ensures) ∙ sealed-length (c .before .before .before .before .before .before .before .before .get-cell .result .now) cl in sym (before-parity (c .before .before .before .before .before .before .seal .last .1 .0) fl)
+slice-aggregate-hear-all c =
+    let a = c .before .before .before .before .before .before .before .before .before .before .before .before .before .before .before .args in
+    let h = c .before .before .before .before .before .before .before .before .before .before .before .before .before .before .before .pre .2 (a .place) (c .before .before .before .before .before .before .before .before .before .before .before .before .before .before .before .pre .1) in
+    let u = copied (a .t1) (a .place) (long (c .before .before .before .before .before .before .before .before .before .before .before .before .before .before .before)) (h .below) in
+    let u₀ = getD (a .t1 .units) (a .place) nowhere in
+    let hu = subst (λ x. Housed (a .place) x (length (a .store .now))) (sym u) h in
+    let at = subst (λ n. n + 56 ≤ length (a .store .now)) (sym (c .before .before .before .before .before .before .before .before .before .inlet-at .ensures)) (head-inside (a .place) (length (a .store .now)) u₀ hu) in
+    let cl = cell-length (a .store .now) (c .before .before .before .before .before .before .before .before .before .inlet-at .result) (c .before .before .before .before .before .before .before .before .get-cell .result .now) at (c .before .before .before .before .before .before .before .before .get-cell .ensures) in
+    let fl = ap length (c .before .before .before .before .before .before .seal .ensures) ∙ sealed-length (c .before .before .before .before .before .before .before .before .get-cell .result .now) cl in
+    sym (before-parity (c .before .before .before .before .before .before .seal .last .1 .0) fl)
 
 hear-all-requires : tie.Need-hear-all-requires
-hear-all-requires c κs = let a = c .before .before .before .before .before .before .before .before .before .before .before .before .before .before .before .before .args in let h = c .before .before .before .before .before .before .before .before .before .before .before .before .before .before .before .before .pre .2 (a .place) (c .before .before .before .before .before .before .before .before .before .before .before .before .before .before .before .before .pre .1) in let u = copied (a .t1) (a .place) (long (c .before .before .before .before .before .before .before .before .before .before .before .before .before .before .before .before)) (h .below) in let u₀ = getD (a .t1 .units) (a .place) nowhere in let hu = subst (λ x. Housed (a .place) x (length (a .store .now))) (sym u) h in let at = subst (λ n. n + 56 ≤ length (a .store .now)) (sym (c .before .before .before .before .before .before .before .before .before .before .inlet-at .ensures)) (head-inside (a .place) (length (a .store .now)) u₀ hu) in let cl = cell-length (a .store .now) (c .before .before .before .before .before .before .before .before .before .before .inlet-at .result) (c .before .before .before .before .before .before .before .before .before .get-cell .result .now) at (c .before .before .before .before .before .before .before .before .before .get-cell .ensures) in let fl = ap length (c .before .before .before .before .before .before .before .seal .ensures) ∙ sealed-length (c .before .before .before .before .before .before .before .before .before .get-cell .result .now) cl in (before-parity (c .before .before .before .before .before .before .before .seal .last .1 .0) fl, out-housed (a .t1) (a .place) (length (a .store .now)) u₀ u (c .before .before .before .before .popped .result) (c .before .before .before .before .popped .ensures) (c .before .before .before .before .before .before .before .before .before .before .before .before .before .before .before .before .pre .1) (c .before .before .before .before .before .before .before .before .before .before .before .before .before .before .before .before .pre .2))
+hear-all-requires c κs =
+    let a = c .before .before .before .before .before .before .before .before .before .before .before .before .before .before .before .before .args in
+    let h = c .before .before .before .before .before .before .before .before .before .before .before .before .before .before .before .before .pre .2 (a .place) (c .before .before .before .before .before .before .before .before .before .before .before .before .before .before .before .before .pre .1) in
+    let u = copied (a .t1) (a .place) (long (c .before .before .before .before .before .before .before .before .before .before .before .before .before .before .before .before)) (h .below) in
+    let u₀ = getD (a .t1 .units) (a .place) nowhere in
+    let hu = subst (λ x. Housed (a .place) x (length (a .store .now))) (sym u) h in
+    let at = subst (λ n. n + 56 ≤ length (a .store .now)) (sym (c .before .before .before .before .before .before .before .before .before .before .inlet-at .ensures)) (head-inside (a .place) (length (a .store .now)) u₀ hu) in
+    let cl = cell-length (a .store .now) (c .before .before .before .before .before .before .before .before .before .before .inlet-at .result) (c .before .before .before .before .before .before .before .before .before .get-cell .result .now) at (c .before .before .before .before .before .before .before .before .before .get-cell .ensures) in
+    let fl = ap length (c .before .before .before .before .before .before .before .seal .ensures) ∙ sealed-length (c .before .before .before .before .before .before .before .before .before .get-cell .result .now) cl in (
+      before-parity (c .before .before .before .before .before .before .before .seal .last .1 .0) fl,
+      out-housed (a .t1) (a .place) (length (a .store .now)) u₀ u (c .before .before .before .before .popped .result) (c .before .before .before .before .popped .ensures) (c .before .before .before .before .before .before .before .before .before .before .before .before .before .before .before .before .pre .1) (c .before .before .before .before .before .before .before .before .before .before .before .before .before .before .before .before .pre .2),
+    )
 
 mul-each : tie.Need-mul-each
-mul-each c = let h = c .before .before .before .before .before .before .before .before .before .before .before .before .before .before .before .before .before .before .before .before .pre .2 (c .before .before .before .before .before .before .before .before .before .before .before .before .before .before .before .before .before .before .before .before .args .place) (c .before .before .before .before .before .before .before .before .before .before .before .before .before .before .before .before .before .before .before .before .pre .1) in let b = h .below in omega (arith, b)
+mul-each c =
+    let h = c .before .before .before .before .before .before .before .before .before .before .before .before .before .before .before .before .before .before .before .before .pre .2 (c .before .before .before .before .before .before .before .before .before .before .before .before .before .before .before .before .before .before .before .before .args .place) (c .before .before .before .before .before .before .before .before .before .before .before .before .before .before .before .before .before .before .before .before .pre .1) in
+    let b = h .below in
+    omega (arith, b)
 
 array-read-each : tie.Need-array-read-each
-array-read-each c = let h = c .before .before .before .before .before .before .before .before .before .before .before .before .before .before .before .before .before .before .before .before .pre .2 (c .before .before .before .before .before .before .before .before .before .before .before .before .before .before .before .before .before .before .before .before .args .place) (c .before .before .before .before .before .before .before .before .before .before .before .before .before .before .before .before .before .before .before .before .pre .1) in let b = h .below in omega (arith, b)
+array-read-each c =
+    let h = c .before .before .before .before .before .before .before .before .before .before .before .before .before .before .before .before .before .before .before .before .pre .2 (c .before .before .before .before .before .before .before .before .before .before .before .before .before .before .before .before .before .before .before .before .args .place) (c .before .before .before .before .before .before .before .before .before .before .before .before .before .before .before .before .before .before .before .before .pre .1) in
+    let b = h .below in
+    omega (arith, b)
 
 sent-rises-requires : tie.Need-sent-rises-requires
 sent-rises-requires c κs = search needs
 
 mul-each-2 : tie.Need-mul-each-2
-mul-each-2 c = let h = c .before .before .before .before .before .before .before .before .before .before .before .before .before .before .before .before .before .before .before .before .before .pre .2 (c .before .before .before .before .before .before .before .before .before .before .before .before .before .before .before .before .before .before .before .before .before .args .place) (c .before .before .before .before .before .before .before .before .before .before .before .before .before .before .before .before .before .before .before .before .before .pre .1) in let b = h .below in omega (arith, b)
+mul-each-2 c =
+    let h = c .before .before .before .before .before .before .before .before .before .before .before .before .before .before .before .before .before .before .before .before .before .pre .2 (c .before .before .before .before .before .before .before .before .before .before .before .before .before .before .before .before .before .before .before .before .before .args .place) (c .before .before .before .before .before .before .before .before .before .before .before .before .before .before .before .before .before .before .before .before .before .pre .1) in
+    let b = h .below in
+    omega (arith, b)
 
 array-write-each : tie.Need-array-write-each
-array-write-each c = let h = c .before .before .before .before .before .before .before .before .before .before .before .before .before .before .before .before .before .before .before .before .before .pre .2 (c .before .before .before .before .before .before .before .before .before .before .before .before .before .before .before .before .before .before .before .before .before .args .place) (c .before .before .before .before .before .before .before .before .before .before .before .before .before .before .before .before .before .before .before .before .before .pre .1) in let b = h .below in omega (arith, b)
+array-write-each c =
+    let h = c .before .before .before .before .before .before .before .before .before .before .before .before .before .before .before .before .before .before .before .before .before .pre .2 (c .before .before .before .before .before .before .before .before .before .before .before .before .before .before .before .before .before .before .before .before .before .args .place) (c .before .before .before .before .before .before .before .before .before .before .before .before .before .before .before .before .before .before .before .before .before .pre .1) in
+    let b = h .below in
+    omega (arith, b)
 
 same-length : tie.Need-same-length
 same-length c = search needs
@@ -75,7 +128,23 @@ same-length-2 : tie.Need-same-length-2
 same-length-2 c = search needs
 
 returns : tie.Need-returns
-returns c = let a = c .before .before .before .before .before .before .before .before .before .before .before .before .before .before .before .before .before .before .before .before .before .args in let h = c .before .before .before .before .before .before .before .before .before .before .before .before .before .before .before .before .before .before .before .before .before .pre .2 (a .place) (c .before .before .before .before .before .before .before .before .before .before .before .before .before .before .before .before .before .before .before .before .before .pre .1) in let u = copied (a .t1) (a .place) (long (c .before .before .before .before .before .before .before .before .before .before .before .before .before .before .before .before .before .before .before .before .before)) (h .below) in let u₀ = getD (a .t1 .units) (a .place) nowhere in let hu = subst (λ x. Housed (a .place) x (length (a .store .now))) (sym u) h in let at = subst (λ n. n + 56 ≤ length (a .store .now)) (sym (c .before .before .before .before .before .before .before .before .before .before .before .before .before .before .before .inlet-at .ensures)) (head-inside (a .place) (length (a .store .now)) u₀ hu) in let cl = cell-length (a .store .now) (c .before .before .before .before .before .before .before .before .before .before .before .before .before .before .before .inlet-at .result) (c .before .before .before .before .before .before .before .before .before .before .before .before .before .before .get-cell .result .now) at (c .before .before .before .before .before .before .before .before .before .before .before .before .before .before .get-cell .ensures) in let fl = ap length (c .before .before .before .before .before .before .before .before .before .before .before .before .seal .ensures) ∙ sealed-length (c .before .before .before .before .before .before .before .before .before .before .before .before .before .before .get-cell .result .now) cl in let es = out-is (a .t1) (a .place) (length (a .store .now)) u₀ u (c .before .before .before .before .before .before .before .before .before .popped .result) (c .before .before .before .before .before .before .before .before .before .popped .ensures) in let ef = c .before .before .before .before .before .before .before .before .before .before .before .before .seal .ensures ∙ frame-is (a .t1) (a .place) (a .store .now) u₀ u (c .before .before .before .before .before .before .before .before .before .before .before .before .before .before .get-cell .result .now) (c .before .before .before .before .before .before .before .before .before .before .before .before .before .before .get-cell .ensures ∙ ap (λ n. part (a .store .now) n 56) (c .before .before .before .before .before .before .before .before .before .before .before .before .before .before .before .inlet-at .ensures)) in (sent-done (a .t1) (a .place) (a .store .now) _ _ _ es ef (c .before .before .before .before .before .before .before .hear .ensures) (c .before .before .before .before .hear-all .result) _ (c .before .before .before .before .hear-all .ensures .0) (c .sent-rises .ensures), (sent-store (a .t1) (a .place) (a .store .now) _ _ _ es ef (c .before .before .before .before .before .before .before .hear .ensures) _ (c .before .before .before .before .hear-all .ensures .1), ef))
+returns c =
+    let a = c .before .before .before .before .before .before .before .before .before .before .before .before .before .before .before .before .before .before .before .before .before .args in
+    let h = c .before .before .before .before .before .before .before .before .before .before .before .before .before .before .before .before .before .before .before .before .before .pre .2 (a .place) (c .before .before .before .before .before .before .before .before .before .before .before .before .before .before .before .before .before .before .before .before .before .pre .1) in
+    let u = copied (a .t1) (a .place) (long (c .before .before .before .before .before .before .before .before .before .before .before .before .before .before .before .before .before .before .before .before .before)) (h .below) in
+    let u₀ = getD (a .t1 .units) (a .place) nowhere in
+    let hu = subst (λ x. Housed (a .place) x (length (a .store .now))) (sym u) h in
+    let at = subst (λ n. n + 56 ≤ length (a .store .now)) (sym (c .before .before .before .before .before .before .before .before .before .before .before .before .before .before .before .inlet-at .ensures)) (head-inside (a .place) (length (a .store .now)) u₀ hu) in
+    let cl = cell-length (a .store .now) (c .before .before .before .before .before .before .before .before .before .before .before .before .before .before .before .inlet-at .result) (c .before .before .before .before .before .before .before .before .before .before .before .before .before .before .get-cell .result .now) at (c .before .before .before .before .before .before .before .before .before .before .before .before .before .before .get-cell .ensures) in
+    let fl = ap length (c .before .before .before .before .before .before .before .before .before .before .before .before .seal .ensures) ∙ sealed-length (c .before .before .before .before .before .before .before .before .before .before .before .before .before .before .get-cell .result .now) cl in
+    let es = out-is (a .t1) (a .place) (length (a .store .now)) u₀ u (c .before .before .before .before .before .before .before .before .before .popped .result) (c .before .before .before .before .before .before .before .before .before .popped .ensures) in
+    let ef = c .before .before .before .before .before .before .before .before .before .before .before .before .seal .ensures ∙ frame-is (a .t1) (a .place) (a .store .now) u₀ u (c .before .before .before .before .before .before .before .before .before .before .before .before .before .before .get-cell .result .now) (c .before .before .before .before .before .before .before .before .before .before .before .before .before .before .get-cell .ensures ∙ ap (λ n. part (a .store .now) n 56) (c .before .before .before .before .before .before .before .before .before .before .before .before .before .before .before .inlet-at .ensures)) in (
+      sent-done (a .t1) (a .place) (a .store .now) _ _ _ es ef (c .before .before .before .before .before .before .before .hear .ensures) (c .before .before .before .before .hear-all .result) _ (c .before .before .before .before .hear-all .ensures .0) (c .sent-rises .ensures),
+      (
+        sent-store (a .t1) (a .place) (a .store .now) _ _ _ es ef (c .before .before .before .before .before .before .before .hear .ensures) _ (c .before .before .before .before .hear-all .ensures .1),
+        ef,
+      ),
+    )
 
 pub send-spec : {M : Type 1} → statement M
 send-spec =

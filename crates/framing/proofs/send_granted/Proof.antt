@@ -14,7 +14,13 @@ enum-known-place : tie.Need-enum-known-place
 enum-known-place c = search needs
 
 send-requires : tie.Need-send-requires
-send-requires c κs = let a = c .before .before .before .before .before .before .before .before .args in let e = sym (c .before .before .before .before .before .find .ensures) ∙ c .before .before .before .place .given .1 in (c .before .before .before .before .before .before .before .before .pre .0, find-at (a .shelf .granted) (declared (a .shelf)) _ .0 e .inside, c .before .before .before .before .before .before .before .before .pre .1)
+send-requires c κs =
+    let a = c .before .before .before .before .before .before .before .before .args in
+    let e = sym (c .before .before .before .before .before .find .ensures) ∙ c .before .before .before .place .given .1 in (
+      c .before .before .before .before .before .before .before .before .pre .0,
+      find-at (a .shelf .granted) (declared (a .shelf)) _ .0 e .inside,
+      c .before .before .before .before .before .before .before .before .pre .1,
+    )
 
 enum-told : tie.Need-enum-told
 enum-told c = search needs
@@ -30,11 +36,24 @@ same-length-2 c = search needs
 
 returns : tie.Need-returns
 unfolding listenedBy storeBy bufferBy
-returns c = let a = c .before .before .before .before .before .before .before .before .before .before .before .before .before .args in let e = sym (c .before .before .before .before .before .before .before .before .before .before .find .ensures) ∙ c .before .before .before .before .before .before .before .before .place .given .1 in (c .before .before .before .before .send .ensures .0 ∙ ap (λ x. listenedBy x (a .shelf) (a .store .now)) (sym e), (c .before .before .before .before .send .ensures .1 .0 ∙ ap (λ x. storeBy x (a .shelf) (a .store .now)) (sym e), c .before .before .before .before .send .ensures .1 .1 ∙ ap (λ x. bufferBy x (a .shelf) (a .store .now) (a .buffer .now)) (sym e)))
+returns c =
+    let a = c .before .before .before .before .before .before .before .before .before .before .before .before .before .args in
+    let e = sym (c .before .before .before .before .before .before .before .before .before .before .find .ensures) ∙ c .before .before .before .before .before .before .before .before .place .given .1 in (
+      c .before .before .before .before .send .ensures .0 ∙ ap (λ x. listenedBy x (a .shelf) (a .store .now)) (sym e),
+      (
+        c .before .before .before .before .send .ensures .1 .0 ∙ ap (λ x. storeBy x (a .shelf) (a .store .now)) (sym e),
+        c .before .before .before .before .send .ensures .1 .1 ∙ ap (λ x. bufferBy x (a .shelf) (a .store .now) (a .buffer .now)) (sym e),
+      ),
+    )
 
 returns-2 : tie.Need-returns-2
 unfolding listenedBy storeBy bufferBy
-returns-2 c = let a = c .before .before .before .before .before .before .args in let e = sym (c .before .before .before .find .ensures) ∙ c .before .enum-told .given .1 in (c .silence .ensures ∙ ap (λ x. listenedBy x (a .shelf) (a .store .now)) (sym e), (ap (λ x. storeBy x (a .shelf) (a .store .now)) (sym e), ap (λ x. bufferBy x (a .shelf) (a .store .now) (a .buffer .now)) (sym e)))
+returns-2 c =
+    let a = c .before .before .before .before .before .before .args in
+    let e = sym (c .before .before .before .find .ensures) ∙ c .before .enum-told .given .1 in (
+      c .silence .ensures ∙ ap (λ x. listenedBy x (a .shelf) (a .store .now)) (sym e),
+      (ap (λ x. storeBy x (a .shelf) (a .store .now)) (sym e), ap (λ x. bufferBy x (a .shelf) (a .store .now) (a .buffer .now)) (sym e)),
+    )
 
 pub send-granted-spec : {M : Type 1} → statement M
 send-granted-spec =

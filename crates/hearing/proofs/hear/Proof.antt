@@ -19,7 +19,12 @@ enum-known-place : tie.Need-enum-known-place
 enum-known-place c = search needs
 
 hear-at-requires : tie.Need-hear-at-requires
-hear-at-requires c κs = let a = c .before .before .before .before .before .before .before .args in let e = sym (c .before .before .before .before .admit .ensures) ∙ c .before .before .place .given .1 in let l = at-let-in (a .card) (a .shelf) (length (a .store .now)) (a .rows) (a .unit) (eqb (length (a .frame .now)) 57) _ e in let h = let-in-housed (a .card) (a .shelf) (length (a .store .now)) (a .rows) (a .unit) (eqb (length (a .frame .now)) 57) _ l in (eqb-true (length (a .frame .now)) 57 (l .fits), h .0)
+hear-at-requires c κs =
+    let a = c .before .before .before .before .before .before .before .args in
+    let e = sym (c .before .before .before .before .admit .ensures) ∙ c .before .before .place .given .1 in
+    let l = at-let-in (a .card) (a .shelf) (length (a .store .now)) (a .rows) (a .unit) (eqb (length (a .frame .now)) 57) _ e in
+    let h = let-in-housed (a .card) (a .shelf) (length (a .store .now)) (a .rows) (a .unit) (eqb (length (a .frame .now)) 57) _ l in
+    (eqb-true (length (a .frame .now)) 57 (l .fits), h .0)
 
 enum-known-number : tie.Need-enum-known-number
 enum-known-number c = search needs
@@ -32,11 +37,26 @@ same-length c = search needs
 
 returns : tie.Need-returns
 unfolding hearBy hearStoreBy
-returns c = let a = c .before .before .before .before .before .before .before .before .before .before .args in let e = sym (c .before .before .before .before .before .before .before .admit .ensures) ∙ c .before .before .before .before .before .place .given .1 in let l = at-let-in (a .card) (a .shelf) (length (a .store .now)) (a .rows) (a .unit) (eqb (length (a .frame .now)) 57) _ e in let h = let-in-housed (a .card) (a .shelf) (length (a .store .now)) (a .rows) (a .unit) (eqb (length (a .frame .now)) 57) _ l in ((c .before .before .hear-at .ensures .0 ∙ ap (λ x. hearBy x (a .shelf) (a .frame .now)) (sym e), c .before .before .hear-at .ensures .1 ∙ ap (λ x. hearStoreBy x (a .shelf) (a .store .now) (a .frame .now)) (sym e)), subst (λ (x : Done). (x .rises .to ≤ 32) × (x .rises .to ≤ a .rows)) (sym (c .before .before .hear-at .ensures .0)) (omega (arith, h .0 .below), omega (arith, h .1)))
+returns c =
+    let a = c .before .before .before .before .before .before .before .before .before .before .args in
+    let e = sym (c .before .before .before .before .before .before .before .admit .ensures) ∙ c .before .before .before .before .before .place .given .1 in
+    let l = at-let-in (a .card) (a .shelf) (length (a .store .now)) (a .rows) (a .unit) (eqb (length (a .frame .now)) 57) _ e in
+    let h = let-in-housed (a .card) (a .shelf) (length (a .store .now)) (a .rows) (a .unit) (eqb (length (a .frame .now)) 57) _ l in (
+      (
+        c .before .before .hear-at .ensures .0 ∙ ap (λ x. hearBy x (a .shelf) (a .frame .now)) (sym e),
+        c .before .before .hear-at .ensures .1 ∙ ap (λ x. hearStoreBy x (a .shelf) (a .store .now) (a .frame .now)) (sym e),
+      ),
+      subst (λ (x : Done). (x .rises .to ≤ 32) × (x .rises .to ≤ a .rows)) (sym (c .before .before .hear-at .ensures .0)) (omega (arith, h .0 .below), omega (arith, h .1)),
+    )
 
 returns-2 : tie.Need-returns-2
 unfolding hearBy hearStoreBy
-returns-2 c = let a = c .before .before .before .before .before .before .before .args in let e = sym (c .before .before .before .before .admit .ensures) ∙ c .before .before .number .given .1 in ((c .refused .ensures ∙ ap (λ x. hearBy x (a .shelf) (a .frame .now)) (sym e), ap (λ x. hearStoreBy x (a .shelf) (a .store .now) (a .frame .now)) (sym e)), subst (λ (x : Done). (x .rises .to ≤ 32) × (x .rises .to ≤ a .rows)) (sym (c .refused .ensures)) (omega arith, omega arith))
+returns-2 c =
+    let a = c .before .before .before .before .before .before .before .args in
+    let e = sym (c .before .before .before .before .admit .ensures) ∙ c .before .before .number .given .1 in (
+      (c .refused .ensures ∙ ap (λ x. hearBy x (a .shelf) (a .frame .now)) (sym e), ap (λ x. hearStoreBy x (a .shelf) (a .store .now) (a .frame .now)) (sym e)),
+      subst (λ (x : Done). (x .rises .to ≤ 32) × (x .rises .to ≤ a .rows)) (sym (c .refused .ensures)) (omega arith, omega arith),
+    )
 
 pub hear-spec : {M : Type 1} → statement M
 hear-spec =

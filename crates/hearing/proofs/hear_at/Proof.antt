@@ -29,7 +29,11 @@ slice-aggregate-hear-copy : tie.Need-slice-aggregate-hear-copy
 slice-aggregate-hear-copy c = sym (before-parity (c .before .before .before .before .before .args .frame .now) (c .before .before .before .before .before .pre .0))
 
 hear-copy-requires : tie.Need-hear-copy-requires
-hear-copy-requires c κs = let a = c .before .before .before .before .before .before .args in let h = c .before .before .before .before .before .before .pre .1 in let u = copied (a .t1) (a .place) (long (c .before .before .before .before .before .before)) (h .below) in (before-parity (a .frame .now) (c .before .before .before .before .before .before .pre .0), subst (λ x. Housed (a .place) x (length (a .store .now))) (sym u) h)
+hear-copy-requires c κs =
+    let a = c .before .before .before .before .before .before .args in
+    let h = c .before .before .before .before .before .before .pre .1 in
+    let u = copied (a .t1) (a .place) (long (c .before .before .before .before .before .before)) (h .below) in
+    (before-parity (a .frame .now) (c .before .before .before .before .before .before .pre .0), subst (λ x. Housed (a .place) x (length (a .store .now))) (sym u) h)
 
 mul-after : tie.Need-mul-after
 mul-after c = search needs
@@ -50,7 +54,17 @@ same-length : tie.Need-same-length
 same-length c = search needs
 
 returns : tie.Need-returns
-returns c = let a = c .before .before .before .before .before .before .before .before .before .before .before .before .before .args in let h = c .before .before .before .before .before .before .before .before .before .before .before .before .before .pre .1 in let u = copied (a .t1) (a .place) (long (c .before .before .before .before .before .before .before .before .before .before .before .before .before)) (h .below) in let g = c .before .before .before .before .before .before .hear-copy .ensures .0 ∙ (λ i. copyOf (u i) (c .before .before .before .before .before .before .before .before .before .hear .ensures i)) in (c .ends .ensures ∙ ap (λ r. ends (Heard (c .before .before .before .before .before .before .hear-copy .result .fate)) (withUnit (a .t1) (a .place) (c .before .before .before .before .before .before .hear-copy .result .unit)) r) (c .before .row .ensures ∙ ap (row (a .place)) (c .before .before .hearing-rises .ensures)) ∙ ap (λ x. heardBy x (a .t1) (a .place)) g, c .before .before .before .before .before .before .hear-copy .ensures .1 ∙ (λ i. storeOf (u i) (c .before .before .before .before .before .before .before .before .before .hear .ensures i) (a .place) (a .store .now) (take 56 (a .frame .now))))
+returns c =
+    let a = c .before .before .before .before .before .before .before .before .before .before .before .before .before .args in
+    let h = c .before .before .before .before .before .before .before .before .before .before .before .before .before .pre .1 in
+    let u = copied (a .t1) (a .place) (long (c .before .before .before .before .before .before .before .before .before .before .before .before .before)) (h .below) in
+    let g = c .before .before .before .before .before .before .hear-copy .ensures .0 ∙ (λ i. copyOf (u i) (c .before .before .before .before .before .before .before .before .before .hear .ensures i)) in (
+      c .ends .ensures
+          ∙ ap (λ r. ends (Heard (c .before .before .before .before .before .before .hear-copy .result .fate)) (withUnit (a .t1) (a .place) (c .before .before .before .before .before .before .hear-copy .result .unit)) r) (c .before .row .ensures ∙ ap (row (a .place)) (c .before .before .hearing-rises .ensures))
+          ∙ ap (λ x. heardBy x (a .t1) (a .place)) g,
+      c .before .before .before .before .before .before .hear-copy .ensures .1
+          ∙ (λ i. storeOf (u i) (c .before .before .before .before .before .before .before .before .before .hear .ensures i) (a .place) (a .store .now) (take 56 (a .frame .now))),
+    )
 
 pub hear-at-spec : {M : Type 1} → statement M
 hear-at-spec =

@@ -41,7 +41,9 @@ returns-3 c = rw (c .enum-told2 .given .1)
 
 returns-4 : tie.Need-returns-4
 unfolding planOf
-returns-4 c = let e = sym (c .before .before .before .before .before .before .before .addressed .ensures) ∙ not-false _ (c .before .before .before .before .before .before .if1 .left) in rw (c .before .before .before .before .before .before .before .before .before .heard .given .1, e) (c .plan-for .ensures ∙ (λ i. planFor (c .before .before .fate-of .ensures i) (c .before .queue-of .ensures i)))
+returns-4 c =
+    let e = sym (c .before .before .before .before .before .before .before .addressed .ensures) ∙ not-false _ (c .before .before .before .before .before .before .if1 .left) in
+    rw (c .before .before .before .before .before .before .before .before .before .heard .given .1, e) (c .plan-for .ensures ∙ (λ i. planFor (c .before .before .fate-of .ensures i) (c .before .queue-of .ensures i)))
 
 pub plan-of-spec : {M : Type 1} → statement M
 plan-of-spec =

@@ -17,7 +17,9 @@ ends-requires : tie.Need-ends-requires
 ends-requires c κs = search needs
 
 returns : tie.Need-returns
-returns c = let l = c .before .before .before .before .args .loading in c .ends .ensures ∙ (λ i. ends (c .before .answer-of .ensures i) (l .shelf) (record { from = 0; to = c .before .before .held .ensures i; anew = true; each = replicate 32 0 }))
+returns c =
+    let l = c .before .before .before .before .args .loading in
+    c .ends .ensures ∙ (λ i. ends (c .before .answer-of .ensures i) (l .shelf) (record { from = 0; to = c .before .before .held .ensures i; anew = true; each = replicate 32 0 }))
 
 pub done-of-spec : {M : Type 1} → statement M
 done-of-spec = tie.close (tie.spec held-requires answer-of-requires ends-requires returns)

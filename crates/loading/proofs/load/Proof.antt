@@ -20,7 +20,12 @@ same-length : tie.Need-same-length
 same-length c = search needs
 
 returns : tie.Need-returns
-returns c = let a = c .before .before .before .before .before .before .before .before .args in let e = c .done-of .ensures ∙ ap doneOf (c .before .before .before .load .ensures .0) in ((e, c .before .before .before .load .ensures .1), subst (λ (x : Done). (x .rises .to ≤ 32) × (x .rises .to ≤ a .rows)) (sym e) (omega arith, omega (arith, load-rows (a .card) (a .text .now) (a .memory .now) (length (a .store .now)) (a .rows))))
+returns c =
+    let a = c .before .before .before .before .before .before .before .before .args in
+    let e = c .done-of .ensures ∙ ap doneOf (c .before .before .before .load .ensures .0) in (
+      (e, c .before .before .before .load .ensures .1),
+      subst (λ (x : Done). (x .rises .to ≤ 32) × (x .rises .to ≤ a .rows)) (sym e) (omega arith, omega (arith, load-rows (a .card) (a .text .now) (a .memory .now) (length (a .store .now)) (a .rows))),
+    )
 
 pub load-spec : {M : Type 1} → statement M
 load-spec = tie.close (tie.spec load-requires done-of-requires same-length returns)

@@ -22,7 +22,12 @@ enum-known-place : tie.Need-enum-known-place
 enum-known-place c = search needs
 
 take-at-requires : tie.Need-take-at-requires
-take-at-requires c κs = let a = c .before .before .before .before .before .before .before .args in let e = sym (c .before .before .before .before .admit .ensures) ∙ c .before .before .place .given .1 in let l = at-let-in (a .card) (a .shelf) (length (a .store .now)) (a .rows) (a .unit) (eqb (length (a .buffer .now)) 53) _ e in let h = let-in-housed (a .card) (a .shelf) (length (a .store .now)) (a .rows) (a .unit) (eqb (length (a .buffer .now)) 53) _ l in (eqb-true (length (a .buffer .now)) 53 (l .fits), h .0)
+take-at-requires c κs =
+    let a = c .before .before .before .before .before .before .before .args in
+    let e = sym (c .before .before .before .before .admit .ensures) ∙ c .before .before .place .given .1 in
+    let l = at-let-in (a .card) (a .shelf) (length (a .store .now)) (a .rows) (a .unit) (eqb (length (a .buffer .now)) 53) _ e in
+    let h = let-in-housed (a .card) (a .shelf) (length (a .store .now)) (a .rows) (a .unit) (eqb (length (a .buffer .now)) 53) _ l in
+    (eqb-true (length (a .buffer .now)) 53 (l .fits), h .0)
 
 enum-known-number : tie.Need-enum-known-number
 enum-known-number c = search needs
@@ -35,11 +40,26 @@ same-length c = search needs
 
 returns : tie.Need-returns
 unfolding takeBy takeBufferBy
-returns c = let a = c .before .before .before .before .before .before .before .before .before .before .args in let e = sym (c .before .before .before .before .before .before .before .admit .ensures) ∙ c .before .before .before .before .before .place .given .1 in let l = at-let-in (a .card) (a .shelf) (length (a .store .now)) (a .rows) (a .unit) (eqb (length (a .buffer .now)) 53) _ e in let h = let-in-housed (a .card) (a .shelf) (length (a .store .now)) (a .rows) (a .unit) (eqb (length (a .buffer .now)) 53) _ l in ((c .before .before .take-at .ensures .0 ∙ ap (λ x. takeBy x (a .shelf)) (sym e), c .before .before .take-at .ensures .1 ∙ ap (λ x. takeBufferBy x (a .shelf) (a .store .now) (a .buffer .now)) (sym e)), subst (λ (x : Done). (x .rises .to ≤ 32) × (x .rises .to ≤ a .rows)) (sym (c .before .before .take-at .ensures .0)) (done-fits (leaving (unitAt (a .shelf) _ .outlet)) (a .shelf) _ (a .rows) (h .0 .below) (h .1)))
+returns c =
+    let a = c .before .before .before .before .before .before .before .before .before .before .args in
+    let e = sym (c .before .before .before .before .before .before .before .admit .ensures) ∙ c .before .before .before .before .before .place .given .1 in
+    let l = at-let-in (a .card) (a .shelf) (length (a .store .now)) (a .rows) (a .unit) (eqb (length (a .buffer .now)) 53) _ e in
+    let h = let-in-housed (a .card) (a .shelf) (length (a .store .now)) (a .rows) (a .unit) (eqb (length (a .buffer .now)) 53) _ l in (
+      (
+        c .before .before .take-at .ensures .0 ∙ ap (λ x. takeBy x (a .shelf)) (sym e),
+        c .before .before .take-at .ensures .1 ∙ ap (λ x. takeBufferBy x (a .shelf) (a .store .now) (a .buffer .now)) (sym e),
+      ),
+      subst (λ (x : Done). (x .rises .to ≤ 32) × (x .rises .to ≤ a .rows)) (sym (c .before .before .take-at .ensures .0)) (done-fits (leaving (unitAt (a .shelf) _ .outlet)) (a .shelf) _ (a .rows) (h .0 .below) (h .1)),
+    )
 
 returns-2 : tie.Need-returns-2
 unfolding takeBy takeBufferBy
-returns-2 c = let a = c .before .before .before .before .before .before .before .args in let e = sym (c .before .before .before .before .admit .ensures) ∙ c .before .before .number .given .1 in ((c .refused .ensures ∙ ap (λ x. takeBy x (a .shelf)) (sym e), ap (λ x. takeBufferBy x (a .shelf) (a .store .now) (a .buffer .now)) (sym e)), subst (λ (x : Done). (x .rises .to ≤ 32) × (x .rises .to ≤ a .rows)) (sym (c .refused .ensures)) (omega arith, omega arith))
+returns-2 c =
+    let a = c .before .before .before .before .before .before .before .args in
+    let e = sym (c .before .before .before .before .admit .ensures) ∙ c .before .before .number .given .1 in (
+      (c .refused .ensures ∙ ap (λ x. takeBy x (a .shelf)) (sym e), ap (λ x. takeBufferBy x (a .shelf) (a .store .now) (a .buffer .now)) (sym e)),
+      subst (λ (x : Done). (x .rises .to ≤ 32) × (x .rises .to ≤ a .rows)) (sym (c .refused .ensures)) (omega arith, omega arith),
+    )
 
 pub take-spec : {M : Type 1} → statement M
 take-spec =

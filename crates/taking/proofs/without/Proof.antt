@@ -26,7 +26,9 @@ array-set-from-queues : tie.Need-array-set-from-queues
 array-set-from-queues c = search needs
 
 returns : tie.Need-returns
-returns c = let a = c .before .before .before .before .before .before .args in ap (withQueue (a .unit) (a .queue)) (c .popped .ensures ∙ ap (popped (queue (a .unit .outlet) (a .queue))) (c .before .capacity .ensures))
+returns c =
+    let a = c .before .before .before .before .before .before .args in
+    ap (withQueue (a .unit) (a .queue)) (c .popped .ensures ∙ ap (popped (queue (a .unit .outlet) (a .queue))) (c .before .capacity .ensures))
 
 pub without-spec : {M : Type 1} → statement M
 without-spec =
