@@ -2,8 +2,8 @@
 
 use std::io::{self, BufRead, ErrorKind, Write};
 
-use crate::table::number;
-use crate::{load, Arrival, Card, Counters, Refused, SentFrame, Shelf, Taking};
+use crate::text::{hex_bytes, unit_number};
+use crate::{load, Card, Counters, Refused, SentFrame, Shelf, Taking};
 use crate::{CELL_BYTES, FRAME_BYTES, STORE_PER_UNIT};
 
 /// Longest `table.txt` that is read.
@@ -29,6 +29,7 @@ pub fn run(table: &[u8], events: &mut impl BufRead, out: &mut impl Write) -> io:
 struct Bench {
     shelf: Shelf,
     memory: Vec<u8>,
+    store: Vec<u8>,
     rows: Vec<Counters>,
 }
 
@@ -53,7 +54,7 @@ impl Bench {
         match outcome {
             Ok(used) => {
                 writeln!(out, "table\tok\t{used}")?;
-                Ok(Some(Bench { shelf, memory, rows }))
+                Ok(Some(Bench { shelf, memory, store: vec![0; STORE_BYTES], rows }))
             }
             Err(refusal) => {
                 writeln!(out, "table\trefused\t{}\t{}", refusal.number(), refusal.line)?;
@@ -109,27 +110,20 @@ impl Bench {
     }
 
     fn arrive(&mut self, unit: u32, cell: &[u8]) -> Result<String, Refused> {
-        let fate = self.shelf.arrive(unit, cell, &self.memory, STORE_BYTES, &mut self.rows)?;
-        let word = match fate {
-            Arrival::Hec => "hec",
-            Arrival::Ignored => "ignored",
-            Arrival::Misrouted => "misrouted",
-            Arrival::InletFull => "inletfull",
-            Arrival::Queued => "queued",
-        };
-        Ok(format!("{unit}\t{word}"))
+        let fate = self.shelf.arrive(unit, cell, &self.memory, &mut self.store, &mut self.rows)?;
+        Ok(format!("{unit}\t{}", fate.word()))
     }
 
     fn frame(&mut self) -> Result<String, Refused> {
         let mut buffer = [0; FRAME_BYTES];
         let SentFrame { number, sender, granted, copies } =
-            self.shelf.frame(&mut buffer, STORE_BYTES, &mut self.rows)?;
+            self.shelf.frame(&mut buffer, &mut self.store, &mut self.rows)?;
         Ok(format!("{number}\t{}\t{}\t{copies}", or_dash(sender), or_dash(granted)))
     }
 
     fn take(&mut self, unit: u32) -> Result<String, Refused> {
         let mut cell = [0; CELL_BYTES];
-        match self.shelf.take(unit, &mut cell, STORE_BYTES, &mut self.rows)? {
+        match self.shelf.take(unit, &mut cell, &self.store, &mut self.rows)? {
             Taking::Empty => Ok(format!("{unit}\tempty")),
             Taking::Taken => {
                 let header: String = cell[..5].iter().map(|byte| format!("{byte:02X}")).collect();
@@ -191,11 +185,6 @@ fn parse_event(line: &[u8]) -> Option<Event> {
     }
 }
 
-/// Any number is a unit here; the shelf refuses those not declared.
-fn unit_number(field: &[u8]) -> Option<u32> {
-    number(field).map(|unit| u32::try_from(unit).unwrap_or(u32::MAX))
-}
-
 /// A cell from header and check in hex and the byte its payload repeats.
 fn line_cell(header: &[u8], payload: &[u8]) -> Option<[u8; CELL_BYTES]> {
     let header = hex_bytes(header).filter(|bytes| bytes.len() == 5)?;
@@ -203,18 +192,6 @@ fn line_cell(header: &[u8], payload: &[u8]) -> Option<[u8; CELL_BYTES]> {
     let mut cell = [payload[0]; CELL_BYTES];
     cell[..5].copy_from_slice(&header);
     Some(cell)
-}
-
-/// Bytes of pairs of hex digits in either case.
-fn hex_bytes(field: &[u8]) -> Option<Vec<u8>> {
-    let digit = |byte: u8| char::from(byte).to_digit(16);
-    field
-        .chunks(2)
-        .map(|pair| match *pair {
-            [high, low] => Some((digit(high)? << 4 | digit(low)?) as u8),
-            _ => None,
-        })
-        .collect()
 }
 
 fn or_dash(unit: Option<u8>) -> String {

@@ -1,10 +1,23 @@
 //! Headers, checks and parity.
 
+use crate::FRAME_BYTES;
+
 /// How a link reads the top of a cell header.
-#[derive(Clone, Copy, Debug, PartialEq, Eq)]
+#[derive(Clone, Copy, Debug, Default, PartialEq, Eq)]
 pub enum Link {
+    #[default]
     Uni,
     Nni,
+}
+
+impl Link {
+    /// The highest VPI that its cells can carry.
+    pub fn highest_vpi(self) -> u16 {
+        match self {
+            Link::Uni => 255,
+            Link::Nni => 4_095,
+        }
+    }
 }
 
 /// A bus frame before its parity: routing 2, tandem 2, header 4, payload 48.
@@ -39,7 +52,7 @@ pub const CONGESTION_BIT: u8 = 0b0100;
 pub const CLP_BIT: u8 = 0b0001;
 
 /// Remainder of `value` times x^degree by `generator`, a polynomial of that degree.
-fn remainder(value: u64, generator: u64, degree: u32) -> u64 {
+const fn remainder(value: u32, generator: u32, degree: u32) -> u32 {
     let mut rest = value << degree;
     while rest >> degree != 0 {
         let top = rest.ilog2();
@@ -48,15 +61,26 @@ fn remainder(value: u64, generator: u64, degree: u32) -> u64 {
     rest
 }
 
+/// Remainders of single bytes by x^8+x^2+x+1, so that a header is checked byte by byte.
+const BYTE_REMAINDERS: [u8; 256] = {
+    let mut remainders = [0; 256];
+    let mut byte = 0;
+    while byte < 256 {
+        remainders[byte] = remainder(byte as u32, 0b1_0000_0111, 8) as u8;
+        byte += 1;
+    }
+    remainders
+};
+
 /// The header check of a line cell.
 pub fn header_check(header: [u8; 4]) -> u8 {
-    let value = u64::from(u32::from_be_bytes(header));
-    remainder(value, 0b1_0000_0111, 8) as u8 ^ 0x55
+    let rest = header.iter().fold(0, |rest, byte| BYTE_REMAINDERS[usize::from(rest ^ byte)]);
+    rest ^ 0x55
 }
 
 /// The check nibble over the upper 12 bits of a routing header.
 pub fn routing_check(upper: u16) -> u16 {
-    remainder(u64::from(upper), 0b1_0011, 4) as u16
+    remainder(u32::from(upper), 0b1_0011, 4) as u16
 }
 
 /// Exclusive-or of all bytes given.
@@ -116,6 +140,23 @@ impl Header {
         };
         let word = u32::from(vpi) << 20 | u32::from(self.vci) << 4 | u32::from(self.tail & 0xF);
         word.to_be_bytes()
+    }
+}
+
+/// What a sound frame says to those who hear it.
+#[derive(Clone, Copy, Debug, PartialEq, Eq)]
+pub struct Heard {
+    pub routing: Routing,
+    pub header: Header,
+}
+
+impl Heard {
+    /// The frame without its parity, and what it says; None for a damaged one.
+    pub fn read(frame: &[u8; FRAME_BYTES]) -> (&BusCell, Option<Heard>) {
+        let cell: &BusCell = frame.first_chunk().expect("a frame is longer");
+        let whole = parity(cell) == frame[56];
+        let routing = Routing::decode(routing_of(cell)).filter(|_| whole);
+        (cell, routing.map(|routing| Heard { routing, header: header_of(cell) }))
     }
 }
 

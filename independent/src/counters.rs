@@ -20,6 +20,13 @@ pub struct Counters {
 }
 
 impl Counters {
+    /// A row with this value in every counter.
+    pub fn all(value: u32) -> Self {
+        let [arrived, hec, ignored, misrouted, inletfull, sent, unheard] = [value; 7];
+        let [damaged, queued, full, clp, wide, taken] = [value; 6];
+        Counters { arrived, hec, ignored, misrouted, inletfull, sent, unheard, damaged, queued, full, clp, wide, taken }
+    }
+
     /// The thirteen in the order in which `count` lists them.
     pub fn list(&self) -> [u32; 13] {
         [

@@ -1,19 +1,27 @@
 //! Independent reference program for the cell-bus shelf of document 01.
 //!
-//! Plain Rust over `VecDeque` queues. The translation memory is lent by the
-//! caller and is written and read byte for byte as document 01 says; of the
-//! lent cell store only the length matters here.
+//! Translation memory, cell store, counter rows and buffers are lent by the
+//! caller. The memory is written and read byte for byte as document 01 says,
+//! the store as docs/CONSOLE.md says; both, and every field of the shelf, may
+//! have been spoiled.
 
 pub mod arbiter;
 pub mod bench;
 pub mod codec;
+pub mod compare;
+pub mod console;
 pub mod counters;
 pub mod load;
 pub mod lookup;
 pub mod outlet;
+pub mod pace;
 pub mod refusal;
+pub mod ring;
 pub mod shelf;
+pub mod sound;
 pub mod table;
+pub mod text;
+pub mod unit;
 
 pub use counters::Counters;
 pub use load::load;
@@ -42,4 +50,6 @@ pub const CELL_BYTES: usize = 53;
 /// Bytes of a bus frame: routing 2, tandem 2, header 4, payload 48, parity 1.
 pub const FRAME_BYTES: usize = 57;
 /// Cells an inlet holds.
-pub const INLET_CELLS: usize = 4;
+pub const INLET_CELLS: u8 = 4;
+/// Most units on a bus.
+pub const UNITS_MAX: usize = 32;

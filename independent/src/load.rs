@@ -4,9 +4,10 @@ use std::collections::{BTreeMap, BTreeSet};
 
 use crate::codec::{Link, Target};
 use crate::lookup::{DROP, PAGE, ROUTE};
-use crate::shelf::{Shelf, Unit};
+use crate::sound::store_suffices;
 use crate::table::{parse_line, Line, Route, UnitLine};
-use crate::{Card, Counters, Refusal, Refused, MEMORY_MAX, RECORD_BYTES, STORE_PER_UNIT, TEXT_MAX};
+use crate::unit::Unit;
+use crate::{Card, Counters, Refusal, Refused, Shelf, MEMORY_MAX, RECORD_BYTES, TEXT_MAX};
 
 /// Loads a table: gives the shelf and the bytes used, or a fresh 16 bus
 /// without units and the refusal.
@@ -29,11 +30,6 @@ pub fn load(
         }
         Err(refusal) => (Shelf::fresh(card), Err(refusal)),
     }
-}
-
-/// Whether store and counter rows are as large as Store asks.
-pub fn store_suffices(units: usize, store_len: usize, rows: usize) -> bool {
-    store_len >= units * STORE_PER_UNIT && rows >= units
 }
 
 fn read_table(card: Card, text: &[u8], room: usize) -> Result<Table, Refusal> {
@@ -186,13 +182,15 @@ impl Table {
 
     /// A shelf of the table's units with all queues empty.
     fn shelf(&self) -> Shelf {
-        let bus = self.bus.unwrap_or(16);
-        let units = self.units.iter().map(|&(line, place)| {
-            let hears = |&&(unit, _): &&(u8, u8)| unit == line.unit;
-            let sessions = self.sessions.iter().filter(hears).map(|&(_, session)| session);
-            Unit::fresh(line, place as u64, sessions.collect())
-        });
-        Shelf::new(self.card, bus, units.collect())
+        let mut shelf = Shelf::fresh(self.card);
+        shelf.bus = self.bus.unwrap_or(16);
+        shelf.count = self.units.len() as u8;
+        for (unit, &(line, place)) in shelf.units.iter_mut().zip(&self.units) {
+            *unit = Unit::fresh(line, place as u32);
+            let heard = self.sessions.range((line.unit, 0)..=(line.unit, 255));
+            heard.for_each(|(_, session)| unit.hear_session(*session));
+        }
+        shelf
     }
 
     fn unit(&self, number: u8) -> Option<(UnitLine, usize)> {

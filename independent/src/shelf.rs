@@ -1,18 +1,10 @@
 //! The shelf and its events: arrive, frame, hear, take and count.
 
-use std::collections::{BTreeSet, VecDeque};
-
 use crate::arbiter::Arbiter;
-use crate::codec::{
-    bus_cell, header_check, header_of, parity, routing_of, BusCell, Header, Link, Routing, Target, CLP_BIT,
-    CONGESTION_BIT,
-};
+use crate::codec::{parity, Heard};
 use crate::counters::bump;
-use crate::load::store_suffices;
-use crate::lookup::{lookup, Answer};
-use crate::outlet::Outlet;
-use crate::table::UnitLine;
-use crate::{Card, Counters, Refused, CELL_BYTES, FRAME_BYTES, INLET_CELLS};
+use crate::unit::Unit;
+use crate::{Card, Counters, Refused, CELL_BYTES, FRAME_BYTES, STORE_PER_UNIT, UNITS_MAX};
 
 /// The fates of an arriving cell.
 #[derive(Clone, Copy, Debug, PartialEq, Eq)]
@@ -24,6 +16,19 @@ pub enum Arrival {
     Queued,
 }
 
+impl Arrival {
+    /// Document 01's word.
+    pub fn word(self) -> &'static str {
+        match self {
+            Arrival::Hec => "hec",
+            Arrival::Ignored => "ignored",
+            Arrival::Misrouted => "misrouted",
+            Arrival::InletFull => "inletfull",
+            Arrival::Queued => "queued",
+        }
+    }
+}
+
 /// The fates of a heard frame at one unit.
 #[derive(Clone, Copy, Debug, PartialEq, Eq)]
 pub enum Hearing {
@@ -33,6 +38,20 @@ pub enum Hearing {
     Full,
     Clp,
     Queued,
+}
+
+impl Hearing {
+    /// Document 01's word.
+    pub fn word(self) -> &'static str {
+        match self {
+            Hearing::Damaged => "damaged",
+            Hearing::Other => "other",
+            Hearing::Wide => "wide",
+            Hearing::Full => "full",
+            Hearing::Clp => "clp",
+            Hearing::Queued => "queued",
+        }
+    }
 }
 
 /// What a frame did; a frame without sender is idle.
@@ -52,45 +71,30 @@ pub enum Taking {
     Empty,
 }
 
-/// A declared unit.
-#[derive(Clone, Debug, PartialEq, Eq)]
-pub struct Unit {
-    line: UnitLine,
-    /// Where in the memory its VPI records begin.
-    place: u64,
-    sessions: BTreeSet<u8>,
-    inlet: VecDeque<BusCell>,
-    outlet: Outlet,
-}
-
-/// Up to 32 units on one bus.
-#[derive(Clone, Debug, PartialEq, Eq)]
+/// Up to 32 units on one bus; the fields are open, so that they can be spoiled.
+#[derive(Clone, Copy, Debug, PartialEq, Eq)]
 pub struct Shelf {
-    card: Card,
-    bus: u8,
-    /// In `unit` line order, as the counter rows are.
-    units: Vec<Unit>,
-    arbiter: Arbiter,
-    next_frame: u16,
+    pub card: Card,
+    pub bus: u8,
+    /// How many of `units` are declared.
+    pub count: u8,
+    /// Number of the next frame.
+    pub frame: u16,
+    pub arbiter: Arbiter,
+    /// The declared ones in `unit` line order, as the counter rows are; the rest are no units.
+    pub units: [Unit; UNITS_MAX],
 }
 
 impl Shelf {
-    pub fn new(card: Card, bus: u8, units: Vec<Unit>) -> Self {
-        Shelf { card, bus, units, arbiter: Arbiter::default(), next_frame: 0 }
-    }
-
     /// A 16 bus without units.
     pub fn fresh(card: Card) -> Self {
-        Shelf::new(card, 16, Vec::new())
+        let units = [Unit::default(); UNITS_MAX];
+        Shelf { card, bus: 16, count: 0, frame: 0, arbiter: Arbiter::fresh(), units }
     }
 
-    pub fn bus(&self) -> u8 {
-        self.bus
-    }
-
-    /// The declared units in line order.
-    pub fn unit_numbers(&self) -> Vec<u8> {
-        self.units.iter().map(|unit| unit.line.unit).collect()
+    /// The declared units; the count must be sound.
+    pub fn declared(&self) -> &[Unit] {
+        &self.units[..usize::from(self.count)]
     }
 
     /// A cell arrives at a unit's line.
@@ -99,29 +103,27 @@ impl Shelf {
         unit: u32,
         cell: &[u8],
         memory: &[u8],
-        store_len: usize,
+        store: &mut [u8],
         rows: &mut [Counters],
     ) -> Result<Arrival, Refused> {
-        self.sound(store_len, rows.len())?;
-        let row = self.row_of(unit)?;
+        let row = self.judge(unit, store.len(), rows.len())?;
         let cell: &[u8; CELL_BYTES] = cell.try_into().map_err(|_| Refused::Length)?;
-        let fate = self.units[row].arrive(self.card, cell, memory);
+        let fate = self.units[row].arrive(self.card, cell, memory, part_mut(store, row));
         count_arrival(&mut rows[row], fate);
         Ok(fate)
     }
 
     /// The next frame on the bus: requests, then the sending, then the grant.
-    pub fn frame(&mut self, buffer: &mut [u8], store_len: usize, rows: &mut [Counters]) -> Result<SentFrame, Refused> {
-        self.sound(store_len, rows.len())?;
+    pub fn frame(&mut self, buffer: &mut [u8], store: &mut [u8], rows: &mut [Counters]) -> Result<SentFrame, Refused> {
+        self.judge_state(store.len(), rows.len())?;
         let buffer: &mut [u8; FRAME_BYTES] = buffer.try_into().map_err(|_| Refused::Length)?;
-        let number = self.next_frame;
-        self.next_frame = number.wrapping_add(1);
-        for unit in &self.units {
-            self.arbiter.renew(self.bus, number, unit.line.unit, unit.inlet.len());
+        let number = self.frame;
+        self.frame = number.wrapping_add(1);
+        for unit in &self.units[..usize::from(self.count)] {
+            self.arbiter.renew(self.bus, number, unit.number, unit.priority, unit.inlet.count);
         }
-        let (sender, copies) = self.send(buffer, rows);
-        let priorities: Vec<(u8, u8)> = self.units.iter().map(|unit| (unit.line.unit, unit.line.priority)).collect();
-        let granted = self.arbiter.grant(self.bus, &priorities);
+        let (sender, copies) = self.send(buffer, store, rows);
+        let granted = self.arbiter.grant(self.bus);
         Ok(SentFrame { number, sender, granted, copies })
     }
 
@@ -130,13 +132,13 @@ impl Shelf {
         &mut self,
         unit: u32,
         frame: &[u8],
-        store_len: usize,
+        store: &mut [u8],
         rows: &mut [Counters],
     ) -> Result<Hearing, Refused> {
-        self.sound(store_len, rows.len())?;
-        let row = self.row_of(unit)?;
+        let row = self.judge(unit, store.len(), rows.len())?;
         let frame: &[u8; FRAME_BYTES] = frame.try_into().map_err(|_| Refused::Length)?;
-        let fate = self.units[row].hear(frame);
+        let (cell, heard) = Heard::read(frame);
+        let fate = self.units[row].hear(heard, cell, part_mut(store, row));
         count_hearing(&mut rows[row], fate);
         Ok(fate)
     }
@@ -146,13 +148,12 @@ impl Shelf {
         &mut self,
         unit: u32,
         buffer: &mut [u8],
-        store_len: usize,
+        store: &[u8],
         rows: &mut [Counters],
     ) -> Result<Taking, Refused> {
-        self.sound(store_len, rows.len())?;
-        let row = self.row_of(unit)?;
+        let row = self.judge(unit, store.len(), rows.len())?;
         let buffer: &mut [u8; CELL_BYTES] = buffer.try_into().map_err(|_| Refused::Length)?;
-        let Some(cell) = self.units[row].take() else {
+        let Some(cell) = self.units[row].take(part(store, row)) else {
             return Ok(Taking::Empty);
         };
         *buffer = cell;
@@ -162,134 +163,67 @@ impl Shelf {
 
     /// The counters of a unit.
     pub fn count(&self, unit: u32, store_len: usize, rows: &[Counters]) -> Result<Counters, Refused> {
-        self.sound(store_len, rows.len())?;
-        let row = self.row_of(unit)?;
+        let row = self.judge(unit, store_len, rows.len())?;
         Ok(rows[row])
     }
 
-    /// Judges State. For now only the lent lengths can be wrong: the other
-    /// conditions of State cannot arise in a shelf that `load` made.
-    fn sound(&self, store_len: usize, rows: usize) -> Result<(), Refused> {
-        if store_suffices(self.units.len(), store_len, rows) {
-            Ok(())
-        } else {
-            Err(Refused::State)
+    /// Judges State, then Unit; gives the unit's place among the units and counter rows.
+    fn judge(&self, unit: u32, store_len: usize, rows: usize) -> Result<usize, Refused> {
+        self.judge_state(store_len, rows)?;
+        self.row_of(unit).ok_or(Refused::Unit)
+    }
+
+    fn judge_state(&self, store_len: usize, rows: usize) -> Result<(), Refused> {
+        match self.is_sound(store_len, rows) {
+            true => Ok(()),
+            false => Err(Refused::State),
         }
     }
 
-    /// The place of a declared unit among the units and counter rows.
-    fn row_of(&self, unit: u32) -> Result<usize, Refused> {
-        let found = self.units.iter().position(|declared| u32::from(declared.line.unit) == unit);
-        found.ok_or(Refused::Unit)
+    fn row_of(&self, unit: u32) -> Option<usize> {
+        self.declared().iter().position(|declared| u32::from(declared.number) == unit)
     }
 
     /// The unit granted before sends its oldest cell; gives it and the copies queued.
-    fn send(&mut self, buffer: &mut [u8; FRAME_BYTES], rows: &mut [Counters]) -> (Option<u8>, usize) {
+    fn send(&mut self, buffer: &mut [u8; FRAME_BYTES], store: &mut [u8], rows: &mut [Counters]) -> (Option<u8>, usize) {
         let Some(sender) = self.arbiter.close() else {
             return (None, 0);
         };
-        let row = self.row_of(u32::from(sender)).expect("only declared units are granted");
-        let cell = self.units[row].inlet.pop_front().expect("a granted unit holds a cell");
+        let row = self.row_of(u32::from(sender)).expect("in a sound state the unit granted is declared");
+        let cell = self.units[row].send(part(store, row));
         buffer[..56].copy_from_slice(&cell);
         buffer[56] = parity(&cell);
         bump(&mut rows[row].sent);
-        let fates = self.hear_all(buffer, rows);
-        if fates.iter().all(|fate| matches!(fate, Hearing::Damaged | Hearing::Other)) {
+        let (addressed, copies) = self.hear_all(buffer, store, rows);
+        if !addressed {
             bump(&mut rows[row].unheard);
         }
-        let copies = fates.iter().filter(|fate| **fate == Hearing::Queued).count();
         (Some(sender), copies)
     }
 
-    /// Every declared unit hears a sent frame, the sender too.
-    fn hear_all(&mut self, frame: &[u8; FRAME_BYTES], rows: &mut [Counters]) -> Vec<Hearing> {
-        let mut fates = Vec::new();
-        for (unit, row) in self.units.iter_mut().zip(rows) {
-            let fate = unit.hear(frame);
+    /// Every declared unit hears a sent frame, the sender too; gives whether
+    /// any was addressed, and the copies queued.
+    fn hear_all(&mut self, frame: &[u8; FRAME_BYTES], store: &mut [u8], rows: &mut [Counters]) -> (bool, usize) {
+        let (cell, heard) = Heard::read(frame);
+        let (mut addressed, mut copies) = (false, 0);
+        let units = &mut self.units[..usize::from(self.count)];
+        for ((unit, row), part) in units.iter_mut().zip(rows).zip(store.chunks_exact_mut(STORE_PER_UNIT)) {
+            let fate = unit.hear(heard, cell, part);
             count_hearing(row, fate);
-            fates.push(fate);
+            addressed |= !matches!(fate, Hearing::Damaged | Hearing::Other);
+            copies += usize::from(fate == Hearing::Queued);
         }
-        fates
+        (addressed, copies)
     }
 }
 
-impl Unit {
-    /// A unit with empty queues.
-    pub fn fresh(line: UnitLine, place: u64, sessions: BTreeSet<u8>) -> Self {
-        Unit { line, place, sessions, inlet: VecDeque::new(), outlet: Outlet::fresh(line.mode) }
-    }
+/// The part of the store that the unit in a place has.
+fn part(store: &[u8], place: usize) -> &[u8] {
+    &store[place * STORE_PER_UNIT..][..STORE_PER_UNIT]
+}
 
-    fn arrive(&mut self, card: Card, cell: &[u8; CELL_BYTES], memory: &[u8]) -> Arrival {
-        let bytes = [cell[0], cell[1], cell[2], cell[3]];
-        if header_check(bytes) != cell[4] {
-            return Arrival::Hec;
-        }
-        let header = Header::read(self.line.link, bytes);
-        if header.vpi == 0 && header.vci == 0 {
-            return Arrival::Ignored;
-        }
-        match lookup(card, memory, self.place, self.line.top_vpi, header) {
-            Answer::Ignored => Arrival::Ignored,
-            Answer::Misrouted => Arrival::Misrouted,
-            Answer::Route { .. } if self.inlet.len() >= INLET_CELLS => Arrival::InletFull,
-            Answer::Route { routing, vpi, vci } => {
-                let header = Header { vpi, vci, tail: header.tail };
-                self.inlet.push_back(bus_cell(routing, header, &cell[5..]));
-                Arrival::Queued
-            }
-        }
-    }
-
-    fn hear(&mut self, frame: &[u8; FRAME_BYTES]) -> Hearing {
-        let mut cell: BusCell = [0; 56];
-        cell.copy_from_slice(&frame[..56]);
-        if parity(&cell) != frame[56] {
-            return Hearing::Damaged;
-        }
-        let Some(routing) = Routing::decode(routing_of(&cell)) else {
-            return Hearing::Damaged;
-        };
-        if !self.is_addressed(routing.target) {
-            return Hearing::Other;
-        }
-        let header = header_of(&cell);
-        if self.line.link == Link::Uni && header.vpi > 255 {
-            return Hearing::Wide;
-        }
-        if self.outlet.is_full(routing.class) {
-            return Hearing::Full;
-        }
-        if header.tail & CLP_BIT != 0 && self.outlet.is_limited(routing.class) {
-            return Hearing::Clp;
-        }
-        self.outlet.push(routing.class, cell);
-        Hearing::Queued
-    }
-
-    fn is_addressed(&self, target: Target) -> bool {
-        match target {
-            Target::Unit(unit) => unit == self.line.unit,
-            Target::Session(session) => self.sessions.contains(&session),
-            Target::Broadcast => true,
-        }
-    }
-
-    /// The next cell as the line gets it.
-    fn take(&mut self) -> Option<[u8; CELL_BYTES]> {
-        // The queues are counted before the cell leaves them.
-        let marked = self.line.mark && self.outlet.is_congested();
-        let cell = self.outlet.pop()?;
-        let mut header = header_of(&cell);
-        if marked {
-            header.tail |= CONGESTION_BIT;
-        }
-        let bytes = header.write(self.line.link);
-        let mut taken = [0; CELL_BYTES];
-        taken[..4].copy_from_slice(&bytes);
-        taken[4] = header_check(bytes);
-        taken[5..].copy_from_slice(&cell[8..]);
-        Some(taken)
-    }
+fn part_mut(store: &mut [u8], place: usize) -> &mut [u8] {
+    &mut store[place * STORE_PER_UNIT..][..STORE_PER_UNIT]
 }
 
 /// Every cell counts as arrived; every fate but `queued` has a counter too.

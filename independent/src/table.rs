@@ -3,7 +3,8 @@
 use std::ops::RangeInclusive;
 
 use crate::codec::{Link, Routing, Target};
-use crate::outlet::Mode;
+use crate::outlet::{Mode, Settings};
+use crate::text::number;
 
 /// A `unit` line.
 #[derive(Clone, Copy, Debug, PartialEq, Eq)]
@@ -12,7 +13,7 @@ pub struct UnitLine {
     pub link: Link,
     pub top_vpi: u16,
     pub priority: u8,
-    pub mode: Mode,
+    pub settings: Settings,
     pub mark: bool,
 }
 
@@ -72,39 +73,31 @@ fn unit_line(fields: &[&[u8]]) -> Option<UnitLine> {
     let [unit, link, top_vpi, priority, mode, length, cbr_limit, vbr_limit, mark] = *fields else {
         return None;
     };
-    let (link, highest_vpi) = match link {
-        b"uni" => (Link::Uni, 255),
-        b"nni" => (Link::Nni, 4_095),
+    let link = match link {
+        b"uni" => Link::Uni,
+        b"nni" => Link::Nni,
         _ => return None,
     };
     Some(UnitLine {
         unit: unit_number(unit)?,
         link,
-        top_vpi: within(top_vpi, 0..=highest_vpi)? as u16,
+        top_vpi: within(top_vpi, 0..=u64::from(link.highest_vpi()))? as u16,
         priority: within(priority, 1..=3)? as u8,
-        mode: queue_mode(mode, length, cbr_limit, vbr_limit)?,
+        settings: settings(mode, length, cbr_limit, vbr_limit)?,
         mark: within(mark, 0..=1)? == 1,
     })
 }
 
-fn queue_mode(mode: &[u8], length: &[u8], cbr_limit: &[u8], vbr_limit: &[u8]) -> Option<Mode> {
-    match mode {
-        b"one" => {
-            within(length, 0..=0)?;
-            within(cbr_limit, 0..=0)?;
-            let vbr_limit = within(vbr_limit, 1..=123)? as usize;
-            Some(Mode::One { vbr_limit })
-        }
-        b"four" => {
-            let length = within(length, 1..=88)?;
-            Some(Mode::Four {
-                cbr_length: length as usize,
-                cbr_limit: within(cbr_limit, 1..=length)? as usize,
-                vbr_limit: within(vbr_limit, 1..=89 - length)? as usize,
-            })
-        }
-        _ => None,
-    }
+fn settings(mode: &[u8], length: &[u8], cbr_limit: &[u8], vbr_limit: &[u8]) -> Option<Settings> {
+    let mode = match mode {
+        b"one" => Mode::One,
+        b"four" => Mode::Four,
+        _ => return None,
+    };
+    let byte = |field: &[u8]| within(field, 0..=255).map(|value| value as u8);
+    let settings =
+        Settings { mode, cbr_length: byte(length)?, cbr_limit: byte(cbr_limit)?, vbr_limit: byte(vbr_limit)? };
+    settings.are_good().then_some(settings)
 }
 
 fn route(target_field: &[u8], class: &[u8], out_vpi: &[u8]) -> Option<Route> {
@@ -140,14 +133,4 @@ fn vci_number(field: &[u8]) -> Option<u16> {
 
 fn within(field: &[u8], range: RangeInclusive<u64>) -> Option<u64> {
     number(field).filter(|value| range.contains(value))
-}
-
-/// A decimal number without needless zeros; one too large for u64 is u64's largest.
-pub fn number(field: &[u8]) -> Option<u64> {
-    let needless_zero = field.len() > 1 && field[0] == b'0';
-    if field.is_empty() || needless_zero || !field.iter().all(u8::is_ascii_digit) {
-        return None;
-    }
-    let digit = |byte: &u8| u64::from(byte - b'0');
-    Some(field.iter().fold(0u64, |value, byte| value.saturating_mul(10).saturating_add(digit(byte))))
 }

@@ -59,7 +59,7 @@ fn event(rig: &mut Rig, dice: &mut Dice) {
         }
         _ => {
             let mut buffer = [0; 53];
-            let _ = rig.shelf.take(unit, &mut buffer, rig.store_len, &mut rig.rows);
+            let _ = rig.shelf.take(unit, &mut buffer, &rig.store, &mut rig.rows);
         }
     }
 }
@@ -144,7 +144,7 @@ fn random_tables_are_judged() {
         let card = dice.pick(&[Card::Narrow, Card::Wide]);
         let (shelf, outcome) = load(card, text.as_bytes(), &mut memory, 8_192, &mut rows);
         if outcome.is_err() {
-            assert!(shelf.unit_numbers().is_empty());
+            assert!(shelf.declared().is_empty());
             assert!(memory.iter().all(|byte| *byte == 0));
         }
     }
@@ -165,6 +165,26 @@ fn bench_survives_random_bytes() {
         // One line for the table and one for each line of input.
         let lines = events.split_inclusive(|byte| *byte == b'\n').count();
         assert_eq!(out.iter().filter(|byte| **byte == b'\n').count(), lines + 1);
+    }
+}
+
+#[test]
+fn console_survives_random_lines() {
+    let pieces: [&[u8]; 22] = [
+        b"card", b"wide", b"narrow", b"lend", b"memory", b"store", b"rows", b"load", b"arrive", b"hear", b"frame",
+        b"take", b"count", b"poke", b"state", b"bus", b"show", b"shelf", b"53", b"0", b"AB", b"\xFF",
+    ];
+    for seed in 0..2_000 {
+        let mut dice = Dice(seed);
+        let mut input = Vec::new();
+        for _ in 0..dice.roll(200) {
+            input.extend_from_slice(dice.pick(&pieces));
+            input.extend_from_slice(dice.pick(&[b"\t", b"\t", b"\n"]));
+        }
+        let mut out = Vec::new();
+        independent::console::run(&mut &input[..], &mut out).expect("writing to memory");
+        let lines = input.split_inclusive(|byte| *byte == b'\n').count();
+        assert_eq!(out.iter().filter(|byte| **byte == b'\n').count(), lines);
     }
 }
 

@@ -245,7 +245,7 @@ fn refused_loads_zero_the_memory_and_touch_nothing_else() {
         let (shelf, outcome) = load(Card::Narrow, text.as_bytes(), &mut memory, 8_191, &mut rows);
         assert_eq!(outcome.map_err(|refusal| refusal.number()), Err(number));
         assert_eq!(shelf, Shelf::fresh(Card::Narrow));
-        assert_eq!((shelf.bus(), shelf.unit_numbers()), (16, vec![]));
+        assert_eq!((shelf.bus, shelf.count), (16, 0));
         assert!(memory[..262_144].iter().all(|byte| *byte == 0));
         assert_eq!(memory[262_144], 0xEE);
         assert!(rows.iter().all(|row| row.arrived == 9));
@@ -258,7 +258,7 @@ fn fresh_shelf_after_refusal_only_numbers_frames() {
     assert!(outcome.is_err());
     for number in 0..3 {
         let mut buffer = [7; 57];
-        let frame = shelf.frame(&mut buffer, 0, &mut []).expect("not refused");
+        let frame = shelf.frame(&mut buffer, &mut [], &mut []).expect("not refused");
         assert_eq!((frame.number, frame.sender, frame.granted, frame.copies), (number, None, None, 0));
         assert_eq!(buffer, [7; 57]);
     }
@@ -270,7 +270,8 @@ fn good_load_zeroes_its_rows_and_no_others() {
     let mut rows = [Counters { taken: 9, ..Counters::default() }; 3];
     let (shelf, outcome) = load(Card::Wide, tabs(LISTING_TABLE).as_bytes(), &mut [0; 328], 16_384, &mut rows);
     assert_eq!(outcome, Ok(328));
-    assert_eq!((shelf.bus(), shelf.unit_numbers()), (16, vec![0, 3]));
+    assert_eq!((shelf.bus, shelf.declared().len()), (16, 2));
+    assert!(shelf.declared().iter().map(|unit| unit.number).eq([0, 3]));
     assert_eq!(rows.map(|row| row.taken), [0, 0, 9]);
 }
 
@@ -283,14 +284,14 @@ fn state_then_unit_then_length() {
     for (store_len, rows, expected) in
         [(16_383, 2, Refused::State), (16_384, 1, Refused::State), (16_384, 2, Refused::Unit)]
     {
-        let (memory, rows) = (rig.memory.clone(), &mut rig.rows[..rows]);
+        let (memory, rows, store) = (rig.memory.clone(), &mut rig.rows[..rows], &mut rig.store[..store_len]);
         let shelf = &mut rig.shelf;
-        assert_eq!(shelf.arrive(7, &[0; 9], &memory, store_len, rows), Err(expected));
-        assert_eq!(shelf.hear(7, &[0; 9], store_len, rows), Err(expected));
-        assert_eq!(shelf.take(7, &mut [0; 9], store_len, rows), Err(expected));
+        assert_eq!(shelf.arrive(7, &[0; 9], &memory, store, rows), Err(expected));
+        assert_eq!(shelf.hear(7, &[0; 9], store, rows), Err(expected));
+        assert_eq!(shelf.take(7, &mut [0; 9], store, rows), Err(expected));
         assert_eq!(shelf.count(7, store_len, rows), Err(expected));
         let frame = if expected == Refused::Unit { Refused::Length } else { expected };
-        assert_eq!(shelf.frame(&mut [0; 9], store_len, rows), Err(frame));
+        assert_eq!(shelf.frame(&mut [0; 9], store, rows), Err(frame));
     }
     assert_eq!(rig, before);
 }
@@ -304,12 +305,12 @@ fn lengths() {
     for wrong in [0, 52, 54, 57] {
         let mut bytes = vec![0; wrong];
         assert_eq!(rig.arrive(0, &bytes).map(|_| ()), length);
-        assert_eq!(rig.shelf.take(3, &mut bytes, rig.store_len, &mut rig.rows).map(|_| ()), length);
+        assert_eq!(rig.shelf.take(3, &mut bytes, &rig.store, &mut rig.rows).map(|_| ()), length);
     }
     for wrong in [0, 53, 56, 58] {
         let mut bytes = vec![0; wrong];
         assert_eq!(rig.hear(3, &bytes).map(|_| ()), length);
-        assert_eq!(rig.shelf.frame(&mut bytes, rig.store_len, &mut rig.rows).map(|_| ()), length);
+        assert_eq!(rig.shelf.frame(&mut bytes, &mut rig.store, &mut rig.rows).map(|_| ()), length);
     }
     assert_eq!(rig, before);
     assert_eq!(rig.frame().0.number, 0);

@@ -2,7 +2,7 @@
 
 mod common;
 
-use common::{frame, header, tabs, to_unit, try_load, Rig, LISTING_TABLE};
+use common::{frame, header, table_of, to_unit, try_load, Rig, LISTING_TABLE};
 use independent::{Arrival, Card, Hearing};
 
 #[test]
@@ -50,24 +50,6 @@ fn mode_one_limit_below_capacity_discards_clp_cells() {
     assert_eq!(rig.hear(5, &low), Ok(Hearing::Clp));
     assert_eq!(rig.hear(5, &plain), Ok(Hearing::Queued));
     assert_eq!(rig.hear(5, &low), Ok(Hearing::Clp));
-}
-
-/// A good table of exactly this many bytes.
-fn table_of(length: usize) -> String {
-    let mut text = tabs("bus 32\nunit 0 nni 4095 1 one 0 0 1 0\nunit 1 nni 4095 1 one 0 0 1 0\n");
-    let mut drops = (0..2).flat_map(|unit| (1_000..4_096).map(move |vpi| format!("drop\t{unit}\t{vpi}\n")));
-    while length - text.len() > 36 {
-        text.push_str(&drops.next().expect("drop lines enough"));
-    }
-    // Lines of 7, 8 and 9 bytes make up any length from 21 to 27 or 28 to 36.
-    let lines = if length - text.len() <= 27 { 3 } else { 4 };
-    for line in 0..lines {
-        let rest = length - text.len() - 7 * (lines - line - 1);
-        let session = [line, 10 + line, 100 + line][(rest - 7).min(2)];
-        text.push_str(&format!("mc\t0\t{session}\n"));
-    }
-    assert_eq!(text.len(), length);
-    text
 }
 
 #[test]

@@ -19,7 +19,8 @@ use Rattle.shelf.proofs.Finding.{declared-at, find-at}
 use Rattle.store.proofs.Slots.{part-inside}
 use Rattle.soundness.proofs.Facts.{sound-iff}
 use Rattle.soundness.specs.State.{soundOf}
-use Rattle.admit.specs.Admission.{atUnit, admitted, unitAt, Housed}
+use Rattle.admit.specs.Admission.{atUnit, admitted, decided, unitAt, Housed}
+use Rattle.admit.specs.declared.Admitted as A
 use Rattle.admit.specs.declared.Admitted.the-variants.{At, Refused}
 
 -- the four ways through, in 01's order
@@ -39,6 +40,16 @@ module _ (card : Card) (shelf : Shelf) (store rows unit : ℕ) (right : Bool) wh
   pub let-in : (i : ℕ) → soundOf card shelf store rows ≡ true → findIn (declared shelf) unit ≡ found.At i → right ≡ true → admitted card shelf store rows unit right ≡ At i
   unfolding admitted atUnit
   let-in i e f r = rw (e, f, r)
+
+-- an event's outcome is that of its way in
+module _ {X : Type 0} (inside outside : ℕ → X) (d : A.Admitted) where
+  pub decided-at : (i : ℕ) → d ≡ At i → inside i ≡ decided d inside outside
+  unfolding decided
+  decided-at i e = rw e
+
+  pub decided-refused : (n : ℕ) → d ≡ Refused n → outside n ≡ decided d inside outside
+  unfolding decided
+  decided-refused n e = rw e
 
 -- a unit that a sound shelf has
 module _ (card : Card) (shelf : Shelf) (store rows : ℕ) where

@@ -26,6 +26,11 @@ atUnit found.Nothing right = Refused 9
 unfoldable pub admitted : Card → Shelf → ℕ → ℕ → ℕ → Bool → A.Admitted
 admitted card shelf store rows unit right = cond (soundOf card shelf store rows) (atUnit (findIn (declared shelf) unit) right) (Refused 8)
 
+-- what an event does where it is let in at a place, and where it is refused with a number
+unfoldable pub decided : {X : Type 0} → A.Admitted → (ℕ → X) → (ℕ → X) → X
+decided (At place) inside outside = inside place
+decided (Refused number) inside outside = outside number
+
 -- which row is read
 unfoldable pub toldApart : A.Admitted → Place
 toldApart (At place) = record { number = 0; at = place }

@@ -1,10 +1,11 @@
 -- What an event answers, and which counters of which units rise by it. Assumes nothing.
 use Prim.Native.Nat.{ℕ, _+_}
 use mathlib.Core.Bool.{true, false}
+use mathlib.Core.List.{List, [], _∷_}
 use lib.ListN.{set, replicate}
 use Rattle.shelf.specs.declared.Shelf.{Shelf}
 use Rattle.answer.specs.declared.Answer as A
-use Rattle.answer.specs.declared.Answer.the-variants.{Refused}
+use Rattle.answer.specs.declared.Answer.the-variants.{Loaded, Unloaded, Refused, Arrived, Framed, Heard, Taken, Empty}
 use Rattle.answer.specs.declared.Arrival as Ar
 use Rattle.answer.specs.declared.Arrival.the-variants as arrival
 use Rattle.answer.specs.declared.Hearing as He
@@ -69,6 +70,45 @@ hearingRises hearing.Wide = #wide
 hearingRises hearing.Full = #full
 hearingRises hearing.Clp = #clp
 hearingRises hearing.Queued = #queued
+
+-- 01's words, as bytes: "one of hec, ignored, misrouted, inletfull, queued"
+unfoldable pub arrivalWord : Ar.Arrival → List ℕ
+arrivalWord arrival.Hec = 104 ∷ 101 ∷ 99 ∷ []
+arrivalWord arrival.Ignored = 105 ∷ 103 ∷ 110 ∷ 111 ∷ 114 ∷ 101 ∷ 100 ∷ []
+arrivalWord arrival.Misrouted = 109 ∷ 105 ∷ 115 ∷ 114 ∷ 111 ∷ 117 ∷ 116 ∷ 101 ∷ 100 ∷ []
+arrivalWord arrival.Inletfull = 105 ∷ 110 ∷ 108 ∷ 101 ∷ 116 ∷ 102 ∷ 117 ∷ 108 ∷ 108 ∷ []
+arrivalWord arrival.Queued = 113 ∷ 117 ∷ 101 ∷ 117 ∷ 101 ∷ 100 ∷ []
+
+-- "damaged, other, wide, full, clp, queued"
+unfoldable pub hearingWord : He.Hearing → List ℕ
+hearingWord hearing.Damaged = 100 ∷ 97 ∷ 109 ∷ 97 ∷ 103 ∷ 101 ∷ 100 ∷ []
+hearingWord hearing.Other = 111 ∷ 116 ∷ 104 ∷ 101 ∷ 114 ∷ []
+hearingWord hearing.Wide = 119 ∷ 105 ∷ 100 ∷ 101 ∷ []
+hearingWord hearing.Full = 102 ∷ 117 ∷ 108 ∷ 108 ∷ []
+hearingWord hearing.Clp = 99 ∷ 108 ∷ 112 ∷ []
+hearingWord hearing.Queued = 113 ∷ 117 ∷ 101 ∷ 117 ∷ 101 ∷ 100 ∷ []
+
+-- 01's "Numbers given back" for each answer, 0 where nothing is refused
+unfoldable pub numberOf : A.Answer → ℕ
+numberOf (Loaded used) = 0
+numberOf (Unloaded number line) = number
+numberOf (Refused number) = number
+numberOf (Arrived fate) = 0
+numberOf (Framed number sender granted copies) = 0
+numberOf (Heard fate) = 0
+numberOf Taken = 0
+numberOf Empty = 0
+
+-- and what 01 gives back with it: bytes used; the line; of a frame "number, sender, unit granted, copies queued"
+unfoldable pub valuesOf : A.Answer → List ℕ
+valuesOf (Loaded used) = used ∷ []
+valuesOf (Unloaded number line) = line ∷ []
+valuesOf (Refused number) = []
+valuesOf (Arrived fate) = []
+valuesOf (Framed number sender granted copies) = number ∷ sender ∷ granted ∷ copies ∷ []
+valuesOf (Heard fate) = []
+valuesOf Taken = []
+valuesOf Empty = []
 
 -- no row changes; in one row some rise
 abbrev pub none : Rises

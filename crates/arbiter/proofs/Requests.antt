@@ -1,17 +1,16 @@
 -- Whether a unit asks, which is the first, which priority is the highest. Assumes nothing.
 use mathlib.Core.Path.{_≡_, refl, sym, ap, _∙_}
 use mathlib.Core.Bool.{Bool, true, false, _||_, cond, or-false, or-true, or-assoc, false≢true}
-use mathlib.Core.List.{List, [], _∷_}
+use mathlib.Core.List.{List, [], _∷_, _++_, append-nil}
 use Prim.Native.Nat.{ℕ, zero, suc, _+_, _≤_, _<_}
-use native.Mathlib.Numerals.{add-one}
+use native.Mathlib.Numerals.{add-one, unary-clauses}
 use native.Mathlib.Omega.{arith}
 use lib.Dec.{eqb}
-use lib.ListN.{length, getD, drop, drop-of-length-le}
-use lib.Seq.{drop-cons, getD-set-same, getD-set-other}
+use lib.ListN.{length, getD, set, take, drop, drop-of-length-le}
+use lib.Seq.{drop-cons, take-all, take-suc-set, drop-set-lt, append-snoc}
 use borrow.Author.Tests.{eq-eqb, ne-eqb, eqb-true, eqb-false, le-leb, lt-leb}
 use Rattle.arbiter.proofs.Order.{units-length, unit-at, cyclic-length, cyclic-has}
-use Rattle.arbiter.specs.Arbitration.{besides, asking, renewed, units, cyclic, nobody, asksAt, someAsks, highest, first, FirstOf}
-use Rattle.arbiter.specs.declared.Arbiter.{Arbiter}
+use Rattle.arbiter.specs.Arbitration.{besides, asking, due, renewedFrom, units, cyclic, nobody, asksAt, someAsks, highest, first, FirstOf}
 
 -- one number is another, or is not
 pub same-or : {P : Type 0} (m n : ℕ) → (m ≡ n → P) → ((m ≡ n → ⊥) → P) → P
@@ -120,10 +119,24 @@ pub asks-without : (priority cells : ℕ) (granted : Bool) → besides cells gra
 unfolding asking
 asks-without priority cells granted e = rw (lt-leb 1 (besides cells granted) (omega arith))
 
--- a renewed request is new, and the others stand
-module _ (arbiter : Arbiter) (number ask : ℕ) where
-  pub renew-own : number < length (arbiter .asks) → getD (renewed arbiter number ask .asks) number 0 ≡ ask
-  renew-own h = getD-set-same (arbiter .asks) number ask 0 h
+-- a request that is due becomes what the unit asks now, and the others stand
+module _ (bus frame : ℕ) (now : List ℕ) where
+  pub renewed-at : (start : ℕ) (asks : List ℕ) (n : ℕ) → n < length asks →
+      getD (renewedFrom bus frame now start asks) n 0 ≡ cond (due bus frame (start + n)) (getD now (start + n) 0) (getD asks n 0)
+  unfolding renewedFrom
+  renewed-at start [] n h = absurd (omega arith)
+  renewed-at start (a ∷ rest) zero h = simp unary-clauses refl
+  renewed-at start (a ∷ rest) (suc n) h = let e : start + suc n ≡ suc start + n = omega arith in rw e (renewed-at (suc start) rest n (omega arith))
 
-  pub renew-others : (n : ℕ) → (n ≡ number → ⊥) → getD (renewed arbiter number ask .asks) n 0 ≡ getD (arbiter .asks) n 0
-  renew-others n h = getD-set-other (arbiter .asks) number n ask 0 h
+  -- one request of the code's pass: as it is to be, and the rest
+  pub renew-next : (asks after : List ℕ) (n : ℕ) → n < length asks →
+      after ≡ set asks n (cond (due bus frame n) (getD now n 0) (getD asks n 0)) →
+      (take n asks ++ renewedFrom bus frame now n (drop n asks)) ≡ (take (n + 1) after ++ renewedFrom bus frame now (n + 1) (drop (n + 1) after))
+  unfolding renewedFrom
+  renew-next asks after n h e =
+      let v = cond (due bus frame n) (getD now n 0) (getD asks n 0) in
+      rw (e, add-one, drop-cons asks n 0 h, take-suc-set asks n v h, drop-set-lt (suc n) asks n v (omega arith)) (sym (append-snoc (take n asks) v (renewedFrom bus frame now (suc n) (drop (suc n) asks))))
+
+  pub renew-none : (asks : List ℕ) (n : ℕ) → length asks ≤ n → (take n asks ++ renewedFrom bus frame now n (drop n asks)) ≡ asks
+  unfolding renewedFrom
+  renew-none asks n h = rw (drop-of-length-le asks {i = n} h, take-all n asks h) (append-nil asks)

@@ -1,10 +1,10 @@
 -- The examples are computed. Assumes nothing.
 use mathlib.Core.Path.{refl}
-use Rattle.arbiter.specs.Arbitration.{asking, due, run, cyclic, someAsks, highest, first, granted}
+use Rattle.arbiter.specs.Arbitration.{asking, due, renewedFrom, run, cyclic, someAsks, highest, first, granted}
 use Rattle.arbiter.specs.Examples.{Examples}
 
 pub witnessed : Examples
-unfolding asking due run cyclic someAsks highest first granted
+unfolding asking due renewedFrom run cyclic someAsks highest first granted
 witnessed =
     record {
       no-cell = refl;
@@ -18,8 +18,9 @@ witnessed =
       odd-15 = refl;
       odd-16 = refl;
       odd-31 = refl;
-      renew-31 = refl;
-      renew-32 = refl;
+      renew-16 = refl;
+      renew-even = refl;
+      renew-odd = refl;
       idle = refl;
       no-priority = refl;
       from-0 = refl;

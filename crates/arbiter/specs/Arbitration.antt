@@ -34,9 +34,13 @@ odd frame = eqb (frame % 2) 1
 unfoldable pub due : ℕ → ℕ → ℕ → Bool
 due bus frame number = cond (eqb bus 32) (cond (ltb number 16) (even frame) (odd frame)) true
 
--- a request renewed
-abbrev pub renewed : Arbiter → ℕ → ℕ → Arbiter
-renewed arbiter number ask = record { last = arbiter .last; asks = set (arbiter .asks) number ask }
+-- the requests of the units from this number on, each renewed by what the unit asks now if it is due
+unfoldable pub renewedFrom : ℕ → ℕ → List ℕ → ℕ → List ℕ → List ℕ
+renewedFrom bus frame now number [] = []
+renewedFrom bus frame now number (ask ∷ asks) = cond (due bus frame number) (getD now number 0) ask ∷ renewedFrom bus frame now (suc number) asks
+
+abbrev pub renewed : Arbiter → ℕ → ℕ → List ℕ → Arbiter
+renewed arbiter bus frame now = record { last = arbiter .last; asks = renewedFrom bus frame now 0 (arbiter .asks) }
 
 -- the numbers of the 32 units
 unfoldable pub run : ℕ → ℕ → List ℕ

@@ -2,9 +2,10 @@
 use Prim.Native.Nat.{ℕ}
 use mathlib.Core.Path.{_≡_}
 use mathlib.Core.Bool.{true, false}
-use mathlib.Core.List.{List, [], _∷_}
+use mathlib.Core.List.{List, [], _∷_, _++_}
 use lib.ListN.{set, replicate}
-use Rattle.arbiter.specs.Arbitration.{nobody, fresh, due, asking, renewed, granted, unitOf}
+use Rattle.arbiter.specs.Arbitration.{nobody, due, asking, renewed, granted, unitOf}
+use Rattle.arbiter.specs.declared.Arbiter.{Arbiter}
 
 -- nobody asks, all ask at a priority, one more unit asks; the last units granted at priorities 1, 2 and 3
 abbrev none : List ℕ
@@ -22,6 +23,9 @@ lasts one two three = one ∷ two ∷ three ∷ []
 abbrev ungranted : List ℕ
 ungranted = lasts nobody nobody nobody
 
+abbrev standing : Arbiter
+standing = record { last = ungranted; asks = all 1 }
+
 pub record Examples : Type 0 where
   -- "a cell besides one already granted"
   pub no-cell : asking 3 0 false ≡ 0
@@ -37,9 +41,10 @@ pub record Examples : Type 0 where
   pub odd-15 : due 32 65535 15 ≡ false
   pub odd-16 : due 32 65535 16 ≡ true
   pub odd-31 : due 32 1 31 ≡ true
-  -- no unit has the number 32
-  pub renew-31 : renewed fresh 31 2 .asks ≡ ask 31 2 none
-  pub renew-32 : renewed fresh 32 2 .asks ≡ none
+  -- "the others stand": all ask at 1 and now at 2
+  pub renew-16 : renewed standing 16 1 (all 2) .asks ≡ all 2
+  pub renew-even : renewed standing 32 0 (all 2) .asks ≡ replicate 16 2 ++ replicate 16 1
+  pub renew-odd : renewed standing 32 1 (all 2) .asks ≡ replicate 16 1 ++ replicate 16 2
   -- nobody asks; no priority is above 3
   pub idle : granted (lasts 1 2 3) none ≡ record { unit = nobody; last = lasts 1 2 3; asks = none }
   pub no-priority : unitOf ungranted (all 4) ≡ nobody

@@ -1,5 +1,6 @@
 // Requests and grants.
 ghost use mathlib.Core.Path.{_≡_};
+ghost use mathlib.Core.Bool.{cond};
 ghost use Rattle.arbiter.specs.Arbitration.{fresh as freshOf, due as isDue, asking as asksFor, renewed, units, cyclic, next as nextTo, someAsks, highest as highestOf, first, granted as grantedOf, grantedBy};
 
 // No unit: before any grant, and where no grant is open. No unit has this number.
@@ -48,6 +49,13 @@ pub fn asking(priority: u8, cells: u8, granted: bool) -> u8
     } else {
         if 0 < cells { priority } else { 0 }
     }
+}
+
+// A request after its renewal: what the unit asks now, if it is due; else it stands.
+fn ask_after(due: bool, now: u8, before: u8) -> u8
+    ensures { λ r. ⌜ r ≡ cond due now before ⌝ }
+{
+    if due { now } else { before }
 }
 
 // The unit after this one in cyclic order; after nobody unit 0.
@@ -132,13 +140,18 @@ impl Arbiter {
         }
     }
 
-    // The request of the unit with this number is renewed. A number that no unit has changes nothing.
-    pub fn renew(mut self, number: u8, ask: u8) -> Arbiter
-        ensures { λ r. ⌜ r ≡ renewed self number ask ⌝ }
+    // The requests of the units whose turn is in this frame become what each asks now; the others stand.
+    pub fn renew(mut self, bus: u8, frame: u16, now: [u8; 32]) -> Arbiter
+        ensures { λ r. ⌜ r ≡ renewed self bus frame now ⌝ }
     {
-        if number < 32 {
-            self.asks[number as usize] = ask;
+        let mut asks = self.asks;
+        let mut number: u8 = 0;
+        while number < 32 {
+            let n = number as usize;
+            asks[n] = ask_after(due(bus, frame, number), now[n], asks[n]);
+            number += 1;
         }
+        self.asks = asks;
         self
     }
 

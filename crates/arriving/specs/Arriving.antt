@@ -21,8 +21,7 @@ use Rattle.answer.specs.declared.Answer.the-variants.{Arrived}
 use Rattle.answer.specs.declared.Done.{Done}
 use Rattle.answer.specs.Answers.{arrivalRises, row, ends, refused}
 use Rattle.admit.specs.declared.Admitted as D
-use Rattle.admit.specs.declared.Admitted.the-variants.{At, Refused}
-use Rattle.admit.specs.Admission.{admitted, unitAt, withUnit, withInlet}
+use Rattle.admit.specs.Admission.{admitted, decided, unitAt, withUnit, withInlet}
 use Rattle.arriving.specs.declared.Way.{Way}
 use Rattle.arriving.specs.declared.Way.the-variants.{Bus, Lost}
 
@@ -76,19 +75,12 @@ abbrev pub storeAt : Card → Shelf → ℕ → List ℕ → List ℕ → List �
 storeAt card shelf place memory store c = storeBy (wayOf card (unitAt shelf place) memory c) (unitAt shelf place) place store c
 
 -- at the unit with a number, if it is let in
-unfoldable pub arriveBy : D.Admitted → Card → Shelf → List ℕ → List ℕ → Done
-arriveBy (At place) card shelf memory c = doneAt card shelf place memory c
-arriveBy (Refused number) card shelf memory c = refused shelf number
-
-unfoldable pub arriveStoreBy : D.Admitted → Card → Shelf → List ℕ → List ℕ → List ℕ → List ℕ
-arriveStoreBy (At place) card shelf memory store c = storeAt card shelf place memory store c
-arriveStoreBy (Refused number) card shelf memory store c = store
-
 abbrev pub letIn : Card → Shelf → ℕ → ℕ → ℕ → List ℕ → D.Admitted
 letIn card shelf store rows unit c = admitted card shelf store rows unit (eqb (length c) 53)
 
 abbrev pub arriveDone : Card → Shelf → List ℕ → ℕ → ℕ → ℕ → List ℕ → Done
-arriveDone card shelf memory store rows unit c = arriveBy (letIn card shelf store rows unit c) card shelf memory c
+arriveDone card shelf memory store rows unit c = decided (letIn card shelf store rows unit c) (λ place. doneAt card shelf place memory c) (refused shelf)
 
 abbrev pub arriveStore : Card → Shelf → List ℕ → List ℕ → ℕ → ℕ → List ℕ → List ℕ
-arriveStore card shelf memory store rows unit c = arriveStoreBy (letIn card shelf (length store) rows unit c) card shelf memory store c
+arriveStore card shelf memory store rows unit c =
+    decided (letIn card shelf (length store) rows unit c) (λ place. storeAt card shelf place memory store c) (λ number. store)

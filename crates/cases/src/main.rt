@@ -212,6 +212,11 @@ fn cell_of(header: u32, check: u8, byte: u8) -> [u8; 53] {
     cell
 }
 
+// A line cell of this header with its right check.
+fn sound_cell(header: u32) -> [u8; 53] {
+    cell_of(header, header::check(header), 165)
+}
+
 // A bus frame to unit 0 of this class and cell header.
 fn frame_of(class: u8, header: u32) -> [u8; 57] {
     let payload = [165u8; 48];
@@ -246,6 +251,17 @@ fn step(w: World, memory: &[u8], store: &mut [u8], letter: u8) -> World {
         53 => hear(w, store, 0, &frame_of(1, 17)),
         54 => hear(w, store, 0, &frame_of(2, 17)),
         55 => hear(w, store, 0, &frame_of(3, 17)),
+        // at an NNI, by VPI: to a unit that nobody declared, to all, to a UNI with VPI 256, dropped, without a record; VPI 0 with VCI 0
+        97 => arrive(w, memory, store, 0, &sound_cell(1048592)),
+        98 => arrive(w, memory, store, 0, &sound_cell(2097168)),
+        99 => arrive(w, memory, store, 0, &sound_cell(4194320)),
+        100 => arrive(w, memory, store, 0, &sound_cell(5242896)),
+        101 => arrive(w, memory, store, 0, &sound_cell(6291472)),
+        102 => arrive(w, memory, store, 0, &sound_cell(0)),
+        // a frame of bad parity, one for another unit, 57 zero bytes
+        122 => hear(w, store, 0, &[1; 57]),
+        111 => hear(w, store, 3, &frame_of(1, 16)),
+        90 => hear(w, store, 0, &[0; 57]),
         // a cell is taken at units 3 and 0
         83 => take(w, store, 3),
         84 => take(w, store, 0),
@@ -285,6 +301,11 @@ fn main() {
     run(
         b"bus\t16\nunit\t0\tuni\t0\t1\tfour\t3\t2\t2\t0\n",
         b"444555116662777777777777777777777777777777777",
+    );
+    // sent and unheard; a broadcast that its sender hears too; wide at a UNI; ignored, misrouted, ignored; damaged, other, 57 zero bytes
+    run(
+        b"bus\t16\nunit\t0\tnni\t300\t1\tone\t0\t0\t10\t0\nunit\t3\tuni\t0\t1\tone\t0\t0\t10\t0\nvp\t0\t1\tu9\t1\t0\nvp\t0\t2\tb\t1\t7\nvp\t0\t4\tu3\t1\t256\ndrop\t0\t5\n",
+        b"aFFbFFcFFdefzoZ",
     );
     // data sheet 004, figures 15 and 16
     run(b"bus\t16\nunit\t0\tuni\t0\t1\tone\t0\t0\t2\t1\n", b"222TTT");

@@ -7,10 +7,9 @@ use mathlib.Core.Bool.{Bool, _||_}
 use mathlib.Core.List.{List, [], _∷_}
 use lib.ListN.{length, getD, set, drop, drop-of-length-le}
 use lib.Seq.{drop-cons}
-use Rattle.arbiter.specs.declared.Arbiter.{Arbiter}
 use Rattle.bus.specs.declared.Heard as H
 use Rattle.store.specs.Places.{Cell}
-use Rattle.shelf.specs.Shelves.{declared}
+use Rattle.shelf.specs.Shelves.{declared, numberOf}
 use Rattle.shelf.specs.declared.Unit as U
 use Rattle.shelf.specs.declared.Shelf.{Shelf}
 use Rattle.shelf.proofs.Finding.{declared-length, declared-at}
@@ -19,7 +18,7 @@ use Rattle.admit.specs.Admission.{withUnit}
 use Rattle.admit.proofs.Laws.{nowhere}
 use Rattle.hearing.specs.Hearings.{copyOf, storeOf}
 use Rattle.hearing.specs.declared.Copy.{Copy}
-use Rattle.framing.specs.Requests.{renewal, renewals}
+use Rattle.framing.specs.Requests.{asksNow, askingOf}
 use Rattle.framing.specs.Sending.{queuedOne, isAddressed, after, heardFrom, storeFrom}
 use Rattle.framing.specs.declared.Listened.{Listened}
 
@@ -42,10 +41,10 @@ module _ (shelf : Shelf) (long : length (shelf .units) ≡ 32) (i : ℕ) where
         drop-cons (declared shelf) i nowhere inside
         ∙ (λ k. declared-at shelf i nowhere (omega (arith, less)) k ∷ drop (sym (add-one i) k) (declared shelf))
 
-    pub asked : (bus frame granted : ℕ) (a b : Arbiter) → b ≡ renewal bus frame granted a (getD (shelf .units) i nowhere) →
-        renewals bus frame granted a (drop i (declared shelf)) ≡ renewals bus frame granted b (drop (i + 1) (declared shelf))
-    unfolding renewals
-    asked bus frame granted a b e = ap (renewals bus frame granted a) one-left ∙ ap (λ x. renewals bus frame granted x (drop (i + 1) (declared shelf))) (sym e)
+    pub asked : (granted : ℕ) (now after : List ℕ) → after ≡ set now (numberOf (getD (shelf .units) i nowhere)) (asksNow granted (getD (shelf .units) i nowhere)) →
+        askingOf granted now (drop i (declared shelf)) ≡ askingOf granted after (drop (i + 1) (declared shelf))
+    unfolding askingOf
+    asked granted now after e = ap (askingOf granted now) one-left ∙ ap (λ x. askingOf granted x (drop (i + 1) (declared shelf))) (sym e)
 
     module _ (h : H.Heard) (k : Copy) (e : k ≡ copyOf (getD (shelf .units) i nowhere) h) where
       pub turned : (now : Shelf) (each : List ℕ) (copies : ℕ) (addressed : Bool) (r q : ℕ) (b : Bool) →
@@ -74,6 +73,6 @@ pub store-none : (h : H.Heard) (place : ℕ) (us : List U.Unit) (store : List �
 unfolding storeFrom
 store-none h place us store cell e = rw e
 
-pub asks-none : (bus frame granted : ℕ) (a : Arbiter) (us : List U.Unit) → us ≡ [] → renewals bus frame granted a us ≡ a
-unfolding renewals
-asks-none bus frame granted a us e = rw e
+pub asks-none : (granted : ℕ) (now : List ℕ) (us : List U.Unit) → us ≡ [] → askingOf granted now us ≡ now
+unfolding askingOf
+asks-none granted now us e = rw e

@@ -13,7 +13,7 @@ ghost use mathlib.Core.Path.{_≡_};
 ghost use Prim.Native.Nat.{_<_, _≤_};
 ghost use lib.ListN.{length};
 ghost use Rattle.shelf.specs.Shelves.{declared};
-ghost use Rattle.framing.specs.Requests.{renewal, requests};
+ghost use Rattle.framing.specs.Requests.{askingNow, requests};
 ghost use Rattle.framing.specs.Sending.{queuedOne, isAddressed, silence as silenceOf, heardByAll, heardStore, sentRises, sentBy, sentStore, sentFrame, AllHoused};
 ghost use Rattle.framing.specs.Frames.{listenedOf, doneAt, storeAt, bufferAt, frameDone, frameStore, frameBuffer};
 
@@ -25,32 +25,35 @@ pub struct Listened {
     pub addressed: bool,
 }
 
-// A unit's request is renewed if its turn is in this frame.
-fn renew(requests: Arbiter, bus: u8, frame: u16, granted: u8, unit: Unit) -> Arbiter
-    ensures { λ r. ⌜ r ≡ renewal bus frame granted requests unit ⌝ }
+// What each declared unit asks now, by its number.
+fn asking_now(shelf: Shelf) -> [u8; 32]
+    ensures { λ r. ⌜ r ≡ askingNow shelf ⌝ }
 {
-    let settings = unit.settings;
-    let number = settings.number;
-    if !arbiter::due(bus, frame, number) {
-        return requests;
+    let end = shelf::held(shelf.count);
+    let mut now = [0; 32];
+    let mut i: usize = 0;
+    while i < end {
+        let unit = shelf.units[i];
+        let settings = unit.settings;
+        let number = settings.number;
+        if number < 32 {
+            now[number as usize] = arbiter::asking(
+                settings.priority,
+                unit.inlet.count,
+                number == shelf.granted,
+            );
+        }
+        i += 1;
     }
-    let ask = arbiter::asking(settings.priority, unit.inlet.count, number == granted);
-    requests.renew(number, ask)
+    now
 }
 
 // The requests of all declared units.
 fn renew_all(shelf: Shelf) -> Arbiter
     ensures { λ r. ⌜ r ≡ requests shelf ⌝ }
 {
-    let end = shelf::held(shelf.count);
-    let mut requests = shelf.arbiter;
-    let mut i: usize = 0;
-    while i < end {
-        let unit = shelf.units[i];
-        requests = renew(requests, shelf.bus, shelf.frame, shelf.granted, unit);
-        i += 1;
-    }
-    requests
+    let arbiter = shelf.arbiter;
+    arbiter.renew(shelf.bus, shelf.frame, asking_now(shelf))
 }
 
 // One for a copy that is queued.

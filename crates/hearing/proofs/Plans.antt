@@ -22,7 +22,7 @@ use Rattle.shelf.specs.declared.Unit as U
 use Rattle.answer.specs.declared.Hearing as A
 use Rattle.answer.specs.declared.Hearing.the-variants.{Other, Queued}
 use Rattle.admit.specs.Admission.{withQueue, Housed}
-use Rattle.hearing.specs.Hearings.{addressed, planFor, planOf, lostBy, copyWith, copyBy, storeBy}
+use Rattle.hearing.specs.Hearings.{addressed, planFor, planOf, fateBy, copyWith, copyBy, storeBy}
 use Rattle.hearing.specs.declared.Plan.{Plan}
 use Rattle.hearing.specs.declared.Plan.the-variants.{Queue, Lost}
 
@@ -70,9 +70,9 @@ outlet-inside place bytes u q h few =
 
 -- how a copy ends
 module _ (u : U.Unit) (p : Plan) (place : ℕ) (store : List ℕ) (cell : Cell) where
-  pub lost-copy : (fate : A.Hearing) → p ≡ Lost fate → (x : A.Hearing) → x ≡ lostBy p → copyWith u x ≡ copyBy p u
-  unfolding lostBy copyBy
-  lost-copy fate e x s = rw e (λ i. copyWith u ((s ∙ ap lostBy e) i))
+  pub lost-copy : (fate : A.Hearing) → p ≡ Lost fate → (x : A.Hearing) → x ≡ fateBy p → copyWith u x ≡ copyBy p u
+  unfolding fateBy copyBy
+  lost-copy fate e x s = rw e (λ i. copyWith u ((s ∙ ap fateBy e) i))
 
   pub lost-store : (fate : A.Hearing) → p ≡ Lost fate → store ≡ storeBy p u place store cell
   unfolding storeBy

@@ -26,8 +26,7 @@ use Rattle.answer.specs.declared.Answer.the-variants.{Heard}
 use Rattle.answer.specs.declared.Done.{Done}
 use Rattle.answer.specs.Answers.{hearingRises, row, ends, refused}
 use Rattle.admit.specs.declared.Admitted as D
-use Rattle.admit.specs.declared.Admitted.the-variants.{At, Refused}
-use Rattle.admit.specs.Admission.{admitted, unitAt, withUnit, withQueue}
+use Rattle.admit.specs.Admission.{admitted, decided, unitAt, withUnit, withQueue}
 use Rattle.hearing.specs.declared.Plan.{Plan}
 use Rattle.hearing.specs.declared.Plan.the-variants.{Queue, Lost}
 use Rattle.hearing.specs.declared.Copy.{Copy}
@@ -54,10 +53,10 @@ planOf u frame.Damaged = Lost Damaged
 planOf u (frame.Cell target class header) =
     cond (addressed u target) (planFor (fate (u .outlet) (u .settings .link) class header) (queueOf (u .outlet .limits) class)) (Lost Other)
 
--- the fate of a copy that is not queued
-unfoldable pub lostBy : Plan → A.Hearing
-lostBy (Queue q) = Queued
-lostBy (Lost fate) = fate
+-- the fate that a plan comes to
+unfoldable pub fateBy : Plan → A.Hearing
+fateBy (Queue q) = Queued
+fateBy (Lost fate) = fate
 
 -- a unit and a fate
 abbrev pub copyWith : U.Unit → A.Hearing → Copy
@@ -90,19 +89,11 @@ abbrev pub storeAt : Shelf → ℕ → List ℕ → List ℕ → List ℕ
 storeAt shelf place store f = storeOf (unitAt shelf place) (heard f) place store (take 56 f)
 
 -- by the unit with a number, if it is let in
-unfoldable pub hearBy : D.Admitted → Shelf → List ℕ → Done
-hearBy (At place) shelf f = doneAt shelf place f
-hearBy (Refused number) shelf f = refused shelf number
-
-unfoldable pub hearStoreBy : D.Admitted → Shelf → List ℕ → List ℕ → List ℕ
-hearStoreBy (At place) shelf store f = storeAt shelf place store f
-hearStoreBy (Refused number) shelf store f = store
-
 abbrev pub letIn : Card → Shelf → ℕ → ℕ → ℕ → List ℕ → D.Admitted
 letIn card shelf store rows unit f = admitted card shelf store rows unit (eqb (length f) 57)
 
 abbrev pub hearDone : Card → Shelf → ℕ → ℕ → ℕ → List ℕ → Done
-hearDone card shelf store rows unit f = hearBy (letIn card shelf store rows unit f) shelf f
+hearDone card shelf store rows unit f = decided (letIn card shelf store rows unit f) (λ place. doneAt shelf place f) (refused shelf)
 
 abbrev pub hearStore : Card → Shelf → List ℕ → ℕ → ℕ → List ℕ → List ℕ
-hearStore card shelf store rows unit f = hearStoreBy (letIn card shelf (length store) rows unit f) shelf store f
+hearStore card shelf store rows unit f = decided (letIn card shelf (length store) rows unit f) (λ place. storeAt shelf place store f) (λ number. store)

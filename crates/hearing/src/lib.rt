@@ -14,7 +14,7 @@ ghost use mathlib.Core.Path.{_≡_};
 ghost use Prim.Native.Nat.{_<_, _≤_};
 ghost use lib.ListN.{length};
 ghost use Rattle.admit.specs.Admission.{unitAt, Housed};
-ghost use Rattle.hearing.specs.Hearings.{addressed as addressedTo, planFor, planOf, lostBy, copyOf, storeOf, doneAt, storeAt, hearDone, hearStore};
+ghost use Rattle.hearing.specs.Hearings.{addressed as addressedTo, planFor, planOf, fateBy, copyOf, storeOf, doneAt, storeAt, hearDone, hearStore};
 
 // A copy is queued in this queue, or lost with this fate.
 pub enum Plan {
@@ -79,9 +79,9 @@ fn plan_of(unit: Unit, heard: Heard) -> Plan
     }
 }
 
-// The fate of a copy that is lost, or that of one that is queued.
-fn lost(plan: Plan) -> Hearing
-    ensures { λ r. ⌜ r ≡ lostBy plan ⌝ }
+// The fate that a plan comes to.
+fn fate_by(plan: Plan) -> Hearing
+    ensures { λ r. ⌜ r ≡ fateBy plan ⌝ }
 {
     match plan {
         Plan::Queue(_) => Hearing::Queued,
@@ -99,7 +99,7 @@ pub fn hear_copy(mut unit: Unit, place: usize, heard: Heard, cell: &[u8], store:
     let Plan::Queue(queue) = plan else {
         return Copy {
             unit,
-            fate: lost(plan),
+            fate: fate_by(plan),
         };
     };
     let mut outlet = unit.outlet;

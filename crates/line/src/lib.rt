@@ -136,7 +136,7 @@ pub fn field_end(s: &[u8], from: usize, tab: u8) -> usize
 }
 
 // Field f, counted from the word as 1, and an empty one where there is none.
-fn field(s: &[u8], f: u8) -> &[u8]
+pub fn field(s: &[u8], f: u8) -> &[u8]
     ensures { λ r. ⌜ now r ≡ fieldOf f (fieldsOf (now (s .entry))) ⌝ }
 {
     let mut from: usize = 0;
@@ -154,7 +154,7 @@ fn field(s: &[u8], f: u8) -> &[u8]
 }
 
 // How many fields s has.
-fn count(s: &[u8]) -> usize
+pub fn count(s: &[u8]) -> usize
     ensures { λ r. ⌜ r ≡ length (fieldsOf (now (s .entry))) ⌝ }
 {
     let mut n: usize = 1;
@@ -169,7 +169,7 @@ fn count(s: &[u8]) -> usize
 }
 
 // Whether two texts are the same.
-fn is(s: &[u8], w: &[u8]) -> bool
+pub fn is(s: &[u8], w: &[u8]) -> bool
     ensures { λ r. ⌜ r ≡ same (now (s .entry)) (now (w .entry)) ⌝ }
 {
     if s.len() != w.len() {
@@ -204,7 +204,7 @@ fn digits(s: &[u8]) -> bool
 }
 
 // Whether s is a decimal number without needless zeros.
-fn decimal(s: &[u8]) -> bool
+pub fn decimal(s: &[u8]) -> bool
     ensures { λ r. ⌜ r ≡ decimalOf (now (s .entry)) ⌝ }
 {
     if s.len() == 0 {

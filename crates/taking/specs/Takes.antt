@@ -18,8 +18,7 @@ use Rattle.answer.specs.declared.Answer.the-variants.{Taken, Empty}
 use Rattle.answer.specs.declared.Done.{Done}
 use Rattle.answer.specs.Answers.{#taken, none, row, ends, refused}
 use Rattle.admit.specs.declared.Admitted as D
-use Rattle.admit.specs.declared.Admitted.the-variants.{At, Refused}
-use Rattle.admit.specs.Admission.{admitted, unitAt, withUnit, withQueue}
+use Rattle.admit.specs.Admission.{admitted, decided, unitAt, withUnit, withQueue}
 
 -- "A line cell is 53 bytes: header 4, check 1, payload 48."
 unfoldable pub lineCell : ℕ → List ℕ → List ℕ
@@ -53,19 +52,12 @@ abbrev pub bufferAt : Shelf → ℕ → List ℕ → List ℕ → List ℕ
 bufferAt shelf place store buffer = bufferBy (leaving (unitAt shelf place .outlet)) (unitAt shelf place) place store buffer
 
 -- at the unit with a number, if it is let in
-unfoldable pub takeBy : D.Admitted → Shelf → Done
-takeBy (At place) shelf = doneAt shelf place
-takeBy (Refused number) shelf = refused shelf number
-
-unfoldable pub takeBufferBy : D.Admitted → Shelf → List ℕ → List ℕ → List ℕ
-takeBufferBy (At place) shelf store buffer = bufferAt shelf place store buffer
-takeBufferBy (Refused number) shelf store buffer = buffer
-
 abbrev pub letIn : Card → Shelf → ℕ → ℕ → ℕ → ℕ → D.Admitted
 letIn card shelf store rows unit length = admitted card shelf store rows unit (eqb length 53)
 
 abbrev pub takeDone : Card → Shelf → ℕ → ℕ → ℕ → ℕ → Done
-takeDone card shelf store rows unit length = takeBy (letIn card shelf store rows unit length) shelf
+takeDone card shelf store rows unit length = decided (letIn card shelf store rows unit length) (doneAt shelf) (refused shelf)
 
 abbrev pub takeBuffer : Card → Shelf → List ℕ → ℕ → ℕ → List ℕ → List ℕ
-takeBuffer card shelf store rows unit buffer = takeBufferBy (letIn card shelf (length store) rows unit (length buffer)) shelf store buffer
+takeBuffer card shelf store rows unit buffer =
+    decided (letIn card shelf (length store) rows unit (length buffer)) (λ place. bufferAt shelf place store buffer) (λ number. buffer)

@@ -39,7 +39,7 @@ pub fn tabs(text: &str) -> String {
 pub struct Rig {
     pub shelf: Shelf,
     pub memory: Vec<u8>,
-    pub store_len: usize,
+    pub store: Vec<u8>,
     pub rows: Vec<Counters>,
     pub used: usize,
 }
@@ -49,10 +49,10 @@ impl Rig {
     pub fn new(card: Card, table: &str) -> Rig {
         let mut memory = vec![0xEE; 262_144];
         let mut rows = vec![Counters::default(); 32];
-        let store_len = 32 * 8_192;
-        let (shelf, outcome) = load(card, tabs(table).as_bytes(), &mut memory, store_len, &mut rows);
+        let store = vec![0xEE; 32 * 8_192];
+        let (shelf, outcome) = load(card, tabs(table).as_bytes(), &mut memory, store.len(), &mut rows);
         let used = outcome.expect("a good table");
-        Rig { shelf, memory, store_len, rows, used }
+        Rig { shelf, memory, store, rows, used }
     }
 
     pub fn wide(table: &str) -> Rig {
@@ -60,7 +60,7 @@ impl Rig {
     }
 
     pub fn arrive(&mut self, unit: u32, cell: &[u8]) -> Result<Arrival, Refused> {
-        self.shelf.arrive(unit, cell, &self.memory, self.store_len, &mut self.rows)
+        self.shelf.arrive(unit, cell, &self.memory, &mut self.store, &mut self.rows)
     }
 
     /// A sound cell with this header arrives.
@@ -71,18 +71,18 @@ impl Rig {
     /// The next frame and its bytes; 0xEE where it left the buffer unchanged.
     pub fn frame(&mut self) -> (SentFrame, [u8; 57]) {
         let mut buffer = [0xEE; 57];
-        let sent = self.shelf.frame(&mut buffer, self.store_len, &mut self.rows);
+        let sent = self.shelf.frame(&mut buffer, &mut self.store, &mut self.rows);
         (sent.expect("not refused"), buffer)
     }
 
     pub fn hear(&mut self, unit: u32, frame: &[u8]) -> Result<Hearing, Refused> {
-        self.shelf.hear(unit, frame, self.store_len, &mut self.rows)
+        self.shelf.hear(unit, frame, &mut self.store, &mut self.rows)
     }
 
     /// The cell taken, if any; an empty take must leave the buffer unchanged.
     pub fn take(&mut self, unit: u32) -> Option<[u8; 53]> {
         let mut buffer = [0xEE; 53];
-        let taking = self.shelf.take(unit, &mut buffer, self.store_len, &mut self.rows);
+        let taking = self.shelf.take(unit, &mut buffer, &self.store, &mut self.rows);
         match taking.expect("not refused") {
             Taking::Taken => Some(buffer),
             Taking::Empty => {
@@ -93,7 +93,7 @@ impl Rig {
     }
 
     pub fn count(&self, unit: u32) -> Counters {
-        self.shelf.count(unit, self.store_len, &self.rows).expect("not refused")
+        self.shelf.count(unit, self.store.len(), &self.rows).expect("not refused")
     }
 
     /// Names of the counters that `event` bumps by one, with their rows.
@@ -156,4 +156,67 @@ pub fn try_load(card: Card, text: &[u8], memory: usize) -> Result<usize, (u8, us
     let mut rows = vec![Counters::default(); 32];
     let (_, outcome) = load(card, text, &mut memory, 32 * 8_192, &mut rows);
     outcome.map_err(|refusal| (refusal.number(), refusal.line))
+}
+
+/// Runs the console's code on bytes.
+pub fn console(input: &[u8]) -> Vec<String> {
+    let mut out = Vec::new();
+    independent::console::run(&mut &input[..], &mut out).expect("writing to memory");
+    let text = String::from_utf8(out).expect("ASCII");
+    text.lines().map(|line| line.replace('\t', " ")).collect()
+}
+
+/// A console asked line by line, blanks for tabs in lines and answers.
+#[derive(Default)]
+pub struct Desk(independent::console::Console);
+
+impl Desk {
+    /// A console with a good table and plenty lent.
+    pub fn new(card: &str, table: &str) -> Desk {
+        let mut desk = Desk::default();
+        assert_eq!(desk.ask(&format!("card {card}")), "card ok");
+        desk.ask("lend memory 4000 EE");
+        desk.ask("lend store 262144 EE");
+        desk.ask("lend rows 32 7");
+        assert!(desk.load(table).starts_with("load ok "));
+        desk
+    }
+
+    pub fn ask(&mut self, line: &str) -> String {
+        let mut answer = Vec::new();
+        self.0.answer(tabs(line).as_bytes(), &mut answer);
+        String::from_utf8(answer).expect("ASCII").replace('\t', " ")
+    }
+
+    /// Loads a table with blanks for tabs.
+    pub fn load(&mut self, table: &str) -> String {
+        self.ask(&format!("load {}", hex(tabs(table).as_bytes())))
+    }
+
+    /// Everything that `show` shows.
+    pub fn all(&mut self) -> [String; 4] {
+        ["memory", "store", "rows", "shelf"].map(|part| self.ask(&format!("show {part}")))
+    }
+}
+
+pub fn hex(bytes: &[u8]) -> String {
+    bytes.iter().map(|byte| format!("{byte:02X}")).collect()
+}
+
+/// A good table of exactly this many bytes.
+pub fn table_of(length: usize) -> String {
+    let mut text = tabs("bus 32\nunit 0 nni 4095 1 one 0 0 1 0\nunit 1 nni 4095 1 one 0 0 1 0\n");
+    let mut drops = (0..2).flat_map(|unit| (1_000..4_096).map(move |vpi| format!("drop\t{unit}\t{vpi}\n")));
+    while length - text.len() > 36 {
+        text.push_str(&drops.next().expect("drop lines enough"));
+    }
+    // Lines of 7, 8 and 9 bytes make up any length from 21 to 27 or 28 to 36.
+    let lines = if length - text.len() <= 27 { 3 } else { 4 };
+    for line in 0..lines {
+        let rest = length - text.len() - 7 * (lines - line - 1);
+        let session = [line, 10 + line, 100 + line][(rest - 7).min(2)];
+        text.push_str(&format!("mc\t0\t{session}\n"));
+    }
+    assert_eq!(text.len(), length);
+    text
 }

@@ -7,8 +7,8 @@ use lib.ListN.{length}
 use borrow.Author.Tests.{eqb-true}
 use Rattle.answer.specs.declared.Done.{Done}
 use Rattle.admit.specs.Admission.{unitAt}
-use Rattle.admit.proofs.Laws.{at-let-in, let-in-housed}
-use Rattle.arriving.specs.Arriving.{wayOf, arriveBy, arriveStoreBy}
+use Rattle.admit.proofs.Laws.{at-let-in, let-in-housed, decided-at, decided-refused}
+use Rattle.arriving.specs.Arriving.{wayOf}
 use Rattle.arriving.proofs.Leaves.{done-fits}
 use borrow.Author.Needs.{needs}
 use Rattle.arriving.proofs.arrive.Statement.{statement}
@@ -38,27 +38,25 @@ same-length : tie.Need-same-length
 same-length c = search needs
 
 returns : tie.Need-returns
-unfolding arriveBy arriveStoreBy
 returns c =
     let a = c .before .before .before .before .before .before .before .before .before .before .before .args in
     let e = sym (c .before .before .before .before .before .before .before .admit .ensures) ∙ c .before .before .before .before .before .place .given .1 in
     let l = at-let-in (a .card) (a .shelf) (length (a .store .now)) (a .rows) (a .unit) (eqb (length (a .cell .now)) 53) _ e in
     let h = let-in-housed (a .card) (a .shelf) (length (a .store .now)) (a .rows) (a .unit) (eqb (length (a .cell .now)) 53) _ l in (
       (
-        c .before .before .arrive-at .ensures .0 ∙ ap (λ x. arriveBy x (a .card) (a .shelf) (a .memory .now) (a .cell .now)) (sym e),
-        c .before .before .arrive-at .ensures .1 ∙ ap (λ x. arriveStoreBy x (a .card) (a .shelf) (a .memory .now) (a .store .now) (a .cell .now)) (sym e),
+        c .before .before .arrive-at .ensures .0 ∙ decided-at _ _ _ _ e,
+        c .before .before .arrive-at .ensures .1 ∙ decided-at _ _ _ _ e,
       ),
       subst (λ (x : Done). (x .rises .to ≤ 32) × (x .rises .to ≤ a .rows)) (sym (c .before .before .arrive-at .ensures .0)) (done-fits (wayOf (a .card) (unitAt (a .shelf) _) (a .memory .now) (a .cell .now)) (a .shelf) _ (a .rows) (h .0 .below) (h .1)),
     )
 
 returns-2 : tie.Need-returns-2
-unfolding arriveBy arriveStoreBy
 returns-2 c =
     let a = c .before .before .before .before .before .before .before .before .args in
     let e = sym (c .before .before .before .before .admit .ensures) ∙ c .before .before .number .given .1 in (
       (
-        c .refused .ensures ∙ ap (λ x. arriveBy x (a .card) (a .shelf) (a .memory .now) (a .cell .now)) (sym e),
-        ap (λ x. arriveStoreBy x (a .card) (a .shelf) (a .memory .now) (a .store .now) (a .cell .now)) (sym e),
+        c .refused .ensures ∙ decided-refused _ _ _ _ e,
+        decided-refused _ _ _ _ e,
       ),
       subst (λ (x : Done). (x .rises .to ≤ 32) × (x .rises .to ≤ a .rows)) (sym (c .refused .ensures)) (omega arith, omega arith),
     )

@@ -6,8 +6,7 @@ use lib.Dec.{eqb}
 use lib.ListN.{length}
 use borrow.Author.Tests.{eqb-true}
 use Rattle.answer.specs.declared.Done.{Done}
-use Rattle.admit.proofs.Laws.{at-let-in, let-in-housed}
-use Rattle.hearing.specs.Hearings.{hearBy, hearStoreBy}
+use Rattle.admit.proofs.Laws.{at-let-in, let-in-housed, decided-at, decided-refused}
 use borrow.Author.Needs.{needs}
 use Rattle.hearing.proofs.hear.Statement.{statement}
 use Rattle.hearing.proofs.hear.Tie as tie
@@ -36,25 +35,23 @@ same-length : tie.Need-same-length
 same-length c = search needs
 
 returns : tie.Need-returns
-unfolding hearBy hearStoreBy
 returns c =
     let a = c .before .before .before .before .before .before .before .before .before .before .args in
     let e = sym (c .before .before .before .before .before .before .before .admit .ensures) ∙ c .before .before .before .before .before .place .given .1 in
     let l = at-let-in (a .card) (a .shelf) (length (a .store .now)) (a .rows) (a .unit) (eqb (length (a .frame .now)) 57) _ e in
     let h = let-in-housed (a .card) (a .shelf) (length (a .store .now)) (a .rows) (a .unit) (eqb (length (a .frame .now)) 57) _ l in (
       (
-        c .before .before .hear-at .ensures .0 ∙ ap (λ x. hearBy x (a .shelf) (a .frame .now)) (sym e),
-        c .before .before .hear-at .ensures .1 ∙ ap (λ x. hearStoreBy x (a .shelf) (a .store .now) (a .frame .now)) (sym e),
+        c .before .before .hear-at .ensures .0 ∙ decided-at _ _ _ _ e,
+        c .before .before .hear-at .ensures .1 ∙ decided-at _ _ _ _ e,
       ),
       subst (λ (x : Done). (x .rises .to ≤ 32) × (x .rises .to ≤ a .rows)) (sym (c .before .before .hear-at .ensures .0)) (omega (arith, h .0 .below), omega (arith, h .1)),
     )
 
 returns-2 : tie.Need-returns-2
-unfolding hearBy hearStoreBy
 returns-2 c =
     let a = c .before .before .before .before .before .before .before .args in
     let e = sym (c .before .before .before .before .admit .ensures) ∙ c .before .before .number .given .1 in (
-      (c .refused .ensures ∙ ap (λ x. hearBy x (a .shelf) (a .frame .now)) (sym e), ap (λ x. hearStoreBy x (a .shelf) (a .store .now) (a .frame .now)) (sym e)),
+      (c .refused .ensures ∙ decided-refused _ _ _ _ e, decided-refused _ _ _ _ e),
       subst (λ (x : Done). (x .rises .to ≤ 32) × (x .rises .to ≤ a .rows)) (sym (c .refused .ensures)) (omega arith, omega arith),
     )
 

@@ -21,14 +21,14 @@ enum-known-plan c = search needs
 enum-told : tie.Need-enum-told
 enum-told c = search needs
 
-lost-requires : tie.Need-lost-requires
-lost-requires c κs = search needs
+fate-by-requires : tie.Need-fate-by-requires
+fate-by-requires c κs = search needs
 
 returns : tie.Need-returns
 returns c =
     let a = c .before .before .before .before .before .before .args in
     let e = c .before .enum-told .given .1 in (
-      lost-copy (a .unit) _ (a .place) (a .store .now) (a .cell .now) _ e _ (c .lost .ensures) ∙ ap (λ p. copyBy p (a .unit)) (c .before .before .before .plan-of .ensures),
+      lost-copy (a .unit) _ (a .place) (a .store .now) (a .cell .now) _ e _ (c .fate-by .ensures) ∙ ap (λ p. copyBy p (a .unit)) (c .before .before .before .plan-of .ensures),
       lost-store (a .unit) _ (a .place) (a .store .now) (a .cell .now) _ e ∙ ap (λ p. storeBy p (a .unit) (a .place) (a .store .now) (a .cell .now)) (c .before .before .before .plan-of .ensures),
     )
 
@@ -98,7 +98,7 @@ hear-copy-spec =
     plan-of-requires
     enum-known-plan
     enum-told
-    lost-requires
+    fate-by-requires
     returns
     cast-q
     mul-ring

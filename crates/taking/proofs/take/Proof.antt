@@ -8,8 +8,7 @@ use borrow.Author.Tests.{eqb-true}
 use Rattle.queueing.specs.Taking.{leaving}
 use Rattle.answer.specs.declared.Done.{Done}
 use Rattle.admit.specs.Admission.{unitAt}
-use Rattle.admit.proofs.Laws.{at-let-in, let-in-housed}
-use Rattle.taking.specs.Takes.{takeBy, takeBufferBy}
+use Rattle.admit.proofs.Laws.{at-let-in, let-in-housed, decided-at, decided-refused}
 use Rattle.taking.proofs.Laws.{done-fits}
 use borrow.Author.Needs.{needs}
 use Rattle.taking.proofs.take.Statement.{statement}
@@ -39,25 +38,23 @@ same-length : tie.Need-same-length
 same-length c = search needs
 
 returns : tie.Need-returns
-unfolding takeBy takeBufferBy
 returns c =
     let a = c .before .before .before .before .before .before .before .before .before .before .args in
     let e = sym (c .before .before .before .before .before .before .before .admit .ensures) ∙ c .before .before .before .before .before .place .given .1 in
     let l = at-let-in (a .card) (a .shelf) (length (a .store .now)) (a .rows) (a .unit) (eqb (length (a .buffer .now)) 53) _ e in
     let h = let-in-housed (a .card) (a .shelf) (length (a .store .now)) (a .rows) (a .unit) (eqb (length (a .buffer .now)) 53) _ l in (
       (
-        c .before .before .take-at .ensures .0 ∙ ap (λ x. takeBy x (a .shelf)) (sym e),
-        c .before .before .take-at .ensures .1 ∙ ap (λ x. takeBufferBy x (a .shelf) (a .store .now) (a .buffer .now)) (sym e),
+        c .before .before .take-at .ensures .0 ∙ decided-at _ _ _ _ e,
+        c .before .before .take-at .ensures .1 ∙ decided-at _ _ _ _ e,
       ),
       subst (λ (x : Done). (x .rises .to ≤ 32) × (x .rises .to ≤ a .rows)) (sym (c .before .before .take-at .ensures .0)) (done-fits (leaving (unitAt (a .shelf) _ .outlet)) (a .shelf) _ (a .rows) (h .0 .below) (h .1)),
     )
 
 returns-2 : tie.Need-returns-2
-unfolding takeBy takeBufferBy
 returns-2 c =
     let a = c .before .before .before .before .before .before .before .args in
     let e = sym (c .before .before .before .before .admit .ensures) ∙ c .before .before .number .given .1 in (
-      (c .refused .ensures ∙ ap (λ x. takeBy x (a .shelf)) (sym e), ap (λ x. takeBufferBy x (a .shelf) (a .store .now) (a .buffer .now)) (sym e)),
+      (c .refused .ensures ∙ decided-refused _ _ _ _ e, decided-refused _ _ _ _ e),
       subst (λ (x : Done). (x .rises .to ≤ 32) × (x .rises .to ≤ a .rows)) (sym (c .refused .ensures)) (omega arith, omega arith),
     )
 

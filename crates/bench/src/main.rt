@@ -1,0 +1,301 @@
+// The bench: document 01's program. It reads table.txt, then events on standard input, on the wide card.
+use answer::Answer;
+use card::Card;
+use counters::Counters;
+use entry::Counted;
+use event::Event;
+use shelf::Shelf;
+use written::Outcome;
+
+// A shelf and its counter rows.
+struct World {
+    shelf: Shelf,
+    rows: [Counters; 40],
+}
+
+// How much of the line that is being read is held, and whether it is too long to be an event.
+struct Held {
+    length: usize,
+    long: bool,
+}
+
+// What the input so far came to, and whether it goes on.
+struct Fed {
+    world: World,
+    held: Held,
+    more: bool,
+}
+
+fn kept(after: owned::After) -> World {
+    let reply = after.reply;
+    let shelf = reply.shelf;
+    let rows = after.rows;
+    World { shelf, rows }
+}
+
+// Prints the line of an event.
+fn say(event: Event, outcome: Outcome, cell: &[u8]) {
+    let mut out = [0u8; 512];
+    let n = written::event_line(event, outcome, cell, &mut out);
+    if n <= 512 {
+        io::write_all(1, &out[..n]);
+    }
+}
+
+fn said(after: owned::After) -> Outcome {
+    let reply = after.reply;
+    let answer = reply.answer;
+    Outcome::Answered(answer)
+}
+
+// A line cell of this header and check, its payload one byte 48 times.
+fn cell_of(header: u32, check: u8, byte: u8) -> [u8; 53] {
+    let mut cell = [byte; 53];
+    octets::put_four(&mut cell, 0, header);
+    cell[4] = check;
+    cell
+}
+
+fn arrive(w: World, memory: &[u8], store: &mut [u8], event: Event, unit: u8, cell: &[u8]) -> World {
+    let shelf = w.shelf;
+    let rows = w.rows;
+    let after = owned::arrive(Card::Wide, shelf, memory, store, rows, unit, cell);
+    say(event, said(after), cell);
+    kept(after)
+}
+
+fn frame(w: World, store: &mut [u8], event: Event) -> World {
+    let shelf = w.shelf;
+    let rows = w.rows;
+    let mut buffer = [0u8; 57];
+    let after = owned::frame(Card::Wide, shelf, store, rows, &mut buffer);
+    say(event, said(after), b"");
+    kept(after)
+}
+
+fn take(w: World, store: &[u8], event: Event, unit: u8) -> World {
+    let shelf = w.shelf;
+    let rows = w.rows;
+    let mut buffer = [0u8; 53];
+    let after = owned::take(Card::Wide, shelf, store, rows, unit, &mut buffer);
+    say(event, said(after), &buffer);
+    kept(after)
+}
+
+fn count(w: World, store: &[u8], event: Event, unit: u8) {
+    let shelf = w.shelf;
+    let rows = w.rows;
+    match owned::count(Card::Wide, shelf, store, rows, unit) {
+        Counted::Counters(c) => say(event, Outcome::Counted(c), b""),
+        Counted::Refused(number) => say(event, Outcome::Answered(Answer::Refused(number)), b""),
+    }
+}
+
+// One event.
+fn happen(w: World, memory: &[u8], store: &mut [u8], event: Event) -> World {
+    match event {
+        Event::Arrive {
+            unit,
+            header,
+            check,
+            byte,
+        } => arrive(w, memory, store, event, unit, &cell_of(header, check, byte)),
+        Event::Frame => frame(w, store, event),
+        Event::Take(unit) => take(w, store, event, unit),
+        Event::Count(unit) => {
+            count(w, store, event, unit);
+            w
+        }
+        Event::Bad => {
+            say(event, Outcome::Nothing, b"");
+            w
+        }
+    }
+}
+
+// A piece of a line is held, if there is room for it.
+fn keep(line: &mut [u8], held: Held, piece: &[u8]) -> Held {
+    let n = held.length;
+    if n <= line.len() {
+        if piece.len() <= line.len() - n {
+            octets::copy(piece, line, n);
+            return Held {
+                length: n + piece.len(),
+                long: held.long,
+            };
+        }
+    }
+    Held {
+        length: n,
+        long: true,
+    }
+}
+
+// The event that a whole line says.
+fn event_in(line: &[u8], held: Held) -> Event {
+    let n = held.length;
+    if held.long {
+        return Event::Bad;
+    }
+    if n <= line.len() {
+        return event::read(&line[..n]);
+    }
+    Event::Bad
+}
+
+// All lines that a part of the input ends, and the beginning of the next.
+fn feed(
+    w: World,
+    memory: &[u8],
+    store: &mut [u8],
+    line: &mut [u8],
+    held: Held,
+    part: &[u8],
+) -> Fed {
+    let mut world = w;
+    let mut so_far = held;
+    let mut from: usize = 0;
+    while from < part.len() {
+        let end = line::field_end(part, from, b'\n');
+        so_far = keep(line, so_far, &part[from..end]);
+        if end < part.len() {
+            from = end + 1;
+            world = happen(world, memory, store, event_in(line, so_far));
+            so_far = Held {
+                length: 0,
+                long: false,
+            };
+        } else {
+            from = end;
+        }
+    }
+    Fed {
+        world,
+        held: so_far,
+        more: true,
+    }
+}
+
+// Reads once, and does what came.
+fn feed_some(fed: Fed, memory: &[u8], store: &mut [u8], line: &mut [u8]) -> Fed {
+    let w = fed.world;
+    let held = fed.held;
+    let mut part = io::large_buffer();
+    let got = libc::read(0, &mut part);
+    if got <= 0 {
+        return Fed {
+            world: w,
+            held,
+            more: false,
+        };
+    }
+    let n = io::count(got, &part);
+    feed(w, memory, store, line, held, &part[..n])
+}
+
+// Reads to the end of the input. A proved loop has to end, so it counts its turns down from a number that no run uses up.
+fn feed_all(w: World, memory: &[u8], store: &mut [u8], line: &mut [u8]) -> Fed {
+    let mut fed = Fed {
+        world: w,
+        held: Held {
+            length: 0,
+            long: false,
+        },
+        more: true,
+    };
+    let mut turns = u64::MAX;
+    while 0 < turns {
+        fed = feed_some(fed, memory, store, line);
+        if !fed.more {
+            return fed;
+        }
+        turns -= 1;
+    }
+    fed
+}
+
+// All events; a last line without its newline is read too.
+fn run(w: World, memory: &[u8], store: &mut [u8]) {
+    let mut line = io::large_buffer();
+    let fed = feed_all(w, memory, store, &mut line);
+    let held = fed.held;
+    let world = fed.world;
+    let n = held.length;
+    if held.long {
+        happen(world, memory, store, Event::Bad);
+        return;
+    }
+    if 0 < n {
+        happen(world, memory, store, event_in(&line, held));
+    }
+}
+
+// Reads a file until it ends or the buffer is full, and says how many bytes came; none if it cannot be read.
+fn read_all(fd: i32, path: &[u8], text: &mut [u8]) -> usize {
+    let mut n: usize = 0;
+    while n < text.len() {
+        let got = libc::read(fd, &mut text[n..]);
+        if got < 0 {
+            os::fail(path);
+            return 0;
+        }
+        let more = io::count(got, &text[n..]);
+        if more == 0 {
+            return n;
+        }
+        n += more;
+    }
+    n
+}
+
+// Reads the table; a missing or unreadable file counts as the empty text.
+fn read_table(text: &mut [u8]) -> usize {
+    let path = b"table.txt";
+    let fd = os::open_read(path);
+    if fd < 0 {
+        os::fail(path);
+        return 0;
+    }
+    let n = read_all(fd, path, text);
+    libc::close(fd);
+    n
+}
+
+// Prints the line of the table.
+fn say_table(answer: Answer) {
+    let mut out = [0u8; 512];
+    let n = written::table_line(answer, &mut out);
+    if n <= 512 {
+        io::write_all(1, &out[..n]);
+    }
+}
+
+// Loads the table and, if it is good, goes through the events.
+fn bench(text: &[u8]) {
+    let mut memory = [0u8; 16384];
+    let mut store = [0u8; 32768];
+    let after = owned::load(
+        Card::Wide,
+        text,
+        &mut memory,
+        &store,
+        [Counters::zero(); 40],
+    );
+    let reply = after.reply;
+    let answer = reply.answer;
+    say_table(answer);
+    if let Answer::Loaded(_) = answer {
+        run(kept(after), &memory, &mut store);
+    }
+}
+
+fn main() {
+    // one byte more than a table may have tells a longer one
+    let mut text = [0u8; 8193];
+    let n = read_table(&mut text);
+    if 8192 < n {
+        say_table(Answer::Unloaded { number: 1, line: 0 });
+        return;
+    }
+    bench(&text[..n]);
+}

@@ -1,0 +1,30 @@
+-- `command::read` meets its contract. Assumes nothing.
+use mathlib.Core.Path.{sym, ap, _∙_}
+use Rattle.fields.specs.Fields.{placeIn}
+use Rattle.command.specs.Names.{commands}
+use Rattle.command.specs.Commands.{readingOf, spoken}
+use borrow.Author.Tests.{le-leb, lt-leb}
+use borrow.Author.Needs.{needs}
+use Rattle.command.proofs.read.Statement.{statement}
+use Rattle.command.proofs.read.Tie as tie
+
+field-requires : tie.Need-field-requires
+field-requires c κs = search needs
+
+command-named-requires : tie.Need-command-named-requires
+command-named-requires c κs = search needs
+
+spoken-requires : tie.Need-spoken-requires
+spoken-requires c κs = search needs
+
+returns : tie.Need-returns
+unfolding readingOf
+returns c = c .spoken .ensures ∙ ap (λ k. spoken k (c .before .before .before .before .before .args .s .now)) (c .before .command-named .ensures ∙ ap (λ w. placeIn commands w) (c .before .before .field .ensures)) ∙ simp (le-leb _ _ (c .before .before .before .if1 .taken))
+
+returns-2 : tie.Need-returns-2
+unfolding readingOf
+returns-2 c = simp (lt-leb _ _ (c .if1 .left))
+
+pub read-spec : {M : Type 1} → statement M
+read-spec =
+    tie.close (tie.spec field-requires command-named-requires spoken-requires returns returns-2)

@@ -1,0 +1,25 @@
+-- `command::spoken` meets its contract. Assumes nothing.
+use mathlib.Core.Path.{sym, ap, _∙_}
+use Rattle.command.proofs.Laws.{as-many, not-as-many}
+use borrow.Author.Needs.{needs}
+use Rattle.command.proofs.spoken.Statement.{statement}
+use Rattle.command.proofs.spoken.Tie as tie
+
+count-requires : tie.Need-count-requires
+count-requires c κs = search needs
+
+count-of-requires : tie.Need-count-of-requires
+count-of-requires c κs = search needs
+
+line-of-requires : tie.Need-line-of-requires
+line-of-requires c κs = search needs
+
+returns : tie.Need-returns
+returns c = c .line-of .ensures ∙ as-many _ _ _ _ (c .before .before .before .count .ensures) (c .before .before .count-of .ensures) (c .before .if1 .taken)
+
+returns-2 : tie.Need-returns-2
+returns-2 c = not-as-many _ _ _ _ (c .before .before .count .ensures) (c .before .count-of .ensures) (c .if1 .left)
+
+pub spoken-spec : {M : Type 1} → statement M
+spoken-spec =
+    tie.close (tie.spec count-requires count-of-requires line-of-requires returns returns-2)

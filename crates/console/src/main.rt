@@ -1,0 +1,729 @@
+// The console: one command a line on standard input, one answer a line on standard output (docs/CONSOLE.md).
+use answer::Answer;
+use card::Card;
+use command::Bank;
+use command::Command;
+use command::Reading;
+use counters::Counters;
+use entry::Counted;
+use owned::After;
+use shelf::Shelf;
+ghost use mathlib.Core.Path.{_≡_};
+ghost use Prim.Native.Nat.{_+_, _≤_, _<_};
+ghost use lib.ListN.{length};
+ghost use Rattle.io.specs.Counts.{Counts};
+
+// The card, the shelf, the rows, and how much of the rows, the memory and the store is lent.
+struct World {
+    card: Card,
+    shelf: Shelf,
+    rows: [Counters; 40],
+    lent: usize,
+    memory: usize,
+    store: usize,
+}
+
+// The world after a command, and where its answer ends.
+struct Step {
+    world: World,
+    at: usize,
+}
+
+// What was read and is not answered: how many bytes, and whether they end a line whose start was too long to be kept; whether more may come.
+struct Rest {
+    world: World,
+    kept: usize,
+    long: bool,
+    open: bool,
+}
+
+// The same, with where it starts, and where the answers end.
+struct Batch {
+    world: World,
+    from: usize,
+    at: usize,
+    long: bool,
+}
+
+const NEWLINE: u8 = b'\n';
+
+// The most that a line has, and room for the longest answer.
+const MOST: usize = 150000;
+
+const ROOM: usize = 20000;
+
+fn least(a: usize, b: usize) -> usize
+    ensures { λ r. ⌜ (r ≤ a) × (r ≤ b) ⌝ }
+{
+    if a < b { a } else { b }
+}
+
+// At most n, and no more than b has: what a part of b asks.
+fn within(n: usize, b: &[u8]) -> usize
+    ensures { λ r. ⌜ Counts r (now (b .entry)) × (r ≤ n) ⌝ }
+{
+    least(n, b.len())
+}
+
+fn fresh() -> World {
+    World {
+        card: Card::Wide,
+        shelf: Shelf::fresh(16),
+        rows: [Counters::zero(); 40],
+        lent: 0,
+        memory: 0,
+        store: 0,
+    }
+}
+
+fn moved(world: World, at: usize) -> Step {
+    Step { world, at }
+}
+
+// The world after an event.
+fn after(w: World, done: After) -> World {
+    let reply = done.reply;
+    let shelf = reply.shelf;
+    let rows = done.rows;
+    let card = w.card;
+    World {
+        card,
+        shelf,
+        rows,
+        lent: w.lent,
+        memory: w.memory,
+        store: w.store,
+    }
+}
+
+fn with_card(w: World, card: Card) -> World {
+    let shelf = w.shelf;
+    let rows = w.rows;
+    World {
+        card,
+        shelf,
+        rows,
+        lent: w.lent,
+        memory: w.memory,
+        store: w.store,
+    }
+}
+
+fn with_field(mut w: World, field: u8, place: u64, value: u64) -> World {
+    let shelf = w.shelf;
+    w.shelf = setting::set(shelf, field, place as usize, value);
+    w
+}
+
+// The first n bytes of b, each with this value.
+fn fill(b: &mut [u8], n: usize, byte: u8) {
+    let e = least(n, b.len());
+    let mut i: usize = 0;
+    while i < e {
+        b[i] = byte;
+        i += 1;
+    }
+}
+
+fn with_bank(
+    mut w: World,
+    memory: &mut [u8],
+    store: &mut [u8],
+    bank: Bank,
+    n: usize,
+    byte: u8,
+) -> World {
+    match bank {
+        Bank::Memory => {
+            fill(memory, n, byte);
+            w.memory = n;
+        }
+        Bank::Store => {
+            fill(store, n, byte);
+            w.store = n;
+        }
+    }
+    w
+}
+
+fn with_rows(mut w: World, n: usize, value: u32) -> World {
+    let row = Counters {
+        arrived: value,
+        hec: value,
+        ignored: value,
+        misrouted: value,
+        inletfull: value,
+        sent: value,
+        unheard: value,
+        damaged: value,
+        queued: value,
+        full: value,
+        clp: value,
+        wide: value,
+        taken: value,
+    };
+    w.rows = [row; 40];
+    w.lent = n;
+    w
+}
+
+// The bytes that a field of hex says, to the front of text; how many there are.
+fn unhexed(line: &[u8], from: usize, text: &mut [u8]) -> usize
+    ensures { λ r. ⌜ Counts r (now (text .exit)) ⌝ }
+{
+    let f = least(from, line.len());
+    let hex = &line[f..];
+    if hex.len() / 2 <= text.len() {
+        if words::is_hex(hex) {
+            words::unhex(hex, text, 0);
+            return within(hex.len() / 2, text);
+        }
+    }
+    within(0, text)
+}
+
+fn answer_of(done: After) -> Answer {
+    let reply = done.reply;
+    reply.answer
+}
+
+fn load(w: World, memory: &mut [u8], store: &[u8], text: &[u8]) -> After {
+    let card = w.card;
+    let rows = w.rows;
+    partly::load(card, text, memory, store, rows, w.lent)
+}
+
+fn arrive(w: World, memory: &[u8], store: &mut [u8], unit: u8, cell: &[u8]) -> After {
+    let card = w.card;
+    let shelf = w.shelf;
+    let rows = w.rows;
+    partly::arrive(card, shelf, memory, store, rows, w.lent, unit, cell)
+}
+
+fn hear(w: World, store: &mut [u8], unit: u8, frame: &[u8]) -> After {
+    let card = w.card;
+    let shelf = w.shelf;
+    let rows = w.rows;
+    partly::hear(card, shelf, store, rows, w.lent, unit, frame)
+}
+
+fn frame(w: World, store: &mut [u8], buffer: &mut [u8]) -> After {
+    let card = w.card;
+    let shelf = w.shelf;
+    let rows = w.rows;
+    partly::frame(card, shelf, store, rows, w.lent, buffer)
+}
+
+fn take(w: World, store: &[u8], unit: u8, buffer: &mut [u8]) -> After {
+    let card = w.card;
+    let shelf = w.shelf;
+    let rows = w.rows;
+    partly::take(card, shelf, store, rows, w.lent, unit, buffer)
+}
+
+fn count(w: World, store: &[u8], unit: u8) -> Counted {
+    let card = w.card;
+    let shelf = w.shelf;
+    let rows = w.rows;
+    partly::count(card, shelf, store, rows, w.lent, unit)
+}
+
+fn say_load(
+    w: World,
+    memory: &mut [u8],
+    store: &[u8],
+    text: &[u8],
+    out: &mut [u8],
+    at: usize,
+) -> Step
+    requires { ⌜ at + 20000 ≤ length (now out) ⌝ }
+{
+    let done = load(w, memory, store, text);
+    let next = shown::said(out, at, b"load", 0, answer_of(done));
+    moved(after(w, done), next)
+}
+
+fn say_arrive(
+    w: World,
+    memory: &[u8],
+    store: &mut [u8],
+    unit: u8,
+    cell: &[u8],
+    out: &mut [u8],
+    at: usize,
+) -> Step
+    requires { ⌜ at + 20000 ≤ length (now out) ⌝ }
+{
+    let done = arrive(w, memory, store, unit, cell);
+    let next = shown::said(out, at, b"arrive", unit, answer_of(done));
+    moved(after(w, done), next)
+}
+
+fn say_hear(w: World, store: &mut [u8], unit: u8, bytes: &[u8], out: &mut [u8], at: usize) -> Step
+    requires { ⌜ at + 20000 ≤ length (now out) ⌝ }
+{
+    let done = hear(w, store, unit, bytes);
+    let next = shown::said(out, at, b"hear", unit, answer_of(done));
+    moved(after(w, done), next)
+}
+
+// The first so many bytes of a buffer.
+fn put_front(out: &mut [u8], at: usize, buffer: &[u8], wanted: usize) -> usize
+    requires { ⌜ (length (now buffer) ≤ 1000) × (at + 2001 ≤ length (now out)) ⌝ }
+{
+    let n = within(wanted, buffer);
+    shown::put_bytes(out, at, &buffer[..n])
+}
+
+fn frame_into(w: World, store: &mut [u8], buffer: &mut [u8], wanted: usize) -> After {
+    let n = within(wanted, buffer);
+    frame(w, store, &mut buffer[..n])
+}
+
+fn take_into(w: World, store: &[u8], unit: u8, buffer: &mut [u8], wanted: usize) -> After {
+    let n = within(wanted, buffer);
+    take(w, store, unit, &mut buffer[..n])
+}
+
+// A frame into the first so many bytes of a buffer.
+fn say_frame_in(
+    w: World,
+    store: &mut [u8],
+    buffer: &mut [u8],
+    wanted: usize,
+    out: &mut [u8],
+    at: usize,
+) -> Step
+    requires { ⌜ (length (now buffer) ≤ 1000) × (at + 20000 ≤ length (now out)) ⌝ }
+{
+    let done = frame_into(w, store, buffer, wanted);
+    let next = shown::said(out, at, b"frame", 0, answer_of(done));
+    let end = put_front(out, next, buffer, wanted);
+    moved(after(w, done), end)
+}
+
+fn say_frame(w: World, store: &mut [u8], wanted: usize, out: &mut [u8], at: usize) -> Step
+    requires { ⌜ at + 20000 ≤ length (now out) ⌝ }
+{
+    let mut buffer = [238u8; 1000];
+    say_frame_in(w, store, &mut buffer, wanted, out, at)
+}
+
+// A take into the first so many bytes of a buffer.
+fn say_take_in(
+    w: World,
+    store: &[u8],
+    unit: u8,
+    buffer: &mut [u8],
+    wanted: usize,
+    out: &mut [u8],
+    at: usize,
+) -> Step
+    requires { ⌜ (length (now buffer) ≤ 1000) × (at + 20000 ≤ length (now out)) ⌝ }
+{
+    let done = take_into(w, store, unit, buffer, wanted);
+    let next = shown::said(out, at, b"take", unit, answer_of(done));
+    let end = put_front(out, next, buffer, wanted);
+    moved(after(w, done), end)
+}
+
+fn say_take(w: World, store: &[u8], unit: u8, wanted: usize, out: &mut [u8], at: usize) -> Step
+    requires { ⌜ at + 20000 ≤ length (now out) ⌝ }
+{
+    let mut buffer = [238u8; 1000];
+    say_take_in(w, store, unit, &mut buffer, wanted, out, at)
+}
+
+fn say_count(w: World, store: &[u8], unit: u8, out: &mut [u8], at: usize) -> usize
+    requires { ⌜ at + 20000 ≤ length (now out) ⌝ }
+{
+    match count(w, store, unit) {
+        Counted::Counters(c) => shown::counted(out, at, unit, c),
+        Counted::Refused(number) => {
+            shown::said(out, at, b"count", unit, Answer::Refused(number))
+        }
+    }
+}
+
+// The first n bytes of b are lent.
+fn say_poke(
+    b: &mut [u8],
+    n: usize,
+    to: usize,
+    line: &[u8],
+    from: usize,
+    out: &mut [u8],
+    at: usize,
+) -> usize
+    requires { ⌜ at + 20000 ≤ length (now out) ⌝ }
+{
+    let f = least(from, line.len());
+    let hex = &line[f..];
+    let e = least(n, b.len());
+    if to <= e {
+        if hex.len() / 2 <= e - to {
+            if words::is_hex(hex) {
+                words::unhex(hex, b, to);
+                return words::put(out, at, b"poke\tok");
+            }
+        }
+    }
+    words::put(out, at, b"bad")
+}
+
+fn say_sum(b: &[u8], n: usize, text: &[u8], out: &mut [u8], at: usize) -> usize
+    requires { ⌜ (length (now text) ≤ 20) × (at + 20000 ≤ length (now out)) ⌝ }
+{
+    let e = within(n, b);
+    shown::summed(out, at, text, e as u64, sum::fnv(&b[..e]))
+}
+
+fn say_rows(w: World, out: &mut [u8], at: usize) -> usize
+    requires { ⌜ at + 20000 ≤ length (now out) ⌝ }
+{
+    let n = least(w.lent, 40);
+    let rows = w.rows;
+    shown::rows(out, at, n, rows)
+}
+
+fn say_shelf(w: World, out: &mut [u8], at: usize) -> usize
+    requires { ⌜ at + 20000 ≤ length (now out) ⌝ }
+{
+    let shelf = w.shelf;
+    laid::shelf(out, at, shelf)
+}
+
+// An event, or what changes the world alone.
+fn act(
+    w: World,
+    memory: &mut [u8],
+    store: &mut [u8],
+    text: &mut [u8],
+    line: &[u8],
+    command: Command,
+    out: &mut [u8],
+    at: usize,
+) -> Step
+    requires { ⌜ at + 20000 ≤ length (now out) ⌝ }
+{
+    let m = within(w.memory, memory);
+    let s = within(w.store, store);
+    match command {
+        Command::Card(card) => moved(with_card(w, card), words::put(out, at, b"card\tok")),
+        Command::Lend { bank, length, byte } => moved(
+            with_bank(w, memory, store, bank, length as usize, byte),
+            words::put(out, at, b"lend\tok"),
+        ),
+        Command::LendRows { count, value } => moved(
+            with_rows(w, count as usize, value),
+            words::put(out, at, b"lend\tok"),
+        ),
+        Command::Load(from) => {
+            let n = unhexed(line, from, text);
+            say_load(w, &mut memory[..m], &store[..s], &text[..n], out, at)
+        }
+        Command::Arrive { unit, from } => {
+            let n = unhexed(line, from, text);
+            say_arrive(w, &memory[..m], &mut store[..s], unit, &text[..n], out, at)
+        }
+        Command::Hear { unit, from } => {
+            let n = unhexed(line, from, text);
+            say_hear(w, &mut store[..s], unit, &text[..n], out, at)
+        }
+        Command::Frame(length) => say_frame(w, &mut store[..s], length as usize, out, at),
+        Command::Take { unit, length } => {
+            say_take(w, &store[..s], unit, length as usize, out, at)
+        }
+        Command::State {
+            field,
+            place,
+            value,
+        } => moved(
+            with_field(w, field, place, value),
+            words::put(out, at, b"state\tok"),
+        ),
+        _ => tell(w, memory, store, line, command, out, at),
+    }
+}
+
+// What leaves the shelf as it is.
+fn tell(
+    w: World,
+    memory: &mut [u8],
+    store: &mut [u8],
+    line: &[u8],
+    command: Command,
+    out: &mut [u8],
+    at: usize,
+) -> Step
+    requires { ⌜ at + 20000 ≤ length (now out) ⌝ }
+{
+    let m = w.memory;
+    let s = w.store;
+    match command {
+        Command::Count(unit) => {
+            let e = within(s, store);
+            moved(w, say_count(w, &store[..e], unit, out, at))
+        }
+        Command::Poke { bank, at: to, from } => match bank {
+            Bank::Memory => moved(w, say_poke(memory, m, to as usize, line, from, out, at)),
+            Bank::Store => moved(w, say_poke(store, s, to as usize, line, from, out, at)),
+        },
+        Command::Show(bank) => match bank {
+            Bank::Memory => moved(w, say_sum(memory, m, b"show\tmemory", out, at)),
+            Bank::Store => moved(w, say_sum(store, s, b"show\tstore", out, at)),
+        },
+        Command::ShowRows => moved(w, say_rows(w, out, at)),
+        Command::ShowShelf => moved(w, say_shelf(w, out, at)),
+        _ => moved(w, at),
+    }
+}
+
+// A newline where there is room.
+fn ended(out: &mut [u8], at: usize) -> usize {
+    if at < out.len() {
+        out[at] = NEWLINE;
+        return at + 1;
+    }
+    at
+}
+
+// The answer to one line.
+fn answer_line(
+    w: World,
+    memory: &mut [u8],
+    store: &mut [u8],
+    text: &mut [u8],
+    line: &[u8],
+    out: &mut [u8],
+    at: usize,
+) -> Step
+    requires { ⌜ at + 20000 ≤ length (now out) ⌝ }
+{
+    match command::read(line) {
+        Reading::Does(command) => {
+            let done = act(w, memory, store, text, line, command, out, at);
+            let world = done.world;
+            moved(world, ended(out, done.at))
+        }
+        Reading::Bad => moved(w, words::put(out, at, b"bad\n")),
+    }
+}
+
+// Where the next answer goes: what there is is written out if the room is short.
+fn cleared(out: &[u8], at: usize) -> usize {
+    let n = within(at, out);
+    if out.len() - n < ROOM {
+        io::write_all(1, &out[..n]);
+        return 0;
+    }
+    n
+}
+
+// Answers every whole line of the input.
+fn answer_lines(
+    rest: Rest,
+    memory: &mut [u8],
+    store: &mut [u8],
+    text: &mut [u8],
+    input: &[u8],
+    out: &mut [u8],
+) -> Batch {
+    let mut w = rest.world;
+    let mut long = rest.long;
+    let mut from: usize = 0;
+    let mut at: usize = 0;
+    loop {
+        let e = line::field_end(input, from, NEWLINE);
+        if input.len() <= e {
+            return Batch {
+                world: w,
+                from,
+                at,
+                long,
+            };
+        }
+        let next = e + 1;
+        let done = answer_one(w, long, memory, store, text, &input[from..e], out, at);
+        w = done.world;
+        at = done.at;
+        long = false;
+        from = next;
+    }
+}
+
+// Answers one line, which is bad if it was too long to be kept.
+fn answer_one(
+    w: World,
+    long: bool,
+    memory: &mut [u8],
+    store: &mut [u8],
+    text: &mut [u8],
+    line: &[u8],
+    out: &mut [u8],
+    at: usize,
+) -> Step {
+    let next = cleared(out, at);
+    if next <= out.len() {
+        if ROOM <= out.len() - next {
+            if long {
+                return moved(w, words::put(out, next, b"bad\n"));
+            }
+            return answer_line(w, memory, store, text, line, out, next);
+        }
+    }
+    moved(w, next)
+}
+
+// What stands from a place on comes to the front.
+fn shift(input: &mut [u8], from: usize, end: usize) -> usize {
+    let mut i: usize = 0;
+    let e = least(end, input.len());
+    let mut k = from;
+    while k < e {
+        input[i] = input[k];
+        i += 1;
+        k += 1;
+    }
+    i
+}
+
+// All that was read but the start of a line is answered; that goes to the front, unless it is too long already.
+fn turn(
+    rest: Rest,
+    memory: &mut [u8],
+    store: &mut [u8],
+    text: &mut [u8],
+    input: &mut [u8],
+    end: usize,
+    out: &mut [u8],
+) -> Rest {
+    let e = within(end, input);
+    let done = answer_lines(rest, memory, store, text, &input[..e], out);
+    let n = within(done.at, out);
+    io::write_all(1, &out[..n]);
+    let world = done.world;
+    let from = least(done.from, e);
+    if MOST < e - from {
+        return Rest {
+            world,
+            kept: 0,
+            long: true,
+            open: true,
+        };
+    }
+    let kept = shift(input, from, e);
+    Rest {
+        world,
+        kept,
+        long: done.long,
+        open: true,
+    }
+}
+
+// The last line, if it has no newline.
+fn last(
+    rest: Rest,
+    memory: &mut [u8],
+    store: &mut [u8],
+    text: &mut [u8],
+    input: &[u8],
+    out: &mut [u8],
+) {
+    let n = within(rest.kept, input);
+    let long = rest.long;
+    let world = rest.world;
+    if n == 0 {
+        if !long {
+            return;
+        }
+    }
+    let done = answer_one(world, long, memory, store, text, &input[..n], out, 0);
+    let e = within(done.at, out);
+    io::write_all(1, &out[..e]);
+}
+
+// Reads once, and answers what came.
+fn read_turn(
+    mut rest: Rest,
+    memory: &mut [u8],
+    store: &mut [u8],
+    text: &mut [u8],
+    input: &mut [u8],
+    out: &mut [u8],
+) -> Rest {
+    let kept = within(rest.kept, input);
+    let n = more(input, kept);
+    if n == 0 {
+        rest.open = false;
+        return rest;
+    }
+    turn(rest, memory, store, text, input, kept + n, out)
+}
+
+// One turn less; none after the end of the input.
+fn left(turns: u64, open: bool) -> u64
+    requires { ⌜ 0 < turns ⌝ }
+    ensures { λ r. ⌜ r < turns ⌝ }
+{
+    if open { turns - 1 } else { 0 }
+}
+
+// Reads to the end of the input; nothing says that there is one, so turns are counted.
+fn run(memory: &mut [u8], store: &mut [u8], text: &mut [u8], input: &mut [u8], out: &mut [u8]) {
+    let mut rest = Rest {
+        world: fresh(),
+        kept: 0,
+        long: false,
+        open: true,
+    };
+    let mut turns: u64 = 18446744073709551615;
+    while 0 < turns {
+        rest = read_turn(rest, memory, store, text, input, out);
+        turns = left(turns, rest.open);
+    }
+    last(rest, memory, store, text, input, out);
+}
+
+// Reads into what is free behind the kept bytes; how many bytes came.
+fn more(input: &mut [u8], kept: usize) -> usize
+    requires { ⌜ kept ≤ length (now input) ⌝ }
+    ensures { λ r. ⌜ kept + r ≤ length (now (input .exit)) ⌝ }
+{
+    let got = libc::read(0, &mut input[kept..]);
+    io::count(got, &input[kept..])
+}
+
+// Zeros, with the length that lending them asks for.
+fn bank() -> [u8; 300000]
+    ensures { λ r. ⌜ 300000 ≡ length r ⌝ }
+{
+    [0; 300000]
+}
+
+fn text_room() -> [u8; 75000]
+    ensures { λ r. ⌜ 75000 ≡ length r ⌝ }
+{
+    [0; 75000]
+}
+
+fn input_room() -> [u8; 400000]
+    ensures { λ r. ⌜ 400000 ≡ length r ⌝ }
+{
+    [0; 400000]
+}
+
+fn out_room() -> [u8; 200000]
+    ensures { λ r. ⌜ 200000 ≡ length r ⌝ }
+{
+    [0; 200000]
+}
+
+fn main() {
+    let mut memory = bank();
+    let mut store = bank();
+    let mut text = text_room();
+    let mut input = input_room();
+    let mut out = out_room();
+    run(&mut memory, &mut store, &mut text, &mut input, &mut out);
+}

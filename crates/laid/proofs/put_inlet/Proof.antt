@@ -1,0 +1,29 @@
+-- `laid::put_inlet` meets its contract. Assumes nothing.
+use borrow.Author.Needs.{needs}
+use Rattle.laid.proofs.put_inlet.Statement.{statement}
+use Rattle.laid.proofs.put_inlet.Tie as tie
+
+inlet-numbers-requires : tie.Need-inlet-numbers-requires
+inlet-numbers-requires c κs = search needs
+
+slice-aggregate-put-numbers : tie.Need-slice-aggregate-put-numbers
+slice-aggregate-put-numbers c = search needs
+
+put-numbers-requires : tie.Need-put-numbers-requires
+put-numbers-requires c κs = search needs
+
+same-length : tie.Need-same-length
+same-length c = search needs
+
+returns : tie.Need-returns
+returns c = rw (c .before .before .before .before .inlet-numbers .ensures) at (c .before .before .put-numbers .ensures)
+
+pub put-inlet-spec : {M : Type 1} → statement M
+put-inlet-spec =
+    tie.close
+    (tie.spec
+    inlet-numbers-requires
+    slice-aggregate-put-numbers
+    put-numbers-requires
+    same-length
+    returns)

@@ -1,0 +1,29 @@
+-- `laid::put_settings` meets its contract. Assumes nothing.
+use borrow.Author.Needs.{needs}
+use Rattle.laid.proofs.put_settings.Statement.{statement}
+use Rattle.laid.proofs.put_settings.Tie as tie
+
+settings-numbers-requires : tie.Need-settings-numbers-requires
+settings-numbers-requires c κs = search needs
+
+slice-aggregate-put-numbers : tie.Need-slice-aggregate-put-numbers
+slice-aggregate-put-numbers c = search needs
+
+put-numbers-requires : tie.Need-put-numbers-requires
+put-numbers-requires c κs = search needs
+
+same-length : tie.Need-same-length
+same-length c = search needs
+
+returns : tie.Need-returns
+returns c = rw (c .before .before .before .before .settings-numbers .ensures) at (c .before .before .put-numbers .ensures)
+
+pub put-settings-spec : {M : Type 1} → statement M
+put-settings-spec =
+    tie.close
+    (tie.spec
+    settings-numbers-requires
+    slice-aggregate-put-numbers
+    put-numbers-requires
+    same-length
+    returns)

@@ -1,0 +1,62 @@
+-- `partly::count` meets its contract. Assumes nothing.
+use mathlib.Core.Path.{_≡_, sym, ap, _∙_}
+use lib.ListN.{length}
+use Rattle.shelf.proofs.Finding.{length-mapped}
+use Rattle.owned.proofs.Found.{found, past}
+use Rattle.entry.specs.Counts.{countOf}
+use Rattle.admit.specs.Admission.{counted as placeOf}
+use native.Mathlib.Omega.{arith}
+use borrow.Author.Needs.{needs}
+use Rattle.partly.proofs.count.Statement.{statement}
+use Rattle.partly.proofs.count.Tie as tie
+
+count-requires : tie.Need-count-requires
+count-requires c κs = search needs
+
+returns : tie.Need-returns
+returns c = c .count .ensures ∙ ap (λ n. countOf (placeOf (c .before .before .before .args .card) (c .before .before .before .args .shelf) (length (c .before .before .before .args .store .now)) n (c .before .before .before .args .unit)) (c .before .before .before .args .t4)) (sym (c .before .if1 .taken))
+
+counted-requires : tie.Need-counted-requires
+counted-requires c κs = search needs
+
+row-at-requires : tie.Need-row-at-requires
+row-at-requires c κs = search needs
+
+mul-row : tie.Need-mul-row
+mul-row c = search needs
+
+array-copy-out-row : tie.Need-array-copy-out-row
+array-copy-out-row c = search needs
+
+counted-at-requires : tie.Need-counted-at-requires
+counted-at-requires c κs = search needs
+
+returns-2 : tie.Need-returns-2
+returns-2 c = c .counted-at .ensures ∙ found (c .before .before .before .before .before .before .before .args .t4) _ _ (c .before .before .before .before .counted .ensures) _ (c .before .before .before .row-at .ensures)
+
+zero-requires : tie.Need-zero-requires
+zero-requires c κs = search needs
+
+counted-at-requires-2 : tie.Need-counted-at-requires-2
+counted-at-requires-2 c κs = search needs
+
+returns-3 : tie.Need-returns-3
+returns-3 c =
+    let long : length (c .before .before .before .before .before .before .before .args .t4) ≡ 40 = search (needs, length-mapped) in
+    c .counted-at2 .ensures ∙ past (c .before .before .before .before .before .before .before .args .t4) _ _ (c .before .before .before .before .counted .ensures) _ (c .before .before .before .row-at .ensures) (omega arith) _ (c .before .zero .ensures)
+
+pub count-spec : {M : Type 1} → statement M
+count-spec =
+    tie.close
+    (tie.spec
+    count-requires
+    returns
+    counted-requires
+    row-at-requires
+    mul-row
+    array-copy-out-row
+    counted-at-requires
+    returns-2
+    zero-requires
+    counted-at-requires-2
+    returns-3)

@@ -1,0 +1,48 @@
+-- `partly::frame` meets its contract. Assumes nothing.
+use mathlib.Core.Path.{ap, _∙_}
+use Rattle.counters.specs.Counting.{settled}
+use Rattle.answer.specs.declared.Done.{Done}
+use borrow.Author.Needs.{needs}
+use Rattle.partly.proofs.frame.Statement.{statement}
+use Rattle.partly.proofs.frame.Tie as tie
+
+frame-requires : tie.Need-frame-requires
+frame-requires c κs = search needs
+
+same-length : tie.Need-same-length
+same-length c = search needs
+
+same-length-2 : tie.Need-same-length-2
+same-length-2 c = search needs
+
+returns : tie.Need-returns
+returns c = rw (c .before .before .before .before .before .before .before .if1 .taken) (c .before .before .before .before .frame .ensures)
+
+frame-requires-2 : tie.Need-frame-requires-2
+frame-requires-2 c κs = search needs
+
+settle-requires : tie.Need-settle-requires
+settle-requires c κs = c .before .before .before .before .frame2 .ensures .1 .0
+
+same-length-3 : tie.Need-same-length-3
+same-length-3 c = search needs
+
+same-length-4 : tie.Need-same-length-4
+same-length-4 c = search needs
+
+returns-2 : tie.Need-returns-2
+returns-2 c = (c .settle .ensures .0 ∙ ap (λ (d : Done). d .reply) (c .before .before .before .before .before .frame2 .ensures .0 .0), (c .before .before .before .before .before .frame2 .ensures .0 .1 .0, (c .before .before .before .before .before .frame2 .ensures .0 .1 .1, c .settle .ensures .1 ∙ ap (λ (d : Done). settled (c .before .before .before .before .before .before .before .before .before .before .before .args .rows) (d .rises)) (c .before .before .before .before .before .frame2 .ensures .0 .0))))
+
+pub frame-spec : {M : Type 1} → statement M
+frame-spec =
+    tie.close
+    (tie.spec
+    frame-requires
+    same-length
+    same-length-2
+    returns
+    frame-requires-2
+    settle-requires
+    same-length-3
+    same-length-4
+    returns-2)

@@ -1,0 +1,40 @@
+-- `partly::hear` meets its contract. Assumes nothing.
+use mathlib.Core.Path.{ap, _∙_}
+use Rattle.counters.specs.Counting.{settled}
+use Rattle.answer.specs.declared.Done.{Done}
+use borrow.Author.Needs.{needs}
+use Rattle.partly.proofs.hear.Statement.{statement}
+use Rattle.partly.proofs.hear.Tie as tie
+
+hear-requires : tie.Need-hear-requires
+hear-requires c κs = search needs
+
+same-length : tie.Need-same-length
+same-length c = search needs
+
+returns : tie.Need-returns
+returns c = rw (c .before .before .before .before .if1 .taken) (c .before .before .hear .ensures)
+
+hear-requires-2 : tie.Need-hear-requires-2
+hear-requires-2 c κs = search needs
+
+settle-requires : tie.Need-settle-requires
+settle-requires c κs = c .before .before .hear2 .ensures .1 .0
+
+same-length-2 : tie.Need-same-length-2
+same-length-2 c = search needs
+
+returns-2 : tie.Need-returns-2
+returns-2 c = (c .settle .ensures .0 ∙ ap (λ (d : Done). d .reply) (c .before .before .before .hear2 .ensures .0 .0), (c .before .before .before .hear2 .ensures .0 .1, c .settle .ensures .1 ∙ ap (λ (d : Done). settled (c .before .before .before .before .before .before .before .before .args .rows) (d .rises)) (c .before .before .before .hear2 .ensures .0 .0)))
+
+pub hear-spec : {M : Type 1} → statement M
+hear-spec =
+    tie.close
+    (tie.spec
+    hear-requires
+    same-length
+    returns
+    hear-requires-2
+    settle-requires
+    same-length-2
+    returns-2)

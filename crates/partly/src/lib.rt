@@ -1,0 +1,156 @@
+// The entry points for a program that keeps 40 rows in an array and lends the first so many of them: rows go in by value and come back.
+// Where all 40 are lent the public entry points do the work, through `owned`; else the rooms do it, and the rows are settled by value.
+use answer::Done;
+use card::Card;
+use counters::Counters;
+use entry::Counted;
+use owned::After;
+use shelf::Shelf;
+ghost use mathlib.Core.Path.{_≡_};
+ghost use Prim.Native.Nat.{_≤_};
+ghost use lib.ListN.{length};
+ghost use Rattle.counters.specs.Counting.{settled};
+ghost use Rattle.arriving.specs.Arriving.{arriveDone, arriveStore};
+ghost use Rattle.framing.specs.Frames.{frameDone, frameStore, frameBuffer};
+ghost use Rattle.taking.specs.Takes.{takeDone, takeBuffer};
+ghost use Rattle.hearing.specs.Hearings.{hearDone, hearStore};
+ghost use Rattle.loading.specs.Loads.{loadDone, loadMemory};
+ghost use Rattle.admit.specs.Admission.{counted as placeOf};
+ghost use Rattle.entry.specs.Counts.{countOf};
+
+// The rows after an event: by value what `counters::settle` does to lent ones.
+fn settle(rows: [Counters; 40], done: Done) -> After
+    requires { ⌜ done .rises .to ≤ 32 ⌝ }
+    ensures { λ r. ⌜ (r .reply ≡ done .reply) × (r .rows ≡ settled rows (done .rises)) ⌝ }
+{
+    let mut rs = rows;
+    let rises = counters::rises_of(done);
+    let n = counters::last(rises);
+    let mut i = counters::first(rises);
+    while i < n {
+        let c = rs[i];
+        rs[i] = counters::row_after(c, rises, i);
+        i += 1;
+    }
+    owned::joined(counters::reply_of(done), rs)
+}
+
+pub fn arrive(
+    card: Card,
+    shelf: Shelf,
+    memory: &[u8],
+    store: &mut [u8],
+    rows: [Counters; 40],
+    lent: usize,
+    unit: u8,
+    cell: &[u8],
+) -> After
+    ensures { λ r. ⌜ (r .reply ≡ arriveDone card shelf (now (memory .entry)) (length (now (store .entry))) lent unit (now (cell .entry)) .reply)
+        × ((now (store .exit) ≡ arriveStore card shelf (now (memory .entry)) (now (store .entry)) lent unit (now (cell .entry)))
+        × (r .rows ≡ settled rows (arriveDone card shelf (now (memory .entry)) (length (now (store .entry))) lent unit (now (cell .entry)) .rises))) ⌝ }
+{
+    if lent == 40 {
+        return owned::arrive(card, shelf, memory, store, rows, unit, cell);
+    }
+    settle(
+        rows,
+        arriving::arrive(card, shelf, memory, store, lent, unit, cell),
+    )
+}
+
+pub fn frame(
+    card: Card,
+    shelf: Shelf,
+    store: &mut [u8],
+    rows: [Counters; 40],
+    lent: usize,
+    buffer: &mut [u8],
+) -> After
+    ensures { λ r. ⌜ (r .reply ≡ frameDone card shelf (now (store .entry)) lent (length (now (buffer .entry))) .reply)
+        × ((now (store .exit) ≡ frameStore card shelf (now (store .entry)) lent (length (now (buffer .entry))))
+        × ((now (buffer .exit) ≡ frameBuffer card shelf (now (store .entry)) lent (now (buffer .entry)))
+        × (r .rows ≡ settled rows (frameDone card shelf (now (store .entry)) lent (length (now (buffer .entry))) .rises)))) ⌝ }
+{
+    if lent == 40 {
+        return owned::frame(card, shelf, store, rows, buffer);
+    }
+    settle(rows, framing::frame(card, shelf, store, lent, buffer))
+}
+
+pub fn take(
+    card: Card,
+    shelf: Shelf,
+    store: &[u8],
+    rows: [Counters; 40],
+    lent: usize,
+    unit: u8,
+    buffer: &mut [u8],
+) -> After
+    ensures { λ r. ⌜ (r .reply ≡ takeDone card shelf (length (now (store .entry))) lent unit (length (now (buffer .entry))) .reply)
+        × ((now (buffer .exit) ≡ takeBuffer card shelf (now (store .entry)) lent unit (now (buffer .entry)))
+        × (r .rows ≡ settled rows (takeDone card shelf (length (now (store .entry))) lent unit (length (now (buffer .entry))) .rises))) ⌝ }
+{
+    if lent == 40 {
+        return owned::take(card, shelf, store, rows, unit, buffer);
+    }
+    settle(rows, taking::take(card, shelf, store, lent, unit, buffer))
+}
+
+pub fn hear(
+    card: Card,
+    shelf: Shelf,
+    store: &mut [u8],
+    rows: [Counters; 40],
+    lent: usize,
+    unit: u8,
+    frame: &[u8],
+) -> After
+    ensures { λ r. ⌜ (r .reply ≡ hearDone card shelf (length (now (store .entry))) lent unit (now (frame .entry)) .reply)
+        × ((now (store .exit) ≡ hearStore card shelf (now (store .entry)) lent unit (now (frame .entry)))
+        × (r .rows ≡ settled rows (hearDone card shelf (length (now (store .entry))) lent unit (now (frame .entry)) .rises))) ⌝ }
+{
+    if lent == 40 {
+        return owned::hear(card, shelf, store, rows, unit, frame);
+    }
+    settle(rows, hearing::hear(card, shelf, store, lent, unit, frame))
+}
+
+pub fn load(
+    card: Card,
+    text: &[u8],
+    memory: &mut [u8],
+    store: &[u8],
+    rows: [Counters; 40],
+    lent: usize,
+) -> After
+    ensures { λ r. ⌜ (r .reply ≡ loadDone card (now (text .entry)) (now (memory .entry)) (length (now (store .entry))) lent .reply)
+        × ((now (memory .exit) ≡ loadMemory card (now (text .entry)) (now (memory .entry)) (length (now (store .entry))) lent)
+        × (r .rows ≡ settled rows (loadDone card (now (text .entry)) (now (memory .entry)) (length (now (store .entry))) lent .rises))) ⌝ }
+{
+    if lent == 40 {
+        return owned::load(card, text, memory, store, rows);
+    }
+    settle(rows, loading::load(card, text, memory, store, lent))
+}
+
+pub fn count(
+    card: Card,
+    shelf: Shelf,
+    store: &[u8],
+    rows: [Counters; 40],
+    lent: usize,
+    unit: u8,
+) -> Counted
+    ensures { λ r. ⌜ r ≡ countOf (placeOf card shelf (length (now (store .entry))) lent unit) rows ⌝ }
+{
+    if lent == 40 {
+        return owned::count(card, shelf, store, rows, unit);
+    }
+    let place = admit::counted(card, shelf, store, lent, unit);
+    let at = entry::row_at(place);
+    if at < 40 {
+        let row = rows[at];
+        return entry::counted_at(place, row);
+    }
+    entry::counted_at(place, Counters::zero())
+}

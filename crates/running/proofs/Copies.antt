@@ -1,0 +1,82 @@
+-- A copy of a cell at a unit: what it leaves of the unit and of the store. Assumes nothing.
+use Prim.Native.Nat.{ℕ, _+_, _<_, _≤_}
+use native.Mathlib.Omega.{arith}
+use mathlib.Core.Path.{_≡_, refl, sym, ap, subst, _∙_}
+use mathlib.Core.Bool.{Bool, true, false, cond}
+use mathlib.Core.List.{List}
+use lib.ListN.{length}
+use Rattle.octets.proofs.Parts.{length-splice}
+use Rattle.bus.specs.declared.Heard as H
+use Rattle.bus.specs.declared.Heard.the-variants as sort
+use Rattle.outlet.specs.Outlets.{Given, RingsFit, queue, capacity}
+use Rattle.queueing.specs.Hearing.{fate, queueOf}
+use Rattle.queueing.specs.declared.Fate as F
+use Rattle.queueing.specs.declared.Fate.the-variants as fates
+use Rattle.queueing.proofs.Fates.{fate-iff}
+use Rattle.store.specs.Places.{putAt, slotAt, outletSlot, Cell}
+use Rattle.store.specs.Rings.{tail, pushed}
+use Rattle.store.proofs.Rounds.{pushed-fits}
+use Rattle.store.proofs.Slots.{start-inside}
+use Rattle.shelf.specs.declared.Unit as U
+use Rattle.answer.specs.declared.Hearing.the-variants.{Other}
+use Rattle.admit.specs.Admission.{withQueue, Housed}
+use Rattle.hearing.specs.Hearings as hearing
+use Rattle.hearing.specs.declared.Plan as P
+use Rattle.hearing.specs.declared.Plan.the-variants as plans
+use Rattle.hearing.proofs.Plans.{plan-queue, outlet-inside}
+use Rattle.running.proofs.Changed.{remade, queue-changed}
+
+-- a cell written into the store leaves it as long as it was
+pub put-kept : (store : List ℕ) (place slot : ℕ) (c : Cell) → slotAt place slot + 56 ≤ length store → length c ≡ 56 → length (putAt store place slot c) ≡ length store
+unfolding putAt
+put-kept store place slot c room whole = length-splice store (slotAt place slot) c (omega arith)
+
+-- a copy is queued where there is room
+queued-fate : (f : F.Fate) (p q : ℕ) → hearing.planFor f p ≡ plans.Queue q → (p ≡ q) × (f ≡ fates.Queued)
+unfolding hearing.planFor
+queued-fate fates.Wide p q e = let z : _≡_ {A = ℕ} 0 1 = cc in absurd (omega arith)
+queued-fate fates.Full p q e = let z : _≡_ {A = ℕ} 0 1 = cc in absurd (omega arith)
+queued-fate fates.Clp p q e = let z : _≡_ {A = ℕ} 0 1 = cc in absurd (omega arith)
+queued-fate fates.Queued p q e = (cc, refl)
+
+plan-room : (u : U.Unit) (h : H.Heard) (q : ℕ) → hearing.planOf u h ≡ plans.Queue q → queue (u .outlet) q .count < capacity (u .outlet .limits) q
+unfolding hearing.planOf
+plan-room u sort.Length q e = let z : _≡_ {A = ℕ} 0 1 = cc in absurd (omega arith)
+plan-room u sort.Damaged q e = let z : _≡_ {A = ℕ} 0 1 = cc in absurd (omega arith)
+plan-room u (sort.Cell target class header) q e = pick (hearing.addressed u target) e
+  where
+    pick : (b : Bool) → cond b (hearing.planFor (fate (u .outlet) (u .settings .link) class header) (queueOf (u .outlet .limits) class)) (plans.Lost Other) ≡ plans.Queue q → queue (u .outlet) q .count < capacity (u .outlet .limits) q
+    pick true e =
+        let f = queued-fate (fate (u .outlet) (u .settings .link) class header) (queueOf (u .outlet .limits) class) q e in
+        subst (λ k. queue (u .outlet) k .count < capacity (u .outlet .limits) k) (f .0) (fate-iff (u .outlet) (u .settings .link) class header fates.Queued .0 (f .1) .1 .0)
+    pick false e = let z : _≡_ {A = ℕ} 0 1 = cc in absurd (omega arith)
+
+-- a unit that has heard a frame: another outlet, with the same limits, whose queues fit
+pub record Copied (u v : U.Unit) : Type 0 where
+  pub copy : v ≡ remade u (v .outlet) (u .inlet)
+  pub limits : Given (v .outlet .limits)
+  pub queues : RingsFit (v .outlet)
+
+pub copied : (u : U.Unit) (h : H.Heard) → Given (u .outlet .limits) → RingsFit (u .outlet) → Copied u (hearing.copyOf u h .unit)
+unfolding hearing.copyBy
+copied u h given fits = go (hearing.planOf u h) refl
+  where
+    go : (p : P.Plan) → hearing.planOf u h ≡ p → Copied u (hearing.copyBy p u .unit)
+    go (plans.Lost fate) e = record { copy = refl; limits = given; queues = fits }
+    go (plans.Queue q) e =
+        let few = plan-queue u h q e in
+        let cap = capacity (u .outlet .limits) q in
+        record {
+          copy = refl;
+          limits = given;
+          queues = queue-changed u q (pushed (queue (u .outlet) q)) fits
+              (pushed-fits cap (queue (u .outlet) q) (fits .each q few) (let a = start-inside (u .outlet .limits) q given few in omega arith) (plan-room u h q e));
+        }
+
+pub store-kept : (u : U.Unit) (h : H.Heard) (i : ℕ) (store : List ℕ) (cell : Cell) → Housed i u (length store) → length cell ≡ 56 → length (hearing.storeOf u h i store cell) ≡ length store
+unfolding hearing.storeBy
+store-kept u h i store cell housed whole = go (hearing.planOf u h) refl
+  where
+    go : (p : P.Plan) → hearing.planOf u h ≡ p → length (hearing.storeBy p u i store cell) ≡ length store
+    go (plans.Lost fate) e = refl
+    go (plans.Queue q) e = put-kept store i (outletSlot (u .outlet .limits) q (tail (queue (u .outlet) q) (capacity (u .outlet .limits) q))) cell (outlet-inside i (length store) u q housed (plan-queue u h q e)) whole

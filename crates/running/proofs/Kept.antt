@@ -1,0 +1,202 @@
+-- Soundness is kept by every event. Assumes nothing.
+use Prim.Native.Nat.{ℕ, _+_, _<_, _≤_, min}
+use native.Mathlib.Omega.{arith}
+use mathlib.Core.Path.{_≡_, refl, sym, ap, subst, _∙_}
+use mathlib.Core.Bool.{Bool, true, false, cond, false≢true}
+use mathlib.Core.List.{List, [], _∷_, _++_}
+use lib.Dec.{eqb, leb}
+use lib.ListN.{length, length-append, length-take, length-drop, take, drop}
+use borrow.Author.Tests.{eqb-true, leb-false}
+use Rattle.octets.specs.Octets.{part, be2, be4}
+use Rattle.card.specs.declared.Card.{Card}
+use Rattle.bus.specs.Frame.{cell, heard}
+use Rattle.bus.specs.declared.Heard as H
+use Rattle.outlet.specs.Outlets.{RingFits, queue, capacity}
+use Rattle.outlet.specs.declared.Ring.{Ring}
+use Rattle.outlet.specs.declared.Mode.{Mode}
+use Rattle.outlet.specs.declared.Mode.the-variants.{One, Four}
+use Rattle.queueing.specs.Taking.{leaving, queues}
+use Rattle.queueing.specs.declared.Leaving as L
+use Rattle.queueing.specs.declared.Leaving.the-variants as leaves
+use Rattle.queueing.proofs.Leaves.{leaving-iff}
+use Rattle.store.specs.Places.{putAt, inletSlot}
+use Rattle.store.specs.Rings.{tail, pushed, popped}
+use Rattle.store.proofs.Rounds.{pushed-fits, popped-fits}
+use Rattle.shelf.specs.Shelves.{declared, findIn}
+use Rattle.shelf.specs.declared.Unit as U
+use Rattle.shelf.specs.declared.Shelf.{Shelf}
+use Rattle.shelf.proofs.Finding.{find-at}
+use Rattle.soundness.specs.State.{Sound, soundOf}
+use Rattle.soundness.proofs.Facts.{sound-iff}
+use Rattle.counters.specs.Counting.{settled, settledTo}
+use Rattle.counters.proofs.Settling.{length-settled}
+use Rattle.answer.specs.Answers.{refused}
+use Rattle.answer.specs.declared.Done.{Done}
+use Rattle.answer.specs.declared.Arrival.the-variants.{Inletfull, Queued}
+use Rattle.admit.specs.Admission.{admitted, decided, unitAt, withUnit, withQueue, Housed}
+use Rattle.admit.specs.declared.Admitted as A
+use Rattle.admit.specs.declared.Admitted.the-variants.{At, Refused}
+use Rattle.admit.proofs.Laws.{LetIn, at-let-in, let-in-housed}
+use Rattle.arriving.specs.Arriving as arriving
+use Rattle.arriving.specs.declared.Way.{Way}
+use Rattle.arriving.specs.declared.Way.the-variants.{Bus, Lost}
+use Rattle.arriving.proofs.Leaves.{inlet-inside}
+use Rattle.hearing.specs.Hearings as hearing
+use Rattle.taking.specs.Takes as taking
+use Rattle.framing.specs.Frames as framing
+use Rattle.loading.specs.Loads.{loadDone}
+use Rattle.promise.proofs.Loads.{load-sound}
+use Rattle.running.specs.Events.{Event, arrive, frame, hear, take as takes, count, World, happens}
+use Rattle.running.specs.Keeping.{soundIn, SoundnessKept, run, loaded, NeverState}
+use Rattle.running.specs.Refusing.{known, fits}
+use Rattle.running.proofs.Refused.{refused-iff}
+use Rattle.running.proofs.Framed.{frame-shelf, frame-store}
+use Rattle.running.proofs.Changed.{queue-changed, shelf-changed}
+use Rattle.running.proofs.Copies.{put-kept, copied, store-kept}
+
+-- an event at a unit: what it does to the shelf, and the store's length
+module _ (card : Card) (w : World) (inside : ℕ → Done) (store : ℕ → List ℕ) (unit : ℕ) (right : Bool) where
+  abbrev s : ℕ
+  s = length (w .store)
+
+  abbrev n : ℕ
+  n = length (w .rows)
+
+  abbrev d : A.Admitted
+  d = admitted card (w .shelf) s n unit right
+
+  -- the world afterwards, by the way in
+  abbrev after : A.Admitted → Bool
+  after a =
+      let done = decided a inside (refused (w .shelf)) in
+      soundOf card (done .reply .shelf) (length (decided a store (λ number. w .store))) (length (settled (w .rows) (done .rises)))
+
+  at-unit : soundIn card w ≡ true →
+      ((i : ℕ) → i < length (declared (w .shelf)) → Sound card (w .shelf) s n → Housed i (unitAt (w .shelf) i) s → right ≡ true →
+      Sound card (inside i .reply .shelf) s n × (length (store i) ≡ s)) →
+      after d ≡ true
+  unfolding decided settledTo
+  at-unit sound kept = go d refl
+    where
+      go : (a : A.Admitted) → d ≡ a → after a ≡ true
+      go (Refused number) e = sound
+      go (At i) e =
+          let l = at-let-in card (w .shelf) s n unit right i e in
+          let k = kept i (find-at unit (declared (w .shelf)) i .0 (l .found) .inside) (sound-iff card (w .shelf) s n .0 sound) (let-in-housed card (w .shelf) s n unit right i l .0) (l .fits) in
+          (λ t. soundOf card (inside i .reply .shelf) (k .1 t) (length-settled (w .rows) (inside i .rises) (inside i .rises .to) t)) ∙ sound-iff card (inside i .reply .shelf) s n .1 (k .0)
+
+-- arrival: one cell more in an inlet that has room
+module _ (card : Card) (shelf : Shelf) (store c : List ℕ) (rows i : ℕ) (here : i < length (declared shelf)) (sound : Sound card shelf (length store) rows) (housed : Housed i (unitAt shelf i) (length store)) (whole : length c ≡ 53) where
+  abbrev u : U.Unit
+  u = unitAt shelf i
+
+  composed-length : (routing header : ℕ) → length (cell routing 0 header (part c 5 48)) ≡ 56
+  unfolding cell
+  composed-length routing header =
+      length-append (be2 routing ++ be2 0 ++ be4 header) (part c 5 48) ∙ (let a = length-take 48 (drop 5 c) in let b = length-drop 5 c in omega arith)
+
+  more : u .inlet .count < 4 → u .inlet .count ≤ pushed (u .inlet) .count
+  unfolding pushed
+  more room = omega arith
+
+  arrived : (way : Way) → Sound card (arriving.doneBy way shelf i .reply .shelf) (length store) rows × (length (arriving.storeBy way u i store c) ≡ length store)
+  unfolding arriving.doneBy arriving.storeBy
+  arrived (Lost fate) = (sound, refl)
+  arrived (Bus routing header) = pick (arriving.inletFull u) refl
+    where
+      pick : (b : Bool) → arriving.inletFull u ≡ b →
+          Sound card (cond b (arriving.arrived shelf i Inletfull) (arriving.arrived (arriving.cellIn shelf i) i Queued) .reply .shelf) (length store) rows
+          × (length (cond b store (putAt store i (inletSlot (tail (u .inlet) 4)) (cell routing 0 header (part c 5 48)))) ≡ length store)
+      pick true t = (sound, refl)
+      pick false t =
+          let room : u .inlet .count < 4 = leb-false 4 (u .inlet .count) t in (
+            shelf-changed card shelf (length store) rows i (u .outlet) (pushed (u .inlet)) here sound (housed .limits) (housed .queues) (pushed-fits 4 (u .inlet) (housed .inlet) (omega arith) room) (more room),
+            put-kept store i (inletSlot (tail (u .inlet) 4)) (cell routing 0 header (part c 5 48)) (inlet-inside i (length store) (u .inlet) (housed .inside) (housed .inlet) room) (composed-length routing header),
+          )
+
+module _ (card : Card) (shelf : Shelf) (bytes rows i : ℕ) (here : i < length (declared shelf)) (sound : Sound card shelf bytes rows) (housed : Housed i (unitAt shelf i) bytes) where
+  abbrev v : U.Unit
+  v = unitAt shelf i
+
+  -- a queue changed, the inlet as it was
+  changed : (q : ℕ) (ring : Ring) → RingFits ring (capacity (v .outlet .limits) q) → Sound card (withUnit shelf i (withQueue v q ring)) bytes rows
+  changed q ring fits =
+      shelf-changed card shelf bytes rows i (withQueue v q ring .outlet) (v .inlet) here sound (housed .limits) (queue-changed v q ring (housed .queues) fits) (housed .inlet) (omega arith)
+
+  heard-by : (h : H.Heard) → Sound card (withUnit shelf i (hearing.copyOf v h .unit)) bytes rows
+  heard-by h =
+      let k = copied v h (housed .limits) (housed .queues) in
+      subst (λ x. Sound card (withUnit shelf i x) bytes rows) (sym (k .copy))
+      (shelf-changed card shelf bytes rows i (hearing.copyOf v h .unit .outlet) (v .inlet) here sound (k .limits) (k .queues) (housed .inlet) (omega arith))
+
+  taken : (l : L.Leaving) → leaving (v .outlet) ≡ l → Sound card (taking.doneBy l shelf i .reply .shelf) bytes rows
+  unfolding taking.doneBy
+  taken leaves.Empty e = sound
+  taken (leaves.Queue q) e =
+      changed q (popped (queue (v .outlet) q) (capacity (v .outlet .limits) q))
+      (popped-fits (capacity (v .outlet .limits) q) (queue (v .outlet) q) (housed .queues .each q (few (v .outlet .limits .mode) (leaving-iff (v .outlet) (leaves.Queue q) .0 e .0))))
+    where
+      few : (m : Mode) → q < queues m → q < 4
+      few One h = omega arith
+      few Four h = h
+
+either-way : (store : List ℕ) (a : A.Admitted) → decided a (λ place. store) (λ number. store) ≡ store
+unfolding decided
+either-way store (At place) = refl
+either-way store (Refused number) = refl
+
+-- a frame: refused, or sent, heard and granted
+framed : (card : Card) (w : World) (s r : Bool) (good : Done) (store : List ℕ) → s ≡ true → soundIn card w ≡ true →
+    soundOf card (good .reply .shelf) (length store) (length (settled (w .rows) (good .rises))) ≡ true →
+    let done = cond s (cond r good (refused (w .shelf) 10)) (refused (w .shelf) 8) in
+    soundOf card (done .reply .shelf) (length (cond s (cond r store (w .store)) (w .store))) (length (settled (w .rows) (done .rises))) ≡ true
+unfolding settledTo
+framed card w true true good store e sound k = k
+framed card w true false good store e sound k = sound
+framed card w false r good store e sound k = absurd (false≢true e)
+
+pub soundness-kept : SoundnessKept
+unfolding happens framing.checked
+soundness-kept card w (arrive unit c) sound =
+    at-unit card w (λ place. arriving.doneAt card (w .shelf) place (w .memory) c) (λ place. arriving.storeAt card (w .shelf) place (w .memory) (w .store) c) unit (eqb (length c) 53) sound
+    (λ i here s housed fits. arrived card (w .shelf) (w .store) c (length (w .rows)) i here s housed (eqb-true (length c) 53 fits) (arriving.wayOf card (unitAt (w .shelf) i) (w .memory) c))
+soundness-kept card w (frame buffer) sound =
+    let good = framing.doneAt (w .shelf) (w .store) in
+    framed card w (soundIn card w) (eqb (length buffer) 57) good (framing.storeAt (w .shelf) (w .store)) sound sound
+    ((λ t. soundOf card (good .reply .shelf) (frame-store card (w .shelf) (w .store) (length (w .rows)) sound (framing.sender (w .shelf)) refl t) (length-settled (w .rows) (good .rises) (good .rises .to) t))
+    ∙ sound-iff card (good .reply .shelf) (length (w .store)) (length (w .rows)) .1 (frame-shelf card (w .shelf) (w .store) (length (w .rows)) sound (framing.sender (w .shelf)) refl))
+soundness-kept card w (hear unit f) sound =
+    at-unit card w (λ place. hearing.doneAt (w .shelf) place f) (λ place. hearing.storeAt (w .shelf) place (w .store) f) unit (eqb (length f) 57) sound
+    (λ i here s housed fits. (
+      heard-by card (w .shelf) (length (w .store)) (length (w .rows)) i here s housed (heard f),
+      store-kept (unitAt (w .shelf) i) (heard f) i (w .store) (take 56 f) housed (let a = length-take 56 f in let b = eqb-true (length f) 57 fits in omega arith),
+    ))
+soundness-kept card w (takes unit b) sound =
+    let done = taking.takeDone card (w .shelf) (length (w .store)) (length (w .rows)) unit (length b) in
+    let rows = settled (w .rows) (done .rises) in
+    ap (λ x. soundOf card (done .reply .shelf) (length x) (length rows)) (sym (either-way (w .store) (admitted card (w .shelf) (length (w .store)) (length (w .rows)) unit (eqb (length b) 53))))
+    ∙ at-unit card w (taking.doneAt (w .shelf)) (λ place. w .store) unit (eqb (length b) 53) sound
+    (λ i here s housed fits. (taken card (w .shelf) (length (w .store)) (length (w .rows)) i here s housed _ refl, refl))
+soundness-kept card w (count unit) sound = sound
+
+runs-kept : (card : Card) (w : World) (es : List Event) → soundIn card w ≡ true → soundIn card (run card w es) ≡ true
+unfolding run
+runs-kept card w [] sound = sound
+runs-kept card w (e ∷ es) sound = runs-kept card (happens card w e .world) es (soundness-kept card w e sound)
+
+-- a sound world is not refused as State
+other : (s k f : Bool) → s ≡ true → _≡_ {A = ℕ} (cond s (cond k (cond f 0 10) 9) 8) 8 → ⊥
+other true true true t q = omega arith
+other true true false t q = omega arith
+other true false f t q = omega arith
+other false k f t q = false≢true t
+
+not-state : (card : Card) (w : World) (e : Event) → soundIn card w ≡ true → happens card w e .number ≡ 8 → ⊥
+not-state card w e sound eight = other (soundIn card w) (known (w .shelf) e) (fits e) sound (sym (refused-iff card w e) ∙ eight)
+
+pub never-state : NeverState
+never-state card text memory store rows es e =
+    let done = loadDone card text memory (length store) (length rows) in
+    not-state card (run card (loaded card text memory store rows) es) e
+    (runs-kept card (loaded card text memory store rows) es
+    (ap (soundOf card (done .reply .shelf) (length store)) (length-settled rows (done .rises) (done .rises .to)) ∙ load-sound card text memory (length store) (length rows)))

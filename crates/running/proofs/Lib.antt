@@ -1,0 +1,7 @@
+pub mod Refused
+pub mod Changed
+pub mod Copies
+pub mod Asking
+pub mod Sent
+pub mod Framed
+pub mod Kept

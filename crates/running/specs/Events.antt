@@ -1,0 +1,89 @@
+-- One event on a running shelf: what the contracts of `entry` say, side by side. Assumes nothing.
+use Prim.Native.Nat.{ℕ}
+use mathlib.Core.List.{List, []}
+use lib.ListN.{length}
+use Rattle.card.specs.declared.Card.{Card}
+use Rattle.shelf.specs.declared.Shelf.{Shelf}
+use Rattle.answer.specs.Answers.{numberOf}
+use Rattle.answer.specs.declared.Done.{Done}
+use Rattle.counters.specs.Counting.{settled}
+use Rattle.counters.specs.declared.Counters as C
+use Rattle.admit.specs.Admission.{counted}
+use Rattle.arriving.specs.Arriving.{arriveDone, arriveStore}
+use Rattle.hearing.specs.Hearings.{hearDone, hearStore}
+use Rattle.taking.specs.Takes.{takeDone, takeBuffer}
+use Rattle.framing.specs.Frames.{frameDone, frameStore, frameBuffer}
+use Rattle.entry.specs.Counts.{countOf}
+use Rattle.entry.specs.declared.Counted.{Counted}
+use Rattle.entry.specs.declared.Counted.the-variants.{Counters, Refused}
+
+-- every event of 01 with every argument: a cell, a frame or a buffer is a list of bytes of any length
+pub data Event : Type 0 where
+  arrive : ℕ → List ℕ → Event
+  frame : List ℕ → Event
+  hear : ℕ → List ℕ → Event
+  take : ℕ → List ℕ → Event
+  count : ℕ → Event
+
+-- what a shelf runs with
+pub record World : Type 0 where
+  pub shelf : Shelf
+  pub memory : List ℕ
+  pub store : List ℕ
+  pub rows : List C.Counters
+
+-- what comes of an event: 01's number, 0 where nothing is refused; the world, and the bytes that were lent with the event, as they are afterwards
+pub record Outcome : Type 0 where
+  pub number : ℕ
+  pub world : World
+  pub bytes : List ℕ
+
+-- the bytes that are lent with an event
+unfoldable pub bytesOf : Event → List ℕ
+bytesOf (arrive unit cell) = cell
+bytesOf (frame buffer) = buffer
+bytesOf (hear unit heard) = heard
+bytesOf (take unit buffer) = buffer
+bytesOf (count unit) = []
+
+-- what is done, with the store and the lent bytes afterwards
+abbrev pub ended : World → Done → List ℕ → List ℕ → Outcome
+ended w done store bytes =
+    record {
+      number = numberOf (done .reply .answer);
+      world = record { shelf = done .reply .shelf; memory = w .memory; store = store; rows = settled (w .rows) (done .rises) };
+      bytes = bytes;
+    }
+
+unfoldable pub countNumber : Counted → ℕ
+countNumber (Counters row) = 0
+countNumber (Refused number) = number
+
+-- each line is the contract of the entry point with that name
+unfoldable pub happens : Card → World → Event → Outcome
+happens card w (arrive unit cell) =
+    ended w
+    (arriveDone card (w .shelf) (w .memory) (length (w .store)) (length (w .rows)) unit cell)
+    (arriveStore card (w .shelf) (w .memory) (w .store) (length (w .rows)) unit cell)
+    cell
+happens card w (frame buffer) =
+    ended w
+    (frameDone card (w .shelf) (w .store) (length (w .rows)) (length buffer))
+    (frameStore card (w .shelf) (w .store) (length (w .rows)) (length buffer))
+    (frameBuffer card (w .shelf) (w .store) (length (w .rows)) buffer)
+happens card w (hear unit heard) =
+    ended w
+    (hearDone card (w .shelf) (length (w .store)) (length (w .rows)) unit heard)
+    (hearStore card (w .shelf) (w .store) (length (w .rows)) unit heard)
+    heard
+happens card w (take unit buffer) =
+    ended w
+    (takeDone card (w .shelf) (length (w .store)) (length (w .rows)) unit (length buffer))
+    (w .store)
+    (takeBuffer card (w .shelf) (w .store) (length (w .rows)) unit buffer)
+happens card w (count unit) =
+    record {
+      number = countNumber (countOf (counted card (w .shelf) (length (w .store)) (length (w .rows)) unit) (w .rows));
+      world = w;
+      bytes = [];
+    }

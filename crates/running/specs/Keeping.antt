@@ -1,0 +1,40 @@
+-- Soundness is kept: "a good load gives a sound shelf, and every event keeps it sound". Assumes nothing.
+use Prim.Native.Nat.{ℕ}
+use mathlib.Core.Path.{_≡_}
+use mathlib.Core.Bool.{Bool, true}
+use mathlib.Core.List.{List, [], _∷_}
+use lib.ListN.{length}
+use Rattle.card.specs.declared.Card.{Card}
+use Rattle.soundness.specs.State.{soundOf}
+use Rattle.counters.specs.Counting.{settled}
+use Rattle.counters.specs.declared.Counters as C
+use Rattle.loading.specs.Loads.{loadDone, loadMemory}
+use Rattle.running.specs.Events.{Event, World, happens}
+
+-- no event on this world is refused as State
+abbrev pub soundIn : Card → World → Bool
+soundIn card w = soundOf card (w .shelf) (length (w .store)) (length (w .rows))
+
+-- every event, with every argument, leaves a sound world sound
+abbrev pub SoundnessKept : Type 0
+SoundnessKept = (card : Card) (w : World) (e : Event) → soundIn card w ≡ true → soundIn card (happens card w e .world) ≡ true
+
+-- one event after the other
+unfoldable pub run : Card → World → List Event → World
+run card w [] = w
+run card w (e ∷ es) = run card (happens card w e .world) es
+
+-- the world that the contract of `entry::load` leaves, good table or not
+abbrev pub loaded : Card → List ℕ → List ℕ → List ℕ → List C.Counters → World
+loaded card text memory store rows =
+    record {
+      shelf = loadDone card text memory (length store) (length rows) .reply .shelf;
+      memory = loadMemory card text memory (length store) (length rows);
+      store = store;
+      rows = settled rows (loadDone card text memory (length store) (length rows) .rises);
+    }
+
+-- from any load on, over every sequence of events, none is refused as State
+abbrev pub NeverState : Type 0
+NeverState =
+    (card : Card) (text memory store : List ℕ) (rows : List C.Counters) (es : List Event) (e : Event) → happens card (run card (loaded card text memory store rows) es) e .number ≡ 8 → ⊥

@@ -1,0 +1,47 @@
+-- Demand 1 over every event: "A bad .. frame, cell, buffer or shelf state is refused with a fixed number"; "every other refusal changes nothing". Assumes nothing.
+use Prim.Native.Nat.{ℕ}
+use mathlib.Core.Path.{_≡_}
+use mathlib.Core.Bool.{Bool, true, false, cond}
+use lib.Dec.{eqb}
+use lib.ListN.{length}
+use Rattle.card.specs.declared.Card.{Card}
+use Rattle.shelf.specs.Shelves.{declared, findIn}
+use Rattle.shelf.specs.declared.Shelf.{Shelf}
+use Rattle.shelf.specs.declared.Found as F
+use Rattle.shelf.specs.declared.Found.the-variants.{At, Nothing}
+use Rattle.soundness.specs.State.{soundOf}
+use Rattle.running.specs.Events.{Event, arrive, frame, hear, take, count, World, Outcome, bytesOf, happens}
+
+unfoldable pub there : F.Found → Bool
+there (At place) = true
+there Nothing = false
+
+-- "9 Unit: unit not declared"; a frame names none
+unfoldable pub known : Shelf → Event → Bool
+known shelf (arrive unit cell) = there (findIn (declared shelf) unit)
+known shelf (frame buffer) = true
+known shelf (hear unit heard) = there (findIn (declared shelf) unit)
+known shelf (take unit buffer) = there (findIn (declared shelf) unit)
+known shelf (count unit) = there (findIn (declared shelf) unit)
+
+-- "10 Length: cell slice or buffer not 53 bytes, frame not 57"
+unfoldable pub fits : Event → Bool
+fits (arrive unit cell) = eqb (length cell) 53
+fits (frame buffer) = eqb (length buffer) 57
+fits (hear unit heard) = eqb (length heard) 57
+fits (take unit buffer) = eqb (length buffer) 53
+fits (count unit) = true
+
+-- "Refusals 8 to 10, in that order"; 0 where none of them is given
+abbrev pub refusal : Card → World → Event → ℕ
+refusal card w e =
+    cond (soundOf card (w .shelf) (length (w .store)) (length (w .rows))) (cond (known (w .shelf) e) (cond (fits e) 0 10) 9) 8
+
+-- each of 8 to 10 is given exactly when its condition holds and none before it does, for every event on every world
+abbrev pub RefusedIff : Type 0
+RefusedIff = (card : Card) (w : World) (e : Event) → happens card w e .number ≡ refusal card w e
+
+-- "Refusals 8 to 10 .. change nothing": shelf, memory, store, rows and the lent bytes are as they were
+abbrev pub RefusalChangesNothing : Type 0
+RefusalChangesNothing =
+    (card : Card) (w : World) (e : Event) → (refusal card w e ≡ 0 → ⊥) → happens card w e ≡ record { number = refusal card w e; world = w; bytes = bytesOf e }

@@ -1,0 +1,17 @@
+-- `setting::mode_if` meets its contract. Assumes nothing.
+use borrow.Author.Tests.{eq-eqb, ne-eqb}
+use Rattle.setting.proofs.mode_if.Statement.{statement}
+use Rattle.setting.proofs.mode_if.Tie as tie
+
+returns : tie.Need-returns
+returns c = simp (eq-eqb _ _ (c .before .if1 .taken), eq-eqb _ _ (c .if2 .taken))
+
+returns-2 : tie.Need-returns-2
+returns-2 c = simp (eq-eqb _ _ (c .before .if1 .taken), ne-eqb _ _ (c .if2 .left))
+
+returns-3 : tie.Need-returns-3
+returns-3 c = simp (ne-eqb _ _ (c .if1 .left))
+
+pub mode-if-spec : {M : Type 1} → statement M
+mode-if-spec =
+    tie.close (tie.spec returns returns-2 returns-3)

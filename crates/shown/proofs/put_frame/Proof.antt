@@ -1,0 +1,39 @@
+-- `shown::put_frame` meets its contract. Assumes nothing.
+use Rattle.words.proofs.Splices.{then}
+use native.Mathlib.Omega.{arith}
+use borrow.Author.Needs.{needs}
+use Rattle.shown.proofs.put_frame.Statement.{statement}
+use Rattle.shown.proofs.put_frame.Tie as tie
+
+slice-aggregate-say : tie.Need-slice-aggregate-say
+slice-aggregate-say c = search needs
+
+say-requires : tie.Need-say-requires
+say-requires c κs = search needs
+
+put-unit-requires : tie.Need-put-unit-requires
+put-unit-requires c κs = search needs
+
+put-unit-requires-2 : tie.Need-put-unit-requires-2
+put-unit-requires-2 c κs = search needs
+
+put-number-requires : tie.Need-put-number-requires
+put-number-requires c κs = search needs
+
+same-length : tie.Need-same-length
+same-length c = search needs
+
+returns : tie.Need-returns
+returns c = (then _ _ _ _ _ _ _ _ (then _ _ _ _ _ _ _ _ (then _ _ _ _ _ _ _ _ (c .before .before .before .before .before .before .before .before .before .before .before .before .before .before .say .ensures .0) (c .before .before .before .before .before .before .before .before .before .before .put-unit .ensures .0) (omega arith)) (c .before .before .before .before .before .before .put-unit2 .ensures .0) (omega arith)) (c .before .before .put-number .ensures .0) (omega arith), omega arith)
+
+pub put-frame-spec : {M : Type 1} → statement M
+put-frame-spec =
+    tie.close
+    (tie.spec
+    slice-aggregate-say
+    say-requires
+    put-unit-requires
+    put-unit-requires-2
+    put-number-requires
+    same-length
+    returns)

@@ -1,0 +1,42 @@
+-- `shown::put_unit` meets its contract. Assumes nothing.
+use borrow.Author.Tests.{eq-eqb, ne-eqb}
+use Rattle.shown.specs.Lines.{unitField}
+use native.Mathlib.Omega.{arith}
+use borrow.Author.Needs.{needs}
+use Rattle.shown.proofs.put_unit.Statement.{statement}
+use Rattle.shown.proofs.put_unit.Tie as tie
+
+slice-aggregate-put : tie.Need-slice-aggregate-put
+slice-aggregate-put c = search needs
+
+put-requires : tie.Need-put-requires
+put-requires c κs = search needs
+
+same-length : tie.Need-same-length
+same-length c = search needs
+
+returns : tie.Need-returns
+unfolding unitField
+returns c = (rw (eq-eqb _ _ (c .before .before .before .before .before .if1 .taken)) (c .before .before .put .ensures), omega arith)
+
+put-number-requires : tie.Need-put-number-requires
+put-number-requires c κs = search needs
+
+same-length-2 : tie.Need-same-length-2
+same-length-2 c = search needs
+
+returns-2 : tie.Need-returns-2
+unfolding unitField
+returns-2 c = rw (ne-eqb _ _ (c .before .before .before .before .if1 .left)) (c .before .before .put-number .ensures)
+
+pub put-unit-spec : {M : Type 1} → statement M
+put-unit-spec =
+    tie.close
+    (tie.spec
+    slice-aggregate-put
+    put-requires
+    same-length
+    returns
+    put-number-requires
+    same-length-2
+    returns-2)

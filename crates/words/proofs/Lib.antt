@@ -1,0 +1,4 @@
+pub mod Splices
+pub mod HexLaws
+pub mod NumberLaws
+pub mod Roundtrip

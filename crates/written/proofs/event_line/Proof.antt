@@ -1,0 +1,46 @@
+-- `written::event_line` meets its contract. Assumes nothing.
+use native.Mathlib.Omega.{arith}
+use Rattle.written.specs.Lines.{wordOf}
+use Rattle.written.proofs.Joins.{three, fits, no-line}
+use borrow.Author.Needs.{needs}
+use Rattle.written.proofs.event_line.Statement.{statement}
+use Rattle.written.proofs.event_line.Tie as tie
+
+returns : tie.Need-returns
+returns c = no-line _ _ (c .if1 .taken)
+
+put-word-requires : tie.Need-put-word-requires
+put-word-requires c κs = search needs
+
+unit-of-requires : tie.Need-unit-of-requires
+unit-of-requires c κs = search needs
+
+put-outcome-requires : tie.Need-put-outcome-requires
+put-outcome-requires c κs = search needs
+
+slice-aggregate-put : tie.Need-slice-aggregate-put
+slice-aggregate-put c = search needs
+
+put-requires : tie.Need-put-requires
+put-requires c κs = search needs
+
+same-length : tie.Need-same-length
+same-length c = search needs
+
+returns-2 : tie.Need-returns-2
+returns-2 c =
+    rw (fits _ _ (c .before .before .before .before .before .before .before .before .before .before .before .before .before .before .if1 .left), ← c .before .before .before .before .before .before .before .before .unit-of .ensures)
+    (three (c .before .before .before .before .before .before .before .before .before .before .before .before .before .before .before .before .before .args .out .now) (c .before .before .before .before .before .before .before .before .before .before .before .before .put-word .last .0) (c .before .before .before .before .before .before .before .put-outcome .last .0) _ (wordOf (c .before .before .before .before .before .before .before .before .before .before .before .before .before .before .before .before .before .args .event)) _ _ _ _ _ (c .before .before .before .before .before .before .before .before .before .before .before .before .put-word .ensures .0) (c .before .before .before .before .before .before .before .put-outcome .ensures .0) (c .before .before .put .ensures) (omega arith) (omega arith))
+
+pub event-line-spec : {M : Type 1} → statement M
+event-line-spec =
+    tie.close
+    (tie.spec
+    returns
+    put-word-requires
+    unit-of-requires
+    put-outcome-requires
+    slice-aggregate-put
+    put-requires
+    same-length
+    returns-2)

@@ -1,0 +1,55 @@
+-- `written::unit_of` meets its contract. Assumes nothing.
+use Rattle.written.specs.Lines.{unitOf}
+use borrow.Author.Needs.{needs}
+use Rattle.written.proofs.unit_of.Statement.{statement}
+use Rattle.written.proofs.unit_of.Tie as tie
+
+enum-known-event : tie.Need-enum-known-event
+enum-known-event c = search needs
+
+enum-told : tie.Need-enum-told
+enum-told c = search needs
+
+enum-known-event-2 : tie.Need-enum-known-event-2
+enum-known-event-2 c = search needs
+
+enum-known-event-3 : tie.Need-enum-known-event-3
+enum-known-event-3 c = search needs
+
+enum-told-2 : tie.Need-enum-told-2
+enum-told-2 c = search needs
+
+returns : tie.Need-returns
+unfolding unitOf
+returns c = rw (c .before .event .given .1)
+
+returns-2 : tie.Need-returns-2
+unfolding unitOf
+returns-2 c = rw (c .enum-told .given .1)
+
+returns-3 : tie.Need-returns-3
+unfolding unitOf
+returns-3 c = rw (c .before .event2 .given .1)
+
+returns-4 : tie.Need-returns-4
+unfolding unitOf
+returns-4 c = rw (c .before .event3 .given .1)
+
+returns-5 : tie.Need-returns-5
+unfolding unitOf
+returns-5 c = rw (c .enum-told2 .given .1)
+
+pub unit-of-spec : {M : Type 1} → statement M
+unit-of-spec =
+    tie.close
+    (tie.spec
+    enum-known-event
+    enum-told
+    enum-known-event-2
+    enum-known-event-3
+    enum-told-2
+    returns
+    returns-2
+    returns-3
+    returns-4
+    returns-5)

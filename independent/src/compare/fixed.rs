@@ -1,0 +1,259 @@
+//! Fixed scripts: document 01's values on each side of a line, and figures 15 and 16 of document 004.
+
+use super::script::{cell, frame, to_unit, Script};
+use crate::codec::{Header, Link};
+
+/// Tabs shown as blanks.
+const LISTING: &str = "\
+bus 16
+unit 0 uni 5 2 one 0 0 100 0
+unit 3 uni 0 1 four 40 30 20 1
+page 0 5 33
+vc 0 5 33 u3 2 9 40
+";
+
+#[rustfmt::skip]
+const SCRIPTS: [fn(&mut Script); 12] = [
+    fresh_start, listing, inlet, figure_15, figure_16, outgoing_vpi, states, mode_one, far_records, whole_memory,
+    long_texts, long_lines,
+];
+
+/// Place 0 is unit 4 in mode one, place 1 unit 9 in mode four.
+const TWO_UNITS: &str = "\
+bus 16
+unit 4 uni 5 2 one 0 0 100 0
+unit 9 uni 7 3 four 40 30 20 0
+vp 4 1 u9 1 7
+vp 4 2 b 3 8
+";
+
+/// Settings on both sides of every line that State draws, on a shelf of the two units.
+#[rustfmt::skip]
+const STATES: &[&str] = &[
+    "bus 0 0", "bus 0 15", "bus 0 16", "bus 0 17", "bus 0 31", "bus 0 32", "bus 0 33", "bus 0 255",
+    "number 0 9", "number 1 4", "number 0 15", "number 0 16", "number 0 31", "number 0 255", "number 2 4",
+    "bus 0 32,number 0 16", "bus 0 32,number 0 31", "bus 0 32,number 0 32", "count 0 0", "count 0 1", "count 0 3",
+    "count 0 32", "count 0 33", "count 0 255", "top 0 0", "top 0 255", "top 0 256", "link 0 1,top 0 4095",
+    "link 0 1,top 0 4096", "top 0 65535", "priority 0 0", "priority 0 1", "priority 0 3", "priority 0 4",
+    "vbrlimit 0 0", "vbrlimit 0 1", "vbrlimit 0 123", "vbrlimit 0 124", "cbrlength 0 1", "cbrlimit 0 1", "mode 0 1",
+    "mode 1 0", "cbrlimit 1 0", "cbrlimit 1 1", "cbrlimit 1 40", "cbrlimit 1 41", "vbrlimit 1 0", "vbrlimit 1 49",
+    "vbrlimit 1 50", "cbrlength 1 0", "cbrlength 1 29", "cbrlength 1 30", "cbrlength 1 69", "cbrlength 1 70",
+    "cbrlimit 1 1,vbrlimit 1 1,cbrlength 1 1", "cbrlimit 1 1,vbrlimit 1 1,cbrlength 1 88",
+    "cbrlimit 1 1,vbrlimit 1 1,cbrlength 1 89", "cbrlimit 1 1,vbrlimit 1 1,cbrlength 1 90", "queuehead 0 122",
+    "queuehead 0 123", "queuecount 0 123", "queuecount 0 124", "queuehead 1 1", "queuecount 3 1", "queuehead 4 1",
+    "queuehead 4 2", "queuecount 4 2", "queuecount 4 3", "queuehead 5 39", "queuehead 5 40", "queuecount 5 40",
+    "queuecount 5 41", "queuehead 6 48", "queuehead 6 49", "queuecount 6 49", "queuecount 6 50", "queuehead 7 31",
+    "queuehead 7 32", "queuecount 7 32", "queuecount 7 33", "inlethead 0 3", "inlethead 0 4", "inletcount 0 4",
+    "inletcount 0 5", "granted 0 4", "granted 0 5", "granted 0 254", "inletcount 0 1,granted 0 4",
+    "inletcount 0 1,granted 0 9", "asks 4 2", "asks 31 1", "inletcount 0 1,asks 4 2", "inletcount 0 1,asks 4 1",
+    "inletcount 0 1,asks 4 255", "inletcount 0 1,asks 9 3", "inletcount 0 1,asks 5 2",
+    "inletcount 0 1,granted 0 4,asks 4 2", "inletcount 0 2,granted 0 4,asks 4 2",
+    "inletcount 0 2,granted 0 4,asks 4 3", "inletcount 0 1,inletcount 1 1,granted 0 9,asks 4 2",
+    "inletcount 0 1,inletcount 1 1,granted 0 9,asks 9 3", "last 0 4", "last 1 9", "last 2 5", "last 2 31",
+    "last 0 254", "link 0 1", "link 2 1", "place 0 4294967295", "frame 0 65535", "mark 0 1",
+];
+
+pub fn count() -> u64 {
+    SCRIPTS.len() as u64
+}
+
+/// The fixed script of a number below the count.
+pub fn script(number: u64) -> Script {
+    let mut script = Script::default();
+    SCRIPTS[number as usize](&mut script);
+    script
+}
+
+/// Lends plenty and loads a table with blanks for tabs.
+fn stage(script: &mut Script, table: &str) {
+    script.say("card wide");
+    script.lend(16_384, 32_768, 5);
+    script.load(table.replace(' ', "\t").as_bytes());
+}
+
+fn plain(vpi: u16, vci: u16, tail: u8) -> Header {
+    Header { vpi, vci, tail }
+}
+
+/// What there is before anything is lent; leads back to it for whoever comes after.
+fn fresh_start(script: &mut Script) {
+    script.show_all();
+    script.frames(2);
+    ["take 0 53", "count 0", "show shelf"].iter().for_each(|line| script.say(line));
+    script.load(b"");
+    script.show_all();
+}
+
+fn listing(script: &mut Script) {
+    stage(script, LISTING);
+    script.say("show memory");
+    script.arrive(0, &cell([0x00, 0x50, 0x02, 0x10], &[0xA5; 48]));
+    let mut wrong = cell([0x10, 0x50, 0x02, 0x10], &[0xA5; 48]);
+    wrong[4] = 0x4F;
+    script.arrive(0, &wrong);
+    script.frames(2);
+    ["take 3 53", "take 3 53", "count 3", "count 0"].iter().for_each(|line| script.say(line));
+    script.show_all();
+}
+
+/// Cell 4 is queued, cell 5 finds the inlet full.
+fn inlet(script: &mut Script) {
+    stage(script, LISTING);
+    for payload in 1..=5 {
+        script.arrive(0, &cell([0x00, 0x50, 0x02, 0x10], &[payload; 48]));
+    }
+    script.say("count 0");
+    script.frames(7);
+    script.show_all();
+}
+
+/// Each setting on both cards, and what the events make of it.
+fn states(script: &mut Script) {
+    for (card, settings) in
+        ["card wide", "card narrow"].iter().flat_map(|card| STATES.iter().map(move |set| (card, set)))
+    {
+        script.say(card);
+        script.lend(200, 16_384, 2);
+        script.load(TWO_UNITS.replace(' ', "\t").as_bytes());
+        settings.split(',').for_each(|setting| script.say(&format!("state {setting}")));
+        script.arrive(4, &cell(plain(2, 7, 0).write(Link::Uni), &[9; 48]));
+        script.frames(2);
+        ["take 9 53", "take 4 53", "count 4", "show shelf"].iter().for_each(|line| script.say(line));
+    }
+    script.show_all();
+}
+
+/// Cell 123 is queued with CLP 0, cell 124 finds the queue full.
+fn mode_one(script: &mut Script) {
+    stage(script, "bus 16\nunit 5 uni 5 2 one 0 0 123 1\n");
+    for number in 1..=125 {
+        script.hear(5, &frame(to_unit(5, 1), [0, 0], plain(1, 1, 0), &[number; 48]));
+    }
+    script.hear(5, &frame(to_unit(5, 1), [0, 0], plain(1, 1, 1), &[0; 48]));
+    script.say("count 5");
+    (0..124).for_each(|_| script.say("take 5 53"));
+    script.show_all();
+}
+
+/// A good table of exactly this many bytes, at least 100.
+fn table_of(length: usize) -> Vec<u8> {
+    let mut text =
+        "bus\t32\nunit\t0\tnni\t4095\t1\tone\t0\t0\t1\t0\nunit\t1\tnni\t4095\t1\tone\t0\t0\t1\t0\n".to_string();
+    let mut drops = (0..2).flat_map(|unit| (1_000..4_096).map(move |vpi| format!("drop\t{unit}\t{vpi}\n")));
+    while length - text.len() > 36 {
+        text += &drops.next().expect("lines enough");
+    }
+    // Lines of 7, 8 and 9 bytes make up any length from 21 to 27 or 28 to 36.
+    let lines = if length - text.len() <= 27 { 3 } else { 4 };
+    for line in 0..lines {
+        let rest = length - text.len() - 7 * (lines - line - 1);
+        let session = [line, 10 + line, 100 + line][(rest - 7).min(2)];
+        text += &format!("mc\t0\t{session}\n");
+    }
+    text.into_bytes()
+}
+
+/// A text of 65,536 bytes is read, one of 65,537 is Long; 70,000 can be handed in.
+fn long_texts(script: &mut Script) {
+    script.say("card wide");
+    script.lend(300_000, 20_000, 3);
+    for length in [65_536, 65_537] {
+        script.load(&table_of(length));
+        script.show_all();
+    }
+    for length in [65_536, 65_537, 70_000, 70_001] {
+        script.load(&vec![b'x'; length]);
+    }
+    script.load(&b"\n".repeat(65_536));
+    script.arrive(0, &[0; 70_000]);
+    script.hear(0, &[0; 70_001]);
+}
+
+/// Outgoing VPI 255 is good on the narrow card, 256 is Wide.
+fn outgoing_vpi(script: &mut Script) {
+    for card in ["card narrow", "card wide"] {
+        for vpi in [255, 256] {
+            let table = format!("bus 16\nunit 0 uni 1 1 one 0 0 1 0\nvp 0 1 u0 1 {vpi}\n");
+            stage(script, "bus 16\n");
+            script.say(card);
+            script.load(table.replace(' ', "\t").as_bytes());
+            script.arrive(0, &cell(plain(1, 7, 5).write(Link::Uni), &[9; 48]));
+            script.frames(2);
+            ["take 0 53", "count 0"].iter().for_each(|line| script.say(line));
+            script.show_all();
+        }
+    }
+}
+
+/// Queues cells with these payloads in a class of unit 3.
+fn queue(script: &mut Script, class: u8, payloads: &[u8]) {
+    for payload in payloads {
+        script.hear(3, &frame(to_unit(3, class), [0, 0], plain(1, 1, 0), &[*payload; 48]));
+    }
+}
+
+/// Cells 4 and 5 are marked, cell 6 is not.
+fn figure_15(script: &mut Script) {
+    stage(script, "bus 16\nunit 3 uni 0 1 one 0 0 2 1\n");
+    queue(script, 2, &[4, 5, 6]);
+    (0..4).for_each(|_| script.say("take 3 53"));
+    script.show_all();
+}
+
+/// Cells 4 to 7 are marked, cell 8 is not.
+fn figure_16(script: &mut Script) {
+    stage(script, "bus 16\nunit 3 uni 0 1 four 40 3 2 1\n");
+    queue(script, 1, &[4, 5, 6]);
+    queue(script, 2, &[7, 8]);
+    (0..6).for_each(|_| script.say("take 3 53"));
+    script.show_all();
+}
+
+/// Records up to byte 262,144 and not one more; later bytes are untouched.
+fn whole_memory(script: &mut Script) {
+    for memory in [262_136, 262_144, 300_000] {
+        for top in [32_765, 32_766, 32_767, 65_535] {
+            stage(script, "bus 16\n");
+            script.say(&format!("lend memory {memory} AB"));
+            let table = format!("bus 16\nunit 0 uni 0 1 one 0 0 1 0\npage 0 0 {top}\nvc 0 0 {top} b 3 9 8\n");
+            script.load(table.replace(' ', "\t").as_bytes());
+            script.arrive(0, &cell(plain(0, top as u16, 0).write(Link::Uni), &[9; 48]));
+            script.say("show memory");
+        }
+    }
+}
+
+/// Records count wherever they lie wholly inside the lent memory, past 262,144 bytes too.
+fn far_records(script: &mut Script) {
+    stage(script, LISTING);
+    script.say("lend memory 300000 00");
+    let line_cell = cell(plain(5, 33, 0).write(Link::Uni), &[9; 48]);
+    // A route for VPI 5, and a page whose VCI 33 has the last record or reaches one byte out.
+    for (record, page) in [(299_992_u32, 0_u32), (299_000, 299_728), (299_000, 299_729), (299_000, u32::MAX)] {
+        let mut bytes = [2, 0x20, 0x38, 0, 0, 40, 0, 9];
+        script.say_bytes("poke memory 299992", &bytes);
+        if page > 0 {
+            bytes = [3, 0, 33, 0, 0, 0, 0, 0];
+            bytes[4..].copy_from_slice(&page.to_be_bytes());
+        }
+        script.say_bytes(&format!("poke memory {record}"), &bytes);
+        for place in [record - 40, record - 39, 300_000, u32::MAX - 47, u32::MAX] {
+            script.say(&format!("state place 0 {place}"));
+            script.arrive(0, &line_cell);
+        }
+        script.frames(2);
+    }
+    script.show_all();
+}
+
+/// A line of 150,000 bytes is read, a longer one is bad.
+fn long_lines(script: &mut Script) {
+    stage(script, "bus 16\n");
+    script.say("lend memory 300000 00");
+    for bytes in [74_993, 74_994, 90_000] {
+        script.say_bytes("poke memory 0", &vec![0xAB; bytes]);
+        script.say("show memory");
+    }
+    script.lines.push(vec![b'9'; 150_000]);
+    script.say(&format!("take {} 53", "9".repeat(100_000)));
+}

@@ -1,0 +1,178 @@
+//! What occurred in a comparison, so that a run that shows little is known as such.
+
+use std::collections::BTreeMap;
+
+const COUNTERS: [&str; 13] = [
+    "arrived",
+    "hec",
+    "ignored",
+    "misrouted",
+    "inletfull",
+    "sent",
+    "unheard",
+    "damaged",
+    "queued",
+    "full",
+    "clp",
+    "wide",
+    "taken",
+];
+
+/// Kinds of answer that a full run must show, but for the counters.
+const WANTED: &[&str] = &[
+    "arrive hec",
+    "arrive ignored",
+    "arrive misrouted",
+    "arrive inletfull",
+    "arrive queued",
+    "arrive refused 8",
+    "arrive refused 9",
+    "arrive refused 10",
+    "bad",
+    "card ok",
+    "count read",
+    "count refused 8",
+    "count refused 9",
+    "frame idle",
+    "frame sent",
+    "frame granting",
+    "frame to many",
+    "frame 65535",
+    "frame refused 8",
+    "frame refused 10",
+    "hear damaged",
+    "hear other",
+    "hear wide",
+    "hear full",
+    "hear clp",
+    "hear queued",
+    "hear refused 8",
+    "hear refused 9",
+    "hear refused 10",
+    "lend ok",
+    "load ok",
+    "load refused 1",
+    "load refused 2",
+    "load refused 3",
+    "load refused 4",
+    "load refused 5",
+    "load refused 6",
+    "load refused 7",
+    "poke ok",
+    "show memory",
+    "show rows",
+    "show shelf",
+    "show store",
+    "state ok",
+    "take cell",
+    "take empty",
+    "take refused 8",
+    "take refused 9",
+    "take refused 10",
+    "twin agreeing",
+    "twin too wide",
+];
+
+#[derive(Default)]
+pub struct Tally {
+    kinds: BTreeMap<String, u64>,
+    pub lines: u64,
+    pub tables: u64,
+    pub events: u64,
+    /// Whether the counters have counted since a good load and nothing else.
+    counting: bool,
+}
+
+impl Tally {
+    /// Takes an answer in that both programs gave to a line.
+    pub fn add(&mut self, line: &[u8], answer: &[u8]) {
+        self.lines += 1;
+        let answer = String::from_utf8_lossy(answer);
+        let fields: Vec<&str> = answer.split('\t').collect();
+        let word = fields[0];
+        self.tables += u64::from(word == "load");
+        self.events += u64::from(["arrive", "hear", "frame", "take", "count"].contains(&word));
+        match fields[..] {
+            [word, "refused", number, ..] => self.bump(&format!("{word} refused {number}")),
+            ["frame", number, sender, granted, copies, _] => self.add_frame(number, sender, granted, copies),
+            ["count", _, ref counters @ ..] => self.add_counters(counters),
+            ["arrive" | "hear" | "take", _, fate, ..] => self.bump(&format!("{word} {fate}")),
+            ["bad"] => self.bump("bad"),
+            [_, kind, ..] => self.bump(&format!("{word} {kind}")),
+            _ => self.bump("something else"),
+        }
+        if word == "load" {
+            self.counting = fields[1] == "ok";
+        } else if line.starts_with(b"lend\trows") {
+            self.counting = false;
+        }
+    }
+
+    pub fn bump(&mut self, kind: &str) {
+        self.bump_by(kind, 1);
+    }
+
+    fn bump_by(&mut self, kind: &str, more: u64) {
+        match self.kinds.get_mut(kind) {
+            Some(count) => *count += more,
+            None => {
+                self.kinds.insert(kind.to_string(), more);
+            }
+        }
+    }
+
+    fn add_frame(&mut self, number: &str, sender: &str, granted: &str, copies: &str) {
+        self.bump(if sender == "-" { "frame idle" } else { "frame sent" });
+        if granted != "-" {
+            self.bump("frame granting");
+        }
+        if !["0", "1"].contains(&copies) {
+            self.bump("frame to many");
+        }
+        if number == "65535" {
+            self.bump("frame 65535");
+        }
+    }
+
+    /// Counters above 0 show what no answer names, such as `unheard`.
+    fn add_counters(&mut self, counters: &[&str]) {
+        self.bump("count read");
+        for (name, counter) in COUNTERS.iter().zip(counters) {
+            if self.counting && *counter != "0" {
+                self.bump(&format!("counter {name}"));
+            }
+        }
+    }
+
+    pub fn merge(&mut self, other: Tally) {
+        self.lines += other.lines;
+        self.tables += other.tables;
+        self.events += other.events;
+        other.kinds.iter().for_each(|(kind, count)| self.bump_by(kind, *count));
+    }
+
+    /// Kinds wanted that never occurred.
+    pub fn missing(&self) -> Vec<String> {
+        let wanted = WANTED.iter().map(|kind| kind.to_string());
+        let counters = COUNTERS.iter().map(|name| format!("counter {name}"));
+        wanted.chain(counters).filter(|kind| !self.kinds.contains_key(kind)).collect()
+    }
+
+    /// Every kind with how often it occurred, one a line.
+    pub fn report(&self) -> String {
+        self.kinds.iter().map(|(kind, count)| format!("{kind}: {}\n", grouped(*count))).collect()
+    }
+}
+
+/// A number with commas between thousands.
+pub fn grouped(number: u64) -> String {
+    let digits = number.to_string();
+    let mut text = String::new();
+    for (index, digit) in digits.chars().enumerate() {
+        if index > 0 && (digits.len() - index).is_multiple_of(3) {
+            text.push(',');
+        }
+        text.push(digit);
+    }
+    text
+}

@@ -1,0 +1,305 @@
+//! The console's commands and answers, and the refusals through it.
+
+mod common;
+
+use common::{cell, console, frame, header, hex, table_of, tabs, to_unit, Desk, LISTING_TABLE};
+
+/// Answers to lines with blanks for tabs.
+fn answers(lines: &str) -> Vec<String> {
+    console(tabs(lines).as_bytes())
+}
+
+fn listing() -> Desk {
+    Desk::new("wide", LISTING_TABLE)
+}
+
+fn buffer(length: usize) -> String {
+    "EE".repeat(length)
+}
+
+/// The FNV-1a sum as the document of the sum gives it.
+fn sum(bytes: &[u8]) -> String {
+    let mut sum = 2_166_136_261_u64;
+    for byte in bytes {
+        sum = (sum ^ u64::from(*byte)) * 16_777_619 % (1 << 32);
+    }
+    format!("{sum:08X}")
+}
+
+#[test]
+fn listing_of_document_01() {
+    let payload = "A5".repeat(48);
+    let mut desk = Desk::default();
+    assert_eq!(desk.ask("lend memory 16384 00"), "lend ok");
+    assert_eq!(desk.ask("lend store 32768 00"), "lend ok");
+    assert_eq!(desk.ask("lend rows 4 0"), "lend ok");
+    assert_eq!(desk.load(LISTING_TABLE), "load ok 328");
+    assert_eq!(desk.ask(&format!("arrive 0 005002102B{payload}")), "arrive 0 queued");
+    assert_eq!(desk.ask(&format!("arrive 0 105002104F{payload}")), "arrive 0 hec");
+    assert_eq!(desk.ask("frame 57"), format!("frame 0 - 0 0 {}", buffer(57)));
+    let sent = frame(0x2038, header(9, 40, 0), 0xA5);
+    assert_eq!(desk.ask("frame 57"), format!("frame 1 0 - 1 {}", hex(&sent)));
+    assert_eq!(desk.ask("take 3 53"), format!("take 3 cell 009002805F{payload}"));
+    assert_eq!(desk.ask("take 3 53"), format!("take 3 empty {}", buffer(53)));
+    assert_eq!(desk.ask("count 3"), "count 3 0 0 0 0 0 0 0 0 1 0 0 0 1");
+}
+
+#[test]
+fn every_line_has_one_answer() {
+    assert_eq!(answers(""), Vec::<String>::new());
+    assert_eq!(answers("\n"), ["bad"]);
+    assert_eq!(answers("\n\nshow rows"), ["bad", "bad", "show rows 0"]);
+    assert_eq!(answers("card wide\ncard narrow"), ["card ok", "card ok"]);
+    assert_eq!(answers("card wide\r\n"), ["bad"]);
+    assert_eq!(console(b"show\tmemory\n\xFF\n"), ["show memory 0 811C9DC5", "bad"]);
+}
+
+#[rustfmt::skip]
+const BAD: &[&str] = &[
+    " ", "card", "card Wide", "card wide ", "lend memory 300001 00", "lend memory 1 0", "lend memory 1 000",
+    "lend memory 1 ", "lend memory 01 00", "lend memory 1 G0", "lend memory -1 00", "lend rows 41 0",
+    "lend rows 1 4294967296", "lend rows 1 00", "lend shelf 1 0", "load", "load 0", "load 0G", "load 00 ",
+    "arrive 0", "arrive 00 00", "arrive x 00", "arrive  00", "arrive 0 0", "hear 0", "hear 0 0", "frame",
+    "frame 1001", "frame ", "frame 057", "take 0", "take 0 1001", "take -1 53", "count", "count ", "count +1",
+    "poke memory 0 0", "poke rows 0 00", "poke memory 4000 00", "poke memory 3999 0000", "poke store x 00",
+    "poke memory 18446744073709551615 00", "poke memory 99999999999999999999 00", "state", "state bus 0",
+    "state bus 0 256", "state bus 1 16", "state bus 0 016", "state Bus 0 16", "state frame 0 65536",
+    "state last 3 0", "state asks 32 0", "state number 32 0", "state link 0 2", "state mode 0 2",
+    "state mark 0 2", "state top 0 65536", "state place 0 4294967296", "state queuehead 128 0",
+    "state queuecount 128 0", "state sessions 128 0", "state sessions 0 18446744073709551616",
+    "state sessions 0 99999999999999999999999", "state bus 0 16 0", "show", "show all", "show rows 0",
+];
+
+#[test]
+fn what_is_no_command_is_bad_and_changes_nothing() {
+    let mut desk = listing();
+    let before = desk.all();
+    for line in BAD {
+        assert_eq!(desk.ask(line), "bad", "{line}");
+    }
+    assert_eq!(desk.all(), before);
+}
+
+#[test]
+fn lines_to_150000_bytes() {
+    let poke = |bytes: usize, digits: &str| {
+        let line = format!("poke memory 0 {}{digits}", "AB".repeat(bytes));
+        let mut input = format!("lend memory 300000 00\n{line}\nshow memory\n{line}");
+        input = tabs(&input);
+        (line.len(), console(input.as_bytes()))
+    };
+    let whole = sum(&[vec![0xAB; 74_993], vec![0; 225_007]].concat());
+    let (length, said) = poke(74_993, "");
+    assert_eq!(
+        (length, &said[1..]),
+        (150_000, &["poke ok", &format!("show memory 300000 {whole}"), "poke ok"].map(String::from)[..])
+    );
+    let nothing = sum(&[0; 300_000]);
+    for bytes in [74_994, 80_000, 1_000_000] {
+        let (_, said) = poke(bytes, "");
+        assert_eq!(said[1..], ["bad", &format!("show memory 300000 {nothing}"), "bad"].map(String::from));
+    }
+    assert_eq!(poke(74_993, "A"), (150_001, poke(74_994, "").1));
+}
+
+#[test]
+fn texts_cells_and_frames_to_70000_bytes() {
+    let mut desk = listing();
+    assert_eq!(desk.ask(&format!("arrive 0 {}", "00".repeat(70_000))), "arrive refused 10");
+    assert_eq!(desk.ask(&format!("hear 0 {}", "00".repeat(70_000))), "hear refused 10");
+    assert_eq!(desk.ask(&format!("load {}", "00".repeat(70_001))), "bad");
+    assert_eq!(desk.ask(&format!("arrive 0 {}", "00".repeat(70_001))), "bad");
+    assert_eq!(desk.ask("count 3"), "count 3 0 0 0 0 0 0 0 0 0 0 0 0 0");
+    assert_eq!(desk.ask(&format!("load {}", "00".repeat(70_000))), "load refused 1 0");
+}
+
+#[test]
+fn a_text_of_65536_bytes_is_read_and_65537_is_long() {
+    let mut desk = listing();
+    desk.ask("lend memory 300000 EE");
+    assert_eq!(desk.load(&table_of(65_536)), "load ok 65536");
+    assert_eq!(desk.load(&table_of(65_537)), "load refused 1 0");
+    assert_eq!(desk.load(&"x".repeat(65_536)), "load refused 2 1");
+}
+
+#[test]
+fn refusals_1_to_7_zero_the_memory_and_touch_nothing_else() {
+    let head = "bus 16\nunit 0 uni 5 2 one 0 0 100 0\n";
+    let texts = [
+        ("x".repeat(65_537), "1 0"),
+        (String::new(), "2 1"),
+        ("bus 16\nmc 0 1\n".to_string(), "3 2"),
+        (format!("{head}mc 0 1\nmc 0 1\n"), "4 4"),
+        ("bus 32\n".to_string(), "5 1"),
+        (format!("{head}page 0 1 65535\n"), "6 3"),
+        (format!("{head}unit 1 uni 5 2 one 0 0 100 0\n"), "7 0"),
+    ];
+    let zeroed = sum(&[vec![0; 262_144], vec![0xAB; 37_856]].concat());
+    for (text, refused) in texts {
+        let mut desk = Desk::default();
+        let fresh = desk.ask("show shelf");
+        for line in ["card narrow", "lend memory 300000 AB", "lend store 8192 CD", "lend rows 1 5"] {
+            desk.ask(line);
+        }
+        assert_eq!(desk.load(head), "load ok 48");
+        desk.ask("hear 0 00");
+        for line in ["lend memory 300000 AB", "lend rows 1 5", "state frame 0 9"] {
+            desk.ask(line);
+        }
+        let before = desk.all();
+        assert_eq!(desk.load(&text), format!("load refused {refused}"));
+        let after = desk.all();
+        assert_eq!(after[0], format!("show memory 300000 {zeroed}"));
+        assert_eq!((&after[1], &after[2], &after[3]), (&before[1], &before[2], &fresh));
+    }
+}
+
+#[test]
+fn refusals_8_to_10_in_that_order_change_nothing() {
+    let mut desk = listing();
+    let ask_all = |desk: &mut Desk, unit: &str, cell: usize, frame: usize| {
+        [
+            desk.ask(&format!("arrive {unit} {}", "00".repeat(cell))),
+            desk.ask(&format!("hear {unit} {}", "00".repeat(frame))),
+            desk.ask(&format!("frame {frame}")),
+            desk.ask(&format!("take {unit} {cell}")),
+            desk.ask(&format!("count {unit}")),
+        ]
+    };
+    let said = |number: [u8; 5], cell: usize, frame: usize| {
+        let [arrive, hear, send, take, count] = number;
+        [
+            format!("arrive refused {arrive}"),
+            format!("hear refused {hear}"),
+            format!("frame refused {send} {}", buffer(frame)),
+            format!("take refused {take} {}", buffer(cell)),
+            format!("count refused {count}"),
+        ]
+    };
+    let before = desk.all();
+    let huge = "9".repeat(500);
+    for unit in ["7", "259", "65539", "4294967299", "18446744073709551619", &huge] {
+        assert_eq!(ask_all(&mut desk, unit, 0, 56), said([9, 9, 10, 9, 9], 0, 56), "{unit}");
+    }
+    assert_eq!(ask_all(&mut desk, "3", 52, 58)[..4], said([10; 5], 52, 58)[..4]);
+    assert_eq!(ask_all(&mut desk, "3", 1_000, 1_000)[2..4], said([10; 5], 1_000, 1_000)[2..4]);
+    assert_eq!(desk.all(), before);
+    desk.ask("state bus 0 17");
+    let before = desk.all();
+    assert_eq!(ask_all(&mut desk, "7", 0, 0), said([8; 5], 0, 0));
+    assert_eq!(ask_all(&mut desk, "3", 53, 57), said([8; 5], 53, 57));
+    assert_eq!(desk.all(), before);
+}
+
+#[test]
+fn lent_300000_bytes_and_40_rows() {
+    let mut desk = Desk::default();
+    desk.ask("lend memory 300000 ab");
+    desk.ask("lend store 300000 Cd");
+    desk.ask("lend rows 40 4294967295");
+    assert_eq!(desk.ask("show memory"), format!("show memory 300000 {}", sum(&[0xAB; 300_000])));
+    assert_eq!(desk.ask("show store"), format!("show store 300000 {}", sum(&[0xCD; 300_000])));
+    assert_eq!(desk.ask("show rows"), format!("show rows 40{}", " 4294967295".repeat(520)));
+    assert_eq!(desk.load(LISTING_TABLE), "load ok 328");
+    // A record past 262,144 bytes is found when it lies inside the lent memory.
+    desk.ask("state place 0 299952");
+    desk.ask("poke memory 299992 0210500000000001");
+    let bytes = hex(&cell(header(5, 33, 0), 1));
+    assert_eq!(desk.ask(&format!("arrive 0 {bytes}")), "arrive 0 queued");
+    desk.ask("state place 0 299953");
+    assert_eq!(desk.ask(&format!("arrive 0 {bytes}")), "arrive 0 misrouted");
+    desk.ask("state place 0 4294967295");
+    assert_eq!(desk.ask(&format!("arrive 0 {bytes}")), "arrive 0 misrouted");
+}
+
+#[test]
+fn rows_beyond_the_declared_units_are_untouched() {
+    let mut desk = listing();
+    let rows = |zeros: usize| format!("show rows 32{}{}", " 0".repeat(13 * zeros), " 7".repeat(13 * (32 - zeros)));
+    assert_eq!(desk.ask("show rows"), rows(2));
+    desk.ask(&format!("arrive 0 {}", hex(&cell([0, 0x50, 2, 0x10], 0))));
+    desk.ask("frame 57");
+    desk.ask("frame 57");
+    desk.ask("take 3 53");
+    let expected =
+        format!("show rows 32{}{}{}", " 1 0 0 0 0 1 0 0 0 0 0 0 0", " 0 0 0 0 0 0 0 0 1 0 0 0 1", " 7".repeat(390));
+    assert_eq!(desk.ask("show rows"), expected);
+}
+
+#[test]
+fn the_card_may_change_under_a_shelf() {
+    let mut desk = listing();
+    let shelf = desk.ask("show shelf");
+    desk.ask("card narrow");
+    assert_eq!(desk.ask("show shelf"), shelf);
+    // The narrow card reads the outgoing VPI of a record in byte 3, where the wide one wrote 0.
+    desk.ask(&format!("arrive 0 {}", hex(&cell([0, 0x50, 2, 0x10], 0))));
+    desk.ask("frame 57");
+    assert_eq!(desk.ask("frame 57"), format!("frame 1 0 - 1 {}", hex(&frame(to_unit(3, 2), header(0, 40, 0), 0))));
+    desk.ask("state bus 0 32");
+    assert_eq!(desk.ask("count 3").split(' ').nth(1), Some("3"));
+    desk.ask("state link 1 1");
+    assert_eq!(desk.ask("count 3"), "count refused 8");
+    desk.ask("card wide");
+    assert_eq!(desk.ask("count 3").split(' ').nth(1), Some("3"));
+}
+
+#[test]
+fn fields_of_a_fresh_and_of_a_loaded_shelf() {
+    let fresh_unit = " 0".repeat(24);
+    let mut desk = Desk::default();
+    let head = " 255 255 255".to_string() + &" 0".repeat(32);
+    assert_eq!(desk.ask("show shelf"), format!("show shelf 16 0 255 0{head}{}", fresh_unit.repeat(32)));
+    let table = "bus 32\nunit 9 nni 300 2 one 0 0 100 1\nunit 3 uni 7 1 four 40 30 20 0\n\
+        mc 3 0\nmc 3 63\nmc 3 64\nmc 3 255\n";
+    let mut desk = Desk::new("wide", table);
+    let first = " 9 1 300 2 0 0 0 100 1".to_string() + &" 0".repeat(10) + " 0" + " 0 0 0 0";
+    let second = " 3 0 7 1 1 40 30 20 0".to_string()
+        + &" 0".repeat(10)
+        + " 2408"
+        + " 9223372036854775809 1 0 9223372036854775808";
+    let rest = fresh_unit.repeat(30);
+    assert_eq!(desk.ask("show shelf"), format!("show shelf 32 2 255 0{head}{first}{second}{rest}"));
+}
+
+#[test]
+fn every_field_is_set_in_its_place() {
+    // The places of the first units' fields in the list of numbers.
+    let unit = |place: usize, index: usize| 4 + 3 + 32 + 24 * place + index;
+    let cases = [
+        ("bus 0", 0, 255),
+        ("count 0", 1, 254),
+        ("granted 0", 2, 253),
+        ("frame 0", 3, 65_535),
+        ("last 2", 6, 200),
+        ("asks 31", 38, 201),
+        ("number 31", unit(31, 0), 202),
+        ("link 1", unit(1, 1), 1),
+        ("top 2", unit(2, 2), 65_535),
+        ("priority 3", unit(3, 3), 203),
+        ("mode 4", unit(4, 4), 1),
+        ("cbrlength 5", unit(5, 5), 204),
+        ("cbrlimit 6", unit(6, 6), 205),
+        ("vbrlimit 7", unit(7, 7), 206),
+        ("mark 8", unit(8, 8), 1),
+        ("queuehead 0", unit(0, 9), 207),
+        ("queuecount 0", unit(0, 10), 208),
+        ("queuehead 127", unit(31, 15), 209),
+        ("queuecount 126", unit(31, 14), 210),
+        ("inlethead 9", unit(9, 17), 211),
+        ("inletcount 10", unit(10, 18), 212),
+        ("place 11", unit(11, 19), 4_294_967_295),
+        ("sessions 127", unit(31, 23), u64::MAX),
+        ("sessions 5", unit(1, 21), 213),
+    ];
+    let mut desk = Desk::default();
+    let shown = |desk: &mut Desk| -> Vec<u64> {
+        desk.ask("show shelf").split(' ').skip(2).map(|field| field.parse().expect("a number")).collect()
+    };
+    let mut expected = shown(&mut desk);
+    for (field, index, value) in cases {
+        assert_eq!(desk.ask(&format!("state {field} {value}")), "state ok", "{field}");
+        expected[index] = value;
+        assert_eq!(shown(&mut desk), expected, "{field}");
+    }
+}
