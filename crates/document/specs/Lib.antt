@@ -6,3 +6,4 @@ pub mod Hearing
 pub mod Frame
 pub mod Take
 pub mod Steps
+pub mod Examples
