@@ -46,7 +46,8 @@ use Rattle.taking.specs.Takes as taking
 use Rattle.framing.specs.Frames as framing
 use Rattle.loading.specs.Loads.{loadDone}
 use Rattle.promise.proofs.Loads.{load-sound}
-use Rattle.running.specs.Events.{Event, arrive, frame, hear, take as takes, count, World, happens}
+use Rattle.document.specs.Events.{Event, arrive, frame, hear, take as takes, count, numberSaid}
+use Rattle.running.specs.Events.{World, happens}
 use Rattle.running.specs.Keeping.{soundIn, SoundnessKept, run, loaded, NeverState}
 use Rattle.running.specs.Refusing.{known, fits}
 use Rattle.running.proofs.Refused.{refused-iff}
@@ -191,7 +192,7 @@ other true true false t q = omega arith
 other true false f t q = omega arith
 other false k f t q = false≢true t
 
-not-state : (card : Card) (w : World) (e : Event) → soundIn card w ≡ true → happens card w e .number ≡ 8 → ⊥
+not-state : (card : Card) (w : World) (e : Event) → soundIn card w ≡ true → numberSaid (happens card w e .said) ≡ 8 → ⊥
 not-state card w e sound eight = other (soundIn card w) (known (w .shelf) e) (fits e) sound (sym (refused-iff card w e) ∙ eight)
 
 pub never-state : NeverState

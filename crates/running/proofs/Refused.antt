@@ -31,7 +31,9 @@ use Rattle.framing.specs.Frames as framing
 use Rattle.entry.specs.Counts.{counted}
 use Rattle.entry.specs.declared.Counted.the-variants as Counted
 use Rattle.answer.specs.declared.Arrival.the-variants.{Inletfull, Queued}
-use Rattle.running.specs.Events.{Event, arrive, frame, hear, take, count, World, Outcome, bytesOf, ended, countNumber, happens}
+use Rattle.answer.specs.declared.Answer.the-variants as answer
+use Rattle.document.specs.Events.{Event, arrive, frame, hear, take, count, bytesOf, answers, counts, numberSaid}
+use Rattle.running.specs.Events.{World, Outcome, ended, countSaid, happens}
 use Rattle.running.specs.Refusing.{there, known, fits, refusal, RefusedIff, RefusalChangesNothing}
 
 -- an event that is refused, or let in
@@ -49,15 +51,15 @@ in-order false f r = refl
 
 -- what is left as it was
 abbrev asWas : World → ℕ → List ℕ → Outcome
-asWas w number bytes = record { number = number; world = w; bytes = bytes }
+asWas w number bytes = record { said = answers (answer.Refused number); world = w; bytes = bytes }
 
 -- an event at a unit: what it does where it is let in, the store and the lent bytes afterwards
 module _ (w : World) (inside : ℕ → Done) (store bytes : A.Admitted → List ℕ) (lent : List ℕ) where
   abbrev came : A.Admitted → Outcome
   came d = ended w (decided d inside (refused (w .shelf))) (store d) (bytes d)
 
-  at-unit : ((place : ℕ) → numberOf (inside place .reply .answer) ≡ 0) → (d : A.Admitted) → came d .number ≡ numberBy d
-  unfolding decided numberOf numberBy
+  at-unit : ((place : ℕ) → numberOf (inside place .reply .answer) ≡ 0) → (d : A.Admitted) → numberSaid (came d .said) ≡ numberBy d
+  unfolding decided numberOf numberBy numberSaid
   at-unit none (At place) = none place
   at-unit none (Refused number) = refl
 
@@ -66,7 +68,7 @@ module _ (w : World) (inside : ℕ → Done) (store bytes : A.Admitted → List 
   unfolding decided numberOf settledTo numberBy
   at-unit-kept stored kept (At place) h = absurd (h refl)
   at-unit-kept stored kept (Refused number) h =
-      λ i. record { number = number; world = record { shelf = w .shelf; memory = w .memory; store = stored number i; rows = w .rows }; bytes = kept number i }
+      λ i. record { said = answers (answer.Refused number); world = record { shelf = w .shelf; memory = w .memory; store = stored number i; rows = w .rows }; bytes = kept number i }
 
 -- no event that is let in answers with a number
 arrive-none : (way : Way) (shelf : Shelf) (place : ℕ) → numberOf (arriving.doneBy way shelf place .reply .answer) ≡ 0
@@ -92,13 +94,22 @@ unfolding numberOf
 framed-none shelf store = refl
 
 -- a count
-count-number : (d : A.Admitted) (row : C.Counters) → countNumber (counted (toldApart d) row) ≡ numberBy d
-unfolding counted toldApart countNumber numberBy
+count-number : (d : A.Admitted) (row : C.Counters) → numberSaid (countSaid (counted (toldApart d) row)) ≡ numberBy d
+unfolding counted toldApart countSaid numberBy numberSaid numberOf
 count-number (At place) row = refl
 count-number (Refused number) row = pick (eqb number 0) refl
   where
-    pick : (b : Bool) → eqb number 0 ≡ b → countNumber (cond b (Counted.Counters row) (Counted.Refused number)) ≡ number
+    pick : (b : Bool) → eqb number 0 ≡ b → numberSaid (countSaid (cond b (Counted.Counters row) (Counted.Refused number))) ≡ number
     pick true t = sym (eqb-true number 0 t)
+    pick false t = refl
+
+count-said : (d : A.Admitted) (row : C.Counters) → (numberBy d ≡ 0 → ⊥) → countSaid (counted (toldApart d) row) ≡ answers (answer.Refused (numberBy d))
+unfolding counted toldApart countSaid numberBy
+count-said (At place) row h = absurd (h refl)
+count-said (Refused number) row h = pick (eqb number 0) refl
+  where
+    pick : (b : Bool) → eqb number 0 ≡ b → countSaid (cond b (Counted.Counters row) (Counted.Refused number)) ≡ answers (answer.Refused number)
+    pick true t = absurd (h (eqb-true number 0 t))
     pick false t = refl
 
 -- a frame: State, then Length
@@ -130,8 +141,8 @@ module _ (card : Card) (w : World) where
   unfolding admitted
   by-order unit right = in-order sound (findIn (declared (w .shelf)) unit) right
 
-  number-is : (e : Event) → happens card w e .number ≡ refusal card w e
-  unfolding happens known fits framing.checked
+  number-is : (e : Event) → numberSaid (happens card w e .said) ≡ refusal card w e
+  unfolding happens known fits framing.checked numberSaid
   number-is (arrive unit cell) =
       at-unit w (λ place. arriving.doneAt card (w .shelf) place (w .memory) cell) (λ d. []) (λ d. []) []
       (λ place. arrive-none (arriving.wayOf card (unitAt (w .shelf) place) (w .memory) cell) (w .shelf) place) (let-in unit (eqb (length cell) 53))
@@ -167,7 +178,9 @@ module _ (card : Card) (w : World) where
       (λ d. decided d (λ place. taking.bufferAt (w .shelf) place (w .store) buffer) (λ number. buffer))
       buffer (λ number. refl) (λ number. refl) (let-in unit r) (λ z. h (sym (by-order unit r) ∙ z))
       ∙ ap (λ n. asWas w n buffer) (by-order unit r)
-  changes-nothing (count unit) h = ap (λ n. asWas w n []) (number-is (count unit))
+  changes-nothing (count unit) h =
+      ap (λ s. record { said = s; world = w; bytes = [] }) (count-said (let-in unit true) _ (λ z. h (sym (by-order unit true) ∙ z)))
+      ∙ ap (λ n. asWas w n []) (by-order unit true)
 
 pub refused-iff : RefusedIff
 refused-iff = number-is

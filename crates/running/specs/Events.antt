@@ -4,7 +4,7 @@ use mathlib.Core.List.{List, []}
 use lib.ListN.{length}
 use Rattle.card.specs.declared.Card.{Card}
 use Rattle.shelf.specs.declared.Shelf.{Shelf}
-use Rattle.answer.specs.Answers.{numberOf}
+use Rattle.answer.specs.declared.Answer.the-variants as answer
 use Rattle.answer.specs.declared.Done.{Done}
 use Rattle.counters.specs.Counting.{settled}
 use Rattle.counters.specs.declared.Counters as C
@@ -13,17 +13,10 @@ use Rattle.arriving.specs.Arriving.{arriveDone, arriveStore}
 use Rattle.hearing.specs.Hearings.{hearDone, hearStore}
 use Rattle.taking.specs.Takes.{takeDone, takeBuffer}
 use Rattle.framing.specs.Frames.{frameDone, frameStore, frameBuffer}
+use Rattle.document.specs.Events.{Event, arrive, frame, hear, take, count, Said, answers, counts}
 use Rattle.entry.specs.Counts.{countOf}
 use Rattle.entry.specs.declared.Counted.{Counted}
 use Rattle.entry.specs.declared.Counted.the-variants.{Counters, Refused}
-
--- every event of 01 with every argument: a cell, a frame or a buffer is a list of bytes of any length
-pub data Event : Type 0 where
-  arrive : ℕ → List ℕ → Event
-  frame : List ℕ → Event
-  hear : ℕ → List ℕ → Event
-  take : ℕ → List ℕ → Event
-  count : ℕ → Event
 
 -- what a shelf runs with
 pub record World : Type 0 where
@@ -32,32 +25,24 @@ pub record World : Type 0 where
   pub store : List ℕ
   pub rows : List C.Counters
 
--- what comes of an event: 01's number, 0 where nothing is refused; the world, and the bytes that were lent with the event, as they are afterwards
+-- what comes of an event: what it says; the world, and the bytes that were lent with the event, as they are afterwards
 pub record Outcome : Type 0 where
-  pub number : ℕ
+  pub said : Said
   pub world : World
   pub bytes : List ℕ
-
--- the bytes that are lent with an event
-unfoldable pub bytesOf : Event → List ℕ
-bytesOf (arrive unit cell) = cell
-bytesOf (frame buffer) = buffer
-bytesOf (hear unit heard) = heard
-bytesOf (take unit buffer) = buffer
-bytesOf (count unit) = []
 
 -- what is done, with the store and the lent bytes afterwards
 abbrev pub ended : World → Done → List ℕ → List ℕ → Outcome
 ended w done store bytes =
     record {
-      number = numberOf (done .reply .answer);
+      said = answers (done .reply .answer);
       world = record { shelf = done .reply .shelf; memory = w .memory; store = store; rows = settled (w .rows) (done .rises) };
       bytes = bytes;
     }
 
-unfoldable pub countNumber : Counted → ℕ
-countNumber (Counters row) = 0
-countNumber (Refused number) = number
+unfoldable pub countSaid : Counted → Said
+countSaid (Counters row) = counts row
+countSaid (Refused number) = answers (answer.Refused number)
 
 -- each line is the contract of the entry point with that name
 unfoldable pub happens : Card → World → Event → Outcome
@@ -83,7 +68,7 @@ happens card w (take unit buffer) =
     (takeBuffer card (w .shelf) (w .store) (length (w .rows)) unit buffer)
 happens card w (count unit) =
     record {
-      number = countNumber (countOf (counted card (w .shelf) (length (w .store)) (length (w .rows)) unit) (w .rows));
+      said = countSaid (countOf (counted card (w .shelf) (length (w .store)) (length (w .rows)) unit) (w .rows));
       world = w;
       bytes = [];
     }

@@ -9,7 +9,8 @@ use Rattle.soundness.specs.State.{soundOf}
 use Rattle.counters.specs.Counting.{settled}
 use Rattle.counters.specs.declared.Counters as C
 use Rattle.loading.specs.Loads.{loadDone, loadMemory}
-use Rattle.running.specs.Events.{Event, World, happens}
+use Rattle.document.specs.Events.{Event, numberSaid}
+use Rattle.running.specs.Events.{World, happens}
 
 -- no event on this world is refused as State
 abbrev pub soundIn : Card → World → Bool
@@ -37,4 +38,4 @@ loaded card text memory store rows =
 -- from any load on, over every sequence of events, none is refused as State
 abbrev pub NeverState : Type 0
 NeverState =
-    (card : Card) (text memory store : List ℕ) (rows : List C.Counters) (es : List Event) (e : Event) → happens card (run card (loaded card text memory store rows) es) e .number ≡ 8 → ⊥
+    (card : Card) (text memory store : List ℕ) (rows : List C.Counters) (es : List Event) (e : Event) → numberSaid (happens card (run card (loaded card text memory store rows) es) e .said) ≡ 8 → ⊥

@@ -10,7 +10,9 @@ use Rattle.shelf.specs.declared.Shelf.{Shelf}
 use Rattle.shelf.specs.declared.Found as F
 use Rattle.shelf.specs.declared.Found.the-variants.{At, Nothing}
 use Rattle.soundness.specs.State.{soundOf}
-use Rattle.running.specs.Events.{Event, arrive, frame, hear, take, count, World, Outcome, bytesOf, happens}
+use Rattle.answer.specs.declared.Answer.the-variants.{Refused}
+use Rattle.document.specs.Events.{Event, arrive, frame, hear, take, count, bytesOf, answers, numberSaid}
+use Rattle.running.specs.Events.{World, Outcome, happens}
 
 unfoldable pub there : F.Found → Bool
 there (At place) = true
@@ -39,9 +41,9 @@ refusal card w e =
 
 -- each of 8 to 10 is given exactly when its condition holds and none before it does, for every event on every world
 abbrev pub RefusedIff : Type 0
-RefusedIff = (card : Card) (w : World) (e : Event) → happens card w e .number ≡ refusal card w e
+RefusedIff = (card : Card) (w : World) (e : Event) → numberSaid (happens card w e .said) ≡ refusal card w e
 
--- "Refusals 8 to 10 .. change nothing": shelf, memory, store, rows and the lent bytes are as they were
+-- "Refusals 8 to 10 .. change nothing": its number is all that is said; shelf, memory, store, rows and the lent bytes are as they were
 abbrev pub RefusalChangesNothing : Type 0
 RefusalChangesNothing =
-    (card : Card) (w : World) (e : Event) → (refusal card w e ≡ 0 → ⊥) → happens card w e ≡ record { number = refusal card w e; world = w; bytes = bytesOf e }
+    (card : Card) (w : World) (e : Event) → (refusal card w e ≡ 0 → ⊥) → happens card w e ≡ record { said = answers (Refused (refusal card w e)); world = w; bytes = bytesOf e }
