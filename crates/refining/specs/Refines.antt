@@ -1,0 +1,43 @@
+-- The shelf does what the document's shelf does, over every sequence of events after a good load. Assumes nothing.
+use Prim.Native.Nat.{ℕ, _<_, _≤_}
+use mathlib.Core.Path.{_≡_}
+use mathlib.Core.List.{List, [], _∷_}
+use lib.ListN.{length, getD}
+use Rattle.card.specs.declared.Card.{Card}
+use Rattle.line.specs.declared.Line.{Line}
+use Rattle.counters.specs.Counting.{value, zero}
+use Rattle.counters.specs.declared.Counters as C
+use Rattle.promise.specs.Refusals.{Accepts}
+use Rattle.document.specs.Events.{Event, Back}
+use Rattle.document.specs.Counters.{Counter, placeOf, counterOf}
+use Rattle.document.specs.Shelf.{opened, unitsOf, numberOf, blank}
+use Rattle.document.specs.Steps as document
+use Rattle.running.specs.Events.{World, happens}
+use Rattle.running.specs.Keeping.{run, loaded}
+
+-- what a sequence of events gives back on the shelf
+unfoldable pub gives : Card → World → List Event → List Back
+gives card w [] = []
+gives card w (e ∷ es) =
+    record { said = happens card w e .said; bytes = happens card w e .bytes } ∷ gives card (happens card w e .world) es
+
+-- "The shelf does what .. document 01 say[s]": from a good load, over every sequence of events with every argument, on either card, whatever memory,
+-- store and rows held before, each answer and each lent byte is that of the document's shelf with the table's lines
+abbrev pub Refines : Type 0
+Refines =
+    (card : Card) (text memory store : List ℕ) (rows : List C.Counters) (told : List Line) →
+    Accepts card text memory (length store) (length rows) told → (es : List Event) →
+    gives card (loaded card text memory store rows) es ≡ document.gives (opened told) es
+
+-- "the counters equal that history, modulo 4,294,967,296": each counter of each declared unit, and "rows beyond the declared units are untouched"
+pub record Counted (card : Card) (text memory store : List ℕ) (rows : List C.Counters) (told : List Line) (es : List Event) : Type 0 where
+  pub equal : (i : ℕ) → i < length (unitsOf told) → (c : Counter) →
+      value (getD (run card (loaded card text memory store rows) es .rows) i zero) (placeOf c)
+      ≡ counterOf (document.becomes (opened told) es .history) (numberOf (getD (unitsOf told) i blank)) c
+  pub untouched : (i : ℕ) → length (unitsOf told) ≤ i →
+      getD (run card (loaded card text memory store rows) es .rows) i zero ≡ getD rows i zero
+
+abbrev pub CountersAreHistory : Type 0
+CountersAreHistory =
+    (card : Card) (text memory store : List ℕ) (rows : List C.Counters) (told : List Line) →
+    Accepts card text memory (length store) (length rows) told → (es : List Event) → Counted card text memory store rows told es
