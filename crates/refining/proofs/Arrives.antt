@@ -36,6 +36,7 @@ use Rattle.line.specs.declared.Line.the-variants.{Bus as L·Bus, Unit as L·Uni
 use Rattle.told.proofs.Grown.{decide}
 use Rattle.promise.specs.Served.{Serving, by-vp, by-drop, by-vc, serves, served, become, lookedUp}
 use Rattle.promise.proofs.Runs.{AllInRange}
+use Rattle.answer.specs.Answers.{arrivalRises, row}
 use Rattle.answer.specs.declared.Answer.the-variants as answer
 use Rattle.answer.specs.declared.Arrival as A
 use Rattle.answer.specs.declared.Arrival.the-variants.{Hec, Ignored, Misrouted, Inletfull, Queued}
@@ -183,6 +184,7 @@ module _ (card : Card) (shelf : Shelf) (memory store : List ℕ) (d : D.Shelf) (
       let same : set (d .units) i (D.unitAt d i) ≡ d .units = set-getD (d .units) i D.blank in
       record {
         many = a .many ∙ ap length (sym same);
+        counted = a .counted ∙ ap length (sym same);
         units = subst (λ us. (j : ℕ) → j < length us → UnitAlike store j (unitAt shelf j) (getD us j D.blank)) (sym same) (a .units);
         known = subst (λ us. (j : ℕ) → j < length us → Known card memory (d .lines) (unitAt shelf j)) (sym same) (a .known);
         ranged = a .ranged;
@@ -201,16 +203,17 @@ module _ (card : Card) (shelf : Shelf) (memory store : List ℕ) (d : D.Shelf) (
   module _ (c : List ℕ) where
     pub record ArriveAlike (way : P.Way) (happened : List Entry) : Type 0 where
       pub answer : arriving.doneBy (wayIn way) shelf i .reply .answer ≡ answer.Arrived (P.arrivalBy way e)
+      pub rises : arriving.doneBy (wayIn way) shelf i .rises ≡ row i (arrivalRises (P.arrivalBy way e))
       pub after : Alike card (arriving.doneBy (wayIn way) shelf i .reply .shelf) memory (arriving.storeBy (wayIn way) u i store c) (D.after d i (D.withInlet e (P.inletBy way e)) happened)
 
     by-way : (way : P.Way) → GoodWay c way → (happened : List Entry) → ArriveAlike way happened
     unfolding P.arrivalBy P.inletBy arriving.doneBy arriving.storeBy
-    by-way (P.lost fate) g happened = record { answer = refl; after = as-was happened }
+    by-way (P.lost fate) g happened = record { answer = refl; rises = refl; after = as-was happened }
     by-way (P.goes r) g happened =
         let x = a .units i here in
         let n = inlet-held store i u e x in
         decide (leb 4 (length (e .inlet)))
-        (λ t. let f = ap (leb 4) n ∙ t in record { answer = rw (t, f) refl; after = rw (t, f) (as-was happened) })
+        (λ t. let f = ap (leb 4) n ∙ t in record { answer = rw (t, f) refl; rises = rw (t, f) refl; after = rw (t, f) (as-was happened) })
         (λ t.
         let f = ap (leb 4) n ∙ t in
         let room = leb-false 4 (u .inlet .count) f in
@@ -220,10 +223,11 @@ module _ (card : Card) (shelf : Shelf) (memory store : List ℕ) (d : D.Shelf) (
         (putAt store i (inletSlot (tail (u .inlet) 4)) (onBus r)) happened
         (unit-with store i u e x h r (g .0) room) (record { looks = a .known i here .looks; hearing = a .known i here .hearing })
         (λ j few apart. elsewhere store j i (inletSlot (tail (u .inlet) 4)) (onBus r) (unitAt shelf j) (D.unitAt d j) (on-bus-length r (g .0)) (omega (arith, z)) (h .inside) (λ q. apart (sym q)) (housed j few) (a .units j few)) in
-        record { answer = rw (t, f) refl; after = rw (t, f) (subst (λ p. Alike card (arriving.cellIn shelf i) memory (putAt store i (inletSlot (tail (u .inlet) 4)) (cell (routing (r .target) (r .class)) 0 (r .cell .header) p)) (D.after d i (D.withInlet e (e .inlet ++ (r ∷ []))) happened)) (g .1) put) })
+        record { answer = rw (t, f) refl; rises = rw (t, f) refl; after = rw (t, f) (subst (λ p. Alike card (arriving.cellIn shelf i) memory (putAt store i (inletSlot (tail (u .inlet) 4)) (cell (routing (r .target) (r .class)) 0 (r .cell .header) p)) (D.after d i (D.withInlet e (e .inlet ++ (r ∷ []))) happened)) (g .1) put) })
 
     pub arrive-alike : length c ≡ 53 →
         (arriving.doneAt card shelf i memory c .reply .answer ≡ answer.Arrived (P.arrivalOf (d .lines) e c))
+        × (arriving.doneAt card shelf i memory c .rises ≡ row i (arrivalRises (P.arrivalOf (d .lines) e c)))
         × Alike card (arriving.doneAt card shelf i memory c .reply .shelf) memory (arriving.storeAt card shelf i memory store c) (P.arrived d i c)
     unfolding P.arrived
     arrive-alike whole =
@@ -232,5 +236,6 @@ module _ (card : Card) (shelf : Shelf) (memory store : List ℕ) (d : D.Shelf) (
         let happened = entries (D.numberOf e) (arrivalCounts (P.arrivalOf (d .lines) e c)) in
         let r = by-way way (good-way c whole (d .lines) (a .ranged) (e .settings)) happened in (
           ap (λ w. arriving.doneBy w shelf i .reply .answer) same ∙ r .answer,
+          ap (λ w. arriving.doneBy w shelf i .rises) same ∙ r .rises,
           subst (λ w. Alike card (arriving.doneBy w shelf i .reply .shelf) memory (arriving.storeBy w u i store c) (D.after d i (D.withInlet e (P.inletBy way e)) happened)) (sym same) (r .after),
         )
