@@ -1,0 +1,196 @@
+-- Every event does on the shelf what it does on the document's. Assumes nothing.
+use Prim.Native.Nat.{ℕ, _+_, _<_, _≤_}
+use native.Mathlib.Omega.{arith}
+use mathlib.Core.Path.{_≡_, refl, sym, ap, subst, _∙_}
+use mathlib.Core.Bool.{Bool, true, false, cond}
+use mathlib.Core.List.{List, [], _∷_}
+use lib.Dec.{eqb}
+use lib.ListN.{length, length-set, getD}
+use borrow.Author.Tests.{eqb-true, ne-eqb}
+use Rattle.card.specs.declared.Card.{Card}
+use Rattle.shelf.specs.Shelves as S
+use Rattle.shelf.specs.declared.Found as F
+use Rattle.shelf.specs.declared.Found.the-variants as found
+use Rattle.shelf.specs.declared.Shelf.{Shelf}
+use Rattle.soundness.specs.State.{soundOf, Sound}
+use Rattle.soundness.proofs.Facts.{sound-iff}
+use Rattle.queueing.specs.Taking.{leaving}
+use Rattle.queueing.specs.declared.Leaving as L
+use Rattle.queueing.specs.declared.Leaving.the-variants as leaves
+use Rattle.answer.specs.Answers.{refused, row, none, arrivalRises, #taken}
+use Rattle.answer.specs.declared.Answer.the-variants as answer
+use Rattle.counters.specs.Counting.{settledTo, settled, value, zero}
+use Rattle.counters.proofs.Settling.{settled-ahead}
+use Rattle.counters.specs.declared.Counters as C
+use Rattle.admit.specs.Admission.{atUnit, admitted, decided, toldApart, unitAt, Housed}
+use Rattle.admit.specs.declared.Admitted as A
+use Rattle.admit.specs.declared.Admitted.the-variants.{At, Refused}
+use Rattle.admit.proofs.Laws.{sound-housed}
+use Rattle.arriving.specs.Arriving as arriving
+use Rattle.taking.specs.Takes as taking
+use Rattle.entry.specs.Counts.{countOf, counted}
+use Rattle.entry.specs.declared.Counted.the-variants as Counted
+use Rattle.document.specs.Events.{Event, arrive, frame, hear, take, count, Said, answers, counts}
+use Rattle.document.specs.Counters.{Counter, placeOf, counterOf, countersOf, entries, arrivalCounts}
+use Rattle.document.specs.Shelf as D
+use Rattle.document.specs.Arrival as P
+use Rattle.document.specs.Take as T
+use Rattle.document.specs.Steps as document
+use Rattle.running.specs.Events.{World, Outcome, ended, countSaid, happens}
+use Rattle.running.specs.Keeping.{soundIn}
+use Rattle.refining.proofs.Alike.{Alike, RowAlike, WorldAlike}
+use Rattle.refining.proofs.Finds.{find-alike, found-below, declared-is}
+use Rattle.refining.proofs.Rows.{Different, row-alike, agree-arrival}
+use Rattle.refining.proofs.Arrives.{arrive-alike}
+use Rattle.refining.proofs.Takes.{take-alike}
+
+-- what an event comes to is what it comes to on the document's shelf
+pub record StepAlike (card : Card) (w : World) (d : D.Shelf) (o : Outcome) (s : document.Step) : Type 0 where
+  pub said : o .said ≡ s .said
+  pub bytes : o .bytes ≡ s .bytes
+  pub many : length (s .shelf .units) ≡ length (d .units)
+  pub shelf : Alike card (o .world .shelf) (o .world .memory) (o .world .store) (s .shelf)
+  pub rows : (j : ℕ) → j < length (d .units) → RowAlike (o .world .rows) (s .shelf) j
+  pub beyond : (j : ℕ) → length (d .units) ≤ j → getD (o .world .rows) j zero ≡ getD (w .rows) j zero
+
+module _ (card : Card) (w : World) (d : D.Shelf) (a : WorldAlike card w d) where
+  facts : Sound card (w .shelf) (length (w .store)) (length (w .rows))
+  facts = sound-iff card (w .shelf) (length (w .store)) (length (w .rows)) .0 (a .sound)
+
+  pub housed : (j : ℕ) → j < length (d .units) → Housed j (unitAt (w .shelf) j) (length (w .store))
+  housed j h = sound-housed card (w .shelf) (length (w .store)) (length (w .rows)) (a .sound) j (omega (arith, h, a .shelf .many)) .0
+
+  pub enough : length (d .units) ≤ length (w .rows)
+  enough = omega (arith, facts .rows, a .shelf .counted)
+
+  number-is : (i : ℕ) → i < length (d .units) → S.numberOf (getD (S.declared (w .shelf)) i S.blank) ≡ D.numberOf (D.unitAt d i)
+  number-is i h = ap S.numberOf (declared-is card (w .shelf) (w .memory) (w .store) d (a .shelf) i h) ∙ ap (λ s. s .number) (a .shelf .units i h .settings)
+
+  pub once : Different (d .units)
+  once i j h k e = facts .once i j h (omega (arith, k, a .shelf .many)) (number-is i (omega (arith, h, k)) ∙ e ∙ sym (number-is j k))
+
+  -- a refusal leaves all as it was
+  as-was : (number : ℕ) (lent : List ℕ) → StepAlike card w d (record { said = answers (answer.Refused number); world = w; bytes = lent }) (document.refused d number lent)
+  as-was number lent = record { said = refl; bytes = refl; many = refl; shelf = a .shelf; rows = a .rows; beyond = λ j h. refl }
+
+  -- an event at a unit: let in on both, or refused with the same number
+  at-unit : (unit : ℕ) (right : Bool) (lent : List ℕ) (out : A.Admitted → Outcome) (inside : ℕ → document.Step) →
+      ((number : ℕ) → 0 < number → out (Refused number) ≡ record { said = answers (answer.Refused number); world = w; bytes = lent }) →
+      ((i : ℕ) → i < length (d .units) → right ≡ true → StepAlike card w d (out (At i)) (inside i)) →
+      StepAlike card w d (out (admitted card (w .shelf) (length (w .store)) (length (w .rows)) unit right))
+      (document.admitted (D.findIn (d .units) unit) right inside (λ number. document.refused d number lent))
+  unfolding admitted atUnit document.admitted
+  at-unit unit right lent out inside refusal let-in =
+      rw (a .sound, find-alike card (w .shelf) (w .memory) (w .store) d (a .shelf) unit) (go (D.findIn (d .units) unit) refl right refl)
+    where
+      refused-alike : (number : ℕ) → 0 < number → StepAlike card w d (out (Refused number)) (document.refused d number lent)
+      refused-alike number some = subst (λ o. StepAlike card w d o (document.refused d number lent)) (sym (refusal number some)) (as-was number lent)
+
+      go : (f : F.Found) → D.findIn (d .units) unit ≡ f → (b : Bool) → right ≡ b →
+          StepAlike card w d (out (atUnit f b)) (document.admitted f b inside (λ number. document.refused d number lent))
+      go found.Nothing e b r = refused-alike 9 (omega arith)
+      go (found.At i) e false r = refused-alike 10 (omega arith)
+      go (found.At i) e true r =
+          let-in i (found-below card (w .shelf) (w .memory) (w .store) d (a .shelf) unit i (find-alike card (w .shelf) (w .memory) (w .store) d (a .shelf) unit ∙ e)) r
+
+  below-32 : (i : ℕ) → i < length (d .units) → i < 32
+  below-32 i h = housed i h .below
+
+  -- arrival
+  arrive-step : (unit : ℕ) (c : List ℕ) → StepAlike card w d (happens card w (arrive unit c)) (document.happensTo d (arrive unit c))
+  unfolding happens document.happensTo decided settledTo P.arrived
+  arrive-step unit c =
+      at-unit unit (eqb (length c) 53) c
+      (λ adm.
+      ended w (decided adm (λ place. arriving.doneAt card (w .shelf) place (w .memory) c) (refused (w .shelf)))
+      (decided adm (λ place. arriving.storeAt card (w .shelf) place (w .memory) (w .store) c) (λ number. w .store)) c)
+      (λ place. document.step (answers (answer.Arrived (P.arrivalOf (d .lines) (D.unitAt d place) c))) (P.arrived d place c) c)
+      (λ number some. refl)
+      (λ i h r.
+      let x = arrive-alike card (w .shelf) (w .memory) (w .store) d (a .shelf) housed i h c (eqb-true (length c) 53 r) in
+      let e = D.unitAt d i in
+      let new = D.withInlet e (P.inletBy (P.wayOf (d .lines) (e .settings) c) e) in
+      let rises = x .1 in
+      record {
+        said = ap answers (x .0);
+        bytes = refl;
+        many = length-set (d .units) i new;
+        shelf = x .2;
+        rows = subst (λ z. (j : ℕ) → j < length (d .units) → RowAlike (settled (w .rows) z) (P.arrived d i c) j) (sym rises)
+            (row-alike (w .rows) d once enough (a .rows) i (arrivalRises (P.arrivalOf (d .lines) e c)) new (arrivalCounts (P.arrivalOf (d .lines) e c)) h (below-32 i h) refl (agree-arrival (P.arrivalOf (d .lines) e c)));
+        beyond = λ j k.
+            ap (λ z. getD (settled (w .rows) z) j zero) rises ∙ settled-ahead (w .rows) (row i (arrivalRises (P.arrivalOf (d .lines) e c))) (i + 1) j (omega (arith, h, k));
+      })
+
+  -- a take leaves as many units, and the rows beyond them
+  took-from : (cells : List D.Cell) (i q : ℕ) (buffer : List ℕ) → length (T.takesFrom cells d i q buffer .shelf .units) ≡ length (d .units)
+  unfolding T.takesFrom
+  took-from [] i q buffer = refl
+  took-from (c ∷ cells) i q buffer = length-set (d .units) i (D.withQueue (D.unitAt d i) q cells)
+
+  took-many : (l : L.Leaving) (i : ℕ) (buffer : List ℕ) → length (T.takesBy l d i buffer .shelf .units) ≡ length (d .units)
+  unfolding T.takesBy
+  took-many (leaves.Queue q) i buffer = took-from (D.queueAt (D.unitAt d i) q) i q buffer
+  took-many leaves.Empty i buffer = refl
+
+  took-beyond : (l : L.Leaving) (i j : ℕ) → i < j → getD (settled (w .rows) (taking.doneBy l (w .shelf) i .rises)) j zero ≡ getD (w .rows) j zero
+  unfolding taking.doneBy settledTo
+  took-beyond (leaves.Queue q) i j h = settled-ahead (w .rows) (row i #taken) (i + 1) j (omega arith)
+  took-beyond leaves.Empty i j h = refl
+
+  -- count
+  counters-are : (row : C.Counters) (unit : ℕ) → ((c : Counter) → value row (placeOf c) ≡ counterOf (d .history) unit c) → row ≡ countersOf (d .history) unit
+  counters-are row unit e =
+      λ t. record {
+        arrived = e Rattle.document.specs.Counters.arrived t;
+        hec = e Rattle.document.specs.Counters.hec t;
+        ignored = e Rattle.document.specs.Counters.ignored t;
+        misrouted = e Rattle.document.specs.Counters.misrouted t;
+        inletfull = e Rattle.document.specs.Counters.inletfull t;
+        sent = e Rattle.document.specs.Counters.sent t;
+        unheard = e Rattle.document.specs.Counters.unheard t;
+        damaged = e Rattle.document.specs.Counters.damaged t;
+        queued = e Rattle.document.specs.Counters.queued t;
+        full = e Rattle.document.specs.Counters.full t;
+        clp = e Rattle.document.specs.Counters.clp t;
+        wide = e Rattle.document.specs.Counters.wide t;
+        taken = e Rattle.document.specs.Counters.taken t;
+      }
+
+  count-step : (unit : ℕ) → StepAlike card w d (happens card w (count unit)) (document.happensTo d (count unit))
+  unfolding happens document.happensTo counted toldApart countSaid
+  count-step unit =
+      at-unit unit true []
+      (λ adm. record { said = countSaid (countOf (toldApart adm) (w .rows)); world = w; bytes = [] })
+      (λ place. document.step (counts (countersOf (d .history) (D.numberOf (D.unitAt d place)))) d [])
+      (λ number some. ap (λ b. record { said = countSaid (cond b (Counted.Counters (getD (w .rows) 0 zero)) (Counted.Refused number)); world = w; bytes = [] }) (ne-eqb number 0 (λ e. omega arith)))
+      (λ i h r.
+      record {
+        said = ap counts (counters-are (getD (w .rows) i zero) (D.numberOf (D.unitAt d i)) (a .rows i h));
+        bytes = refl;
+        many = refl;
+        shelf = a .shelf;
+        rows = a .rows;
+        beyond = λ j k. refl;
+      })
+
+  -- take
+  take-step : (unit : ℕ) (buffer : List ℕ) → StepAlike card w d (happens card w (take unit buffer)) (document.happensTo d (take unit buffer))
+  unfolding happens document.happensTo decided settledTo
+  take-step unit buffer =
+      at-unit unit (eqb (length buffer) 53) buffer
+      (λ adm.
+      ended w (decided adm (taking.doneAt (w .shelf)) (refused (w .shelf))) (w .store)
+      (decided adm (λ place. taking.bufferAt (w .shelf) place (w .store) buffer) (λ number. buffer)))
+      (λ place. document.tookStep (T.takes d place buffer))
+      (λ number some. refl)
+      (λ i h r.
+      let x = take-alike card (w .shelf) (w .memory) (w .store) d (a .shelf) i h buffer in
+      record {
+        said = ap answers (x .answer);
+        bytes = x .bytes;
+        many = took-many (T.leaving (D.unitAt d i)) i buffer;
+        shelf = x .after;
+        rows = x .rows (w .rows) once enough (below-32 i h) (a .rows);
+        beyond = λ j k. took-beyond (leaving (unitAt (w .shelf) i .outlet)) i j (omega (arith, h, k));
+      })
