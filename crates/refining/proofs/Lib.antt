@@ -3,3 +3,4 @@ pub mod Finds
 pub mod Changes
 pub mod Takes
 pub mod Arrives
+pub mod Rows
