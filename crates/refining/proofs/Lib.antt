@@ -4,3 +4,4 @@ pub mod Changes
 pub mod Takes
 pub mod Arrives
 pub mod Rows
+pub mod Opens
