@@ -59,7 +59,8 @@ times-other v [] u c d = refl
 times-other v (k ∷ cs) u c d = rw (ne-eqb v u d) (times-other v cs u c d)
 
 -- B. a row
-placed : (c : Counter) → placeOf c < 13
+-- there are thirteen
+pub placed : (c : Counter) → placeOf c < 13
 placed arrived = omega arith
 placed hec = omega arith
 placed ignored = omega arith
