@@ -59,6 +59,7 @@ pub record UnitAlike (store : List ℕ) (place : ℕ) (u : U.Unit) (d : D.Unit) 
   pub limits : u .outlet .limits ≡ d .limits
   pub sendable : AllSendable (d .inlet)
   pub inlet : inletCells store place (u .inlet) ≡ map onBus (d .inlet)
+  pub rings : length (u .outlet .queues) ≡ 4
   pub four : length (d .queues) ≡ 4
   pub queues : (q : ℕ) → q < 4 → map offBus (outletCells store place (u .outlet .limits) q (queue (u .outlet) q)) ≡ D.queueAt d q
 
@@ -90,6 +91,7 @@ elsewhere store i j slot bytes u d whole few inside apart housed a =
       limits = a .limits;
       sendable = a .sendable;
       inlet = inlet-elsewhere i (u .inlet) (housed .inlet) store bytes whole j slot few inside apart ∙ a .inlet;
+      rings = a .rings;
       four = a .four;
       queues = λ q h. ap (map offBus) (outlet-elsewhere i (u .outlet .limits) (housed .limits) q h (queue (u .outlet) q) (housed .queues .each q h) store bytes whole j slot few inside apart) ∙ a .queues q h;
     }

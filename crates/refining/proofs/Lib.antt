@@ -1,3 +1,4 @@
 pub mod Alike
 pub mod Finds
 pub mod Changes
+pub mod Takes
