@@ -2,3 +2,4 @@ pub mod Alike
 pub mod Finds
 pub mod Changes
 pub mod Takes
+pub mod Hears
