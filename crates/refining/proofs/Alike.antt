@@ -70,6 +70,7 @@ RowAlike rows d i = (c : Counter) → value (getD rows i zero) (placeOf c) ≡ c
 -- everything but the counters
 pub record Alike (card : Card) (shelf : Shelf) (memory store : List ℕ) (d : D.Shelf) : Type 0 where
   pub many : length (S.declared shelf) ≡ length (d .units)
+  pub counted : shelf .count ≡ length (d .units)
   pub units : (i : ℕ) → i < length (d .units) → UnitAlike store i (unitAt shelf i) (D.unitAt d i)
   pub known : (i : ℕ) → i < length (d .units) → Known card memory (d .lines) (unitAt shelf i)
   pub ranged : AllInRange (d .lines)

@@ -31,6 +31,7 @@ module _ (card : Card) (shelf : Shelf) (memory store : List ℕ) (d : D.Shelf) (
         many =
             length-take (shelf .count) (set (shelf .units) i u) ∙ ap (min (shelf .count)) (length-set (shelf .units) i u)
             ∙ sym (length-take (shelf .count) (shelf .units)) ∙ a .many ∙ sym (length-set (d .units) i e);
+        counted = a .counted ∙ sym (length-set (d .units) i e);
         units = λ j h. by-place j (subst (λ n. j < n) (length-set (d .units) i e) h);
         known = λ j h. knows-place j (subst (λ n. j < n) (length-set (d .units) i e) h);
         ranged = a .ranged;

@@ -6,7 +6,7 @@ use mathlib.Core.Logic.{_≢_}
 use mathlib.Core.Bool.{Bool, true, false, cond, _&&_}
 use mathlib.Core.List.{List, [], _∷_, _++_, map, map-append}
 use lib.Dec.{eqb, leb}
-use lib.ListN.{length, length-set, length-take, getD, set, take, drop, take-append-drop}
+use lib.ListN.{length, length-set, length-take, length-drop, getD, set, take, drop, take-append-drop}
 use lib.Seq.{getD-set-same, getD-set-other, drop-append-le, take-append-le}
 use borrow.Author.Tests.{leb-true, leb-false}
 use Rattle.octets.specs.Octets.{two, four, part}
@@ -51,6 +51,7 @@ use Rattle.hearing.specs.Hearings as hearing
 use Rattle.hearing.specs.declared.Plan as P
 use Rattle.hearing.specs.declared.Plan.the-variants.{Queue, Lost}
 use Rattle.hearing.proofs.Plans.{before-parity}
+use Rattle.document.specs.Counters.{entries, hearingCounts}
 use Rattle.document.specs.Shelf as D
 use Rattle.document.specs.Hearing as paper
 use Rattle.refining.proofs.Alike.{UnitAlike, Known, Alike, offBus, elsewhere}
@@ -219,3 +220,84 @@ copy-elsewhere store i j u v e (frame.Cell t class header) bytes whole here ther
         let b = start-inside (u .outlet .limits) q (here .limits) few in
         let spot = tail-lt (capacity (u .outlet .limits) q) (omega arith) (queue (u .outlet) q) (here .queues .each q few) (omega arith) in
         elsewhere store j i (outletSlot (u .outlet .limits) q (tail (queue (u .outlet) q) (capacity (u .outlet .limits) q))) bytes v e whole (omega arith) (here .inside) (λ x. apart (sym x)) there a
+
+-- 2. what is heard of a frame
+abbrev SayableIn : Ad.Address → Type 0
+SayableIn Bad = Unit {0}
+SayableIn (To t class) = Sayable t
+
+chosen : (b : Bool) (x y : Ad.Address) → (b ≡ true → SayableIn x) → (b ≡ false → SayableIn y) → SayableIn (cond b x y)
+chosen true x y p q = p refl
+chosen false x y p q = q refl
+
+-- a routing header says only what can be said in one
+address-sayable : (r : ℕ) → SayableIn (address r)
+unfolding address
+address-sayable r =
+    chosen (eqb (check (r / 2 ^ 4)) (r % 2 ^ 4)) _ _
+    (λ good.
+    chosen (eqb (kindIn r) 0) _ _
+    (λ one. chosen (leb (numberIn r) 31) _ _ (λ t. leb-true (numberIn r) 31 t) (λ f. tt))
+    (λ more.
+    chosen (eqb (kindIn r) 1) _ _ (λ some. omega arith)
+    (λ rest. chosen (eqb (kindIn r) 2) _ _ (λ all. chosen (eqb (numberIn r) 0) _ _ (λ t. tt) (λ f. tt)) (λ f. tt))))
+    (λ bad. tt)
+
+four-before : (f : List ℕ) → length f ≡ 57 → four (take 56 f) 4 ≡ four f 4
+four-before f l = let n = before-parity f l in sym (four-append (take 56 f) (drop 56 f) 4 (omega arith)) ∙ ap (λ x. four x 4) (take-append-drop 56 f)
+
+part-before : (f : List ℕ) → length f ≡ 57 → part (take 56 f) 8 48 ≡ part f 8 48
+part-before f l =
+    let n = before-parity f l in
+    sym (take-append-le 48 (drop 8 (take 56 f)) (drop 56 f) (let m = length-drop 8 (take 56 f) in omega arith))
+    ∙ ap (take 48) (sym (drop-append-le 8 (take 56 f) (drop 56 f) (omega arith)))
+    ∙ ap (λ x. part x 8 48) (take-append-drop 56 f)
+
+pub heard-says : (f : List ℕ) → length f ≡ 57 → Says (heard f) (take 56 f)
+unfolding heard
+heard-says f l = pick (eqb (length f) 57) (eqb (parity (take 56 f)) (getD f 56 0))
+  where
+    to : (x : Ad.Address) → SayableIn x → Says (delivered x (four f 4)) (take 56 f)
+    to Bad s = tt
+    to (To t class) s = (s, four-before f l)
+
+    pick : (b c : Bool) → Says (cond b (cond c (delivered (address (two f 0)) (four f 4)) frame.Damaged) frame.Length) (take 56 f)
+    pick false c = tt
+    pick true false = tt
+    pick true true = to (address (two f 0)) (address-sayable (two f 0))
+
+-- a unit with its copy knows what it knew
+pub copy-knows : (card : Card) (memory : List ℕ) (lines : List Line) (u : U.Unit) (h : H.Heard) → Known card memory lines u → Known card memory lines (hearing.copyOf u h .unit)
+unfolding hearing.copyBy
+copy-knows card memory lines u h k = go (hearing.planOf u h)
+  where
+    go : (p : P.Plan) → Known card memory lines (hearing.copyBy p u .unit)
+    go (Lost f) = k
+    go (Queue q) = record { looks = k .looks; hearing = k .hearing }
+
+copy-fate : (u : U.Unit) (p : P.Plan) → hearing.copyBy p u .fate ≡ hearing.fateBy p
+unfolding hearing.copyBy hearing.fateBy
+copy-fate u (Lost f) = refl
+copy-fate u (Queue q) = refl
+
+-- 3. a frame handed in to a unit
+pub hear-alike : (card : Card) (shelf : Shelf) (memory store : List ℕ) (d : D.Shelf) (rows : ℕ) → soundOf card shelf (length store) rows ≡ true → Alike card shelf memory store d →
+    (n i : ℕ) → S.findIn (S.declared shelf) n ≡ found.At i → (f : List ℕ) → length f ≡ 57 →
+    (hearing.doneAt shelf i f .reply .answer ≡ Heard (paper.hearingOf (d .lines) (D.unitAt d i) (heard f)))
+    × Alike card (hearing.doneAt shelf i f .reply .shelf) memory (hearing.storeAt shelf i store f) (paper.handedIn d i f)
+unfolding paper.handedIn
+hear-alike card shelf memory store d rows sound a n i at f long =
+    let here = found-below card shelf memory store d a n i at in
+    let housed : (j : ℕ) → j < length (d .units) → Housed j (unitAt shelf j) (length store) = λ j k. sound-housed card shelf (length store) rows sound j (omega (arith, k, a .many)) .0 in
+    let u = unitAt shelf i in
+    let e = D.unitAt d i in
+    let says = heard-says f long in
+    let whole = before-parity f long in (
+      ap Heard (copy-fate u (hearing.planOf u (heard f)) ∙ fate-alike card memory store (d .lines) i u e (a .units i here) (a .known i here) (heard f) (take 56 f) says),
+      changed card shelf memory store d a i here (hearing.copyOf u (heard f) .unit) (paper.hearingUnit (d .lines) e (heard f) (payload f)) (hearing.storeAt shelf i store f)
+          (entries (D.numberOf e) (hearingCounts (paper.hearingOf (d .lines) e (heard f))))
+          (subst (λ b. UnitAlike (hearing.storeAt shelf i store f) i (hearing.copyOf u (heard f) .unit) (paper.hearingUnit (d .lines) e (heard f) b)) (part-before f long)
+          (copy-alike card memory store (d .lines) i u e (a .units i here) (a .known i here) (housed i here) (heard f) (take 56 f) whole says))
+          (copy-knows card memory (d .lines) u (heard f) (a .known i here))
+          (λ j k ne. copy-elsewhere store i j u (unitAt shelf j) (D.unitAt d j) (heard f) (take 56 f) whole (housed i here) (housed j k) ne (a .units j k)),
+    )
