@@ -30,6 +30,7 @@ use Rattle.shelf.specs.Shelves as S
 use Rattle.shelf.specs.declared.Unit as U
 use Rattle.shelf.specs.declared.Shelf.{Shelf}
 use Rattle.told.proofs.Grown.{decide}
+use Rattle.answer.specs.Answers.{#taken}
 use Rattle.answer.specs.declared.Answer as A
 use Rattle.answer.specs.declared.Answer.the-variants.{Taken, Empty}
 use Rattle.admit.specs.Admission.{unitAt, withUnit, withQueue}
@@ -37,9 +38,12 @@ use Rattle.taking.specs.Takes as taking
 use Rattle.document.specs.Counters.{entries, taken}
 use Rattle.document.specs.Shelf as D
 use Rattle.document.specs.Take as T
-use Rattle.refining.proofs.Alike.{UnitAlike, Known, Alike, offBus}
+use Rattle.counters.specs.Counting.{settledTo, settled}
+use Rattle.counters.specs.declared.Counters as C
+use Rattle.refining.proofs.Alike.{UnitAlike, Known, Alike, RowAlike, offBus}
 use Rattle.refining.proofs.Finds.{length-map}
 use Rattle.refining.proofs.Changes.{changed}
+use Rattle.refining.proofs.Rows.{Different, row-alike, agree-taken}
 
 -- what is held is what the document's queue holds
 module _ (store : List ℕ) (i : ℕ) (u : U.Unit) (d : D.Unit) (a : UnitAlike store i u d) where
@@ -134,6 +138,7 @@ module _ (card : Card) (shelf : Shelf) (memory store : List ℕ) (d : D.Shelf) (
     pub answer : taking.doneBy l shelf i .reply .answer ≡ t .answer
     pub bytes : taking.bufferBy l u i store buffer ≡ t .bytes
     pub after : Alike card (taking.doneBy l shelf i .reply .shelf) memory store (t .shelf)
+    pub rows : (rows : List C.Counters) → Different (d .units) → length (d .units) ≤ length rows → i < 32 → ((j : ℕ) → j < length (d .units) → RowAlike rows d j) → (j : ℕ) → j < length (d .units) → RowAlike (settled rows (taking.doneBy l shelf i .rises)) (t .shelf) j
 
   by-queue : (q : ℕ) → q < 4 → 0 < held (u .outlet) q → TakeAlike (leaves.Queue q) (T.takesFrom (D.queueAt e q) d i q buffer)
   unfolding T.takesFrom taking.doneBy taking.bufferBy
@@ -145,15 +150,17 @@ module _ (card : Card) (shelf : Shelf) (memory store : List ℕ) (d : D.Shelf) (
         bytes = handed-alike store i u e x q few some;
         after = changed card shelf memory store d a i here (taking.without u q) (D.withQueue e q (rest store i u e x q few some)) store (entries (D.numberOf e) (taken ∷ []))
             (unit-left store i u e x q few some) (record { looks = a .known i here .looks; hearing = a .known i here .hearing }) (λ j h n. a .units j h);
+        rows = λ rows once enough low alike.
+            row-alike rows d once enough alike i #taken (D.withQueue e q (rest store i u e x q few some)) (taken ∷ []) here low refl agree-taken;
       })
 
   by-leaving : (l : L.Leaving) → leaving (u .outlet) ≡ l → TakeAlike l (T.takesBy l d i buffer)
-  unfolding T.takesBy taking.doneBy taking.bufferBy
+  unfolding T.takesBy taking.doneBy taking.bufferBy settledTo
   by-leaving (leaves.Queue q) m =
       let f = leaving-iff (u .outlet) (leaves.Queue q) .0 m in
       let n = few-queues (u .outlet .limits .mode) in
       by-queue q (omega (arith, n, f .0)) (f .1)
-  by-leaving leaves.Empty m = record { answer = refl; bytes = refl; after = a }
+  by-leaving leaves.Empty m = record { answer = refl; bytes = refl; after = a; rows = λ rows once enough low alike. alike }
 
   pub take-alike : TakeAlike (leaving (u .outlet)) (T.takes d i buffer)
   take-alike = subst (λ l. TakeAlike (leaving (u .outlet)) (T.takesBy l d i buffer)) (leaving-alike store i u e (a .units i here)) (by-leaving (leaving (u .outlet)) refl)
