@@ -2,6 +2,7 @@ pub mod Alike
 pub mod Finds
 pub mod Changes
 pub mod Rows
+pub mod Hears
 pub mod Arrives
 pub mod Takes
 pub mod Opens

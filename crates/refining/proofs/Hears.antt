@@ -1,0 +1,303 @@
+-- A unit hears a frame, on both. Assumes nothing.
+use Prim.Native.Nat.{ℕ, _+_, _<_, _≤_, _/_, _%_, _^_}
+use native.Mathlib.Omega.{arith}
+use mathlib.Core.Path.{_≡_, refl, sym, ap, ap₂, subst, _∙_}
+use mathlib.Core.Logic.{_≢_}
+use mathlib.Core.Bool.{Bool, true, false, cond, _&&_}
+use mathlib.Core.List.{List, [], _∷_, _++_, map, map-append}
+use lib.Dec.{eqb, leb}
+use lib.ListN.{length, length-set, length-take, length-drop, getD, set, take, drop, take-append-drop}
+use lib.Seq.{getD-set-same, getD-set-other, drop-append-le, take-append-le}
+use borrow.Author.Tests.{leb-true, leb-false}
+use Rattle.octets.specs.Octets.{two, four, part}
+use Rattle.octets.proofs.Numbers.{four-append}
+use Rattle.header.specs.declared.Link.{Link}
+use Rattle.routing.specs.Routing.{check, kindIn, classIn, numberIn, said, address}
+use Rattle.routing.specs.declared.Target as T
+use Rattle.routing.specs.declared.Target.the-variants as target
+use Rattle.routing.specs.declared.Address as Ad
+use Rattle.routing.specs.declared.Address.the-variants.{Bad, To}
+use Rattle.routing.proofs.Laws.{Sayable}
+use Rattle.card.specs.declared.Card.{Card}
+use Rattle.bus.specs.Frame.{heard, payload, parity, delivered}
+use Rattle.bus.specs.declared.Heard as H
+use Rattle.bus.specs.declared.Heard.the-variants as frame
+use Rattle.arbiter.proofs.Requests.{same-or}
+use Rattle.outlet.specs.Outlets.{capacity, queue, empty}
+use Rattle.outlet.specs.declared.Limits.{Limits}
+use Rattle.outlet.specs.declared.Ring.{Ring}
+use Rattle.queueing.specs.Hearing.{queueOf, limit, held, tooWide, busClp, fate, fateAt}
+use Rattle.queueing.specs.declared.Fate.the-variants as fates
+use Rattle.queueing.proofs.Fates.{queue-lt}
+use Rattle.store.specs.Rings.{tail, pushed}
+use Rattle.store.specs.Places.{Cell, start, outletSlot, putAt, outletCells}
+use Rattle.store.proofs.Rounds.{tail-lt}
+use Rattle.store.proofs.Slots.{start-inside}
+use Rattle.store.proofs.Queues.{length-cells, outlet-pushed, outlet-beside, inlet-below}
+use Rattle.shelf.specs.Sessions.{hears}
+use Rattle.shelf.specs.Shelves as S
+use Rattle.shelf.specs.declared.Found.the-variants as found
+use Rattle.shelf.specs.declared.Unit as U
+use Rattle.shelf.specs.declared.Shelf.{Shelf}
+use Rattle.line.specs.declared.Line.{Line}
+use Rattle.told.specs.Told.{hearsIn}
+use Rattle.soundness.specs.State.{soundOf}
+use Rattle.answer.specs.declared.Hearing as A
+use Rattle.answer.specs.declared.Hearing.the-variants.{Damaged, Other, Wide, Full, Clp, Queued}
+use Rattle.answer.specs.declared.Answer.the-variants.{Heard}
+use Rattle.admit.specs.Admission.{unitAt, withQueue, Housed}
+use Rattle.admit.proofs.Laws.{sound-housed}
+use Rattle.hearing.specs.Hearings as hearing
+use Rattle.hearing.specs.declared.Plan as P
+use Rattle.hearing.specs.declared.Plan.the-variants.{Queue, Lost}
+use Rattle.hearing.proofs.Plans.{before-parity}
+use Rattle.document.specs.Counters.{entries, hearingCounts}
+use Rattle.document.specs.Shelf as D
+use Rattle.document.specs.Hearing as paper
+use Rattle.refining.proofs.Alike.{UnitAlike, Known, Alike, offBus, elsewhere}
+use Rattle.refining.proofs.Finds.{length-map, found-below}
+use Rattle.refining.proofs.Changes.{changed}
+
+-- 1. how a copy ends: lost, and the document's unit is as it was, or behind the others in its queue, which has room
+pub data Ends (full : Bool) (q : ℕ) : P.Plan → A.Hearing → Type 0 where
+  lost : (f : A.Hearing) → ((d : D.Unit) (p : ℕ) (c : D.Cell) → paper.keeping f d p c ≡ d) → Ends full q (Lost f) f
+  queued : full ≡ false → Ends full q (Queue q) Queued
+
+-- whether it is addressed, too wide, finds the queue full or at its limit
+abbrev fated : Bool → Bool → Bool → Bool → A.Hearing
+fated mine wide full low = cond mine (cond wide Wide (cond full Full (cond low Clp Queued))) Other
+
+ends-so : (mine wide full low : Bool) (q : ℕ) →
+    Ends full q (cond mine (hearing.planFor (cond wide fates.Wide (cond full fates.Full (cond low fates.Clp fates.Queued))) q) (Lost Other)) (fated mine wide full low)
+unfolding hearing.planFor paper.keeping
+ends-so false wide full low q = lost Other (λ d p c. refl)
+ends-so true true full low q = lost Wide (λ d p c. refl)
+ends-so true false true low q = lost Full (λ d p c. refl)
+ends-so true false false true q = lost Clp (λ d p c. refl)
+ends-so true false false false q = queued refl
+
+-- at a unit: what befalls a cell with this target, class and header
+module _ (u : U.Unit) (t : T.Target) (class header : ℕ) where
+  abbrev own : ℕ
+  own = queueOf (u .outlet .limits) class
+
+  abbrev isFull : Bool
+  isFull = leb (capacity (u .outlet .limits) own) (held (u .outlet) own)
+
+  abbrev befalls : A.Hearing
+  befalls =
+      fated (hearing.addressed u t) (tooWide (u .settings .link) header) isFull
+      (eqb (busClp header) 1 && leb (limit (u .outlet .limits) own) (held (u .outlet) own))
+
+  ends-at : Ends isFull own (hearing.planOf u (frame.Cell t class header)) befalls
+  unfolding hearing.planOf fate fateAt
+  ends-at = ends-so (hearing.addressed u t) (tooWide (u .settings .link) header) isFull (eqb (busClp header) 1 && leb (limit (u .outlet .limits) own) (held (u .outlet) own)) own
+
+-- what is heard can be said in a routing header, and the bytes have its header
+abbrev pub Says : H.Heard → List ℕ → Type 0
+Says frame.Length bytes = Unit {0}
+Says frame.Damaged bytes = Unit {0}
+Says (frame.Cell t class header) bytes = Sayable t × (four bytes 4 ≡ header)
+
+module _ (card : Card) (memory store : List ℕ) (lines : List Line) (i : ℕ) (u : U.Unit) (d : D.Unit) (a : UnitAlike store i u d) (k : Known card memory lines u) where
+  -- the held count of a ring is the length of the document's queue
+  count-alike : (q : ℕ) → q < 4 → held (u .outlet) q ≡ D.held d q
+  count-alike q h =
+      sym (length-cells store i (start (u .outlet .limits) q) (capacity (u .outlet .limits) q) (queue (u .outlet) q))
+      ∙ sym (length-map offBus (outletCells store i (u .outlet .limits) q (queue (u .outlet) q))) ∙ ap length (a .queues q h)
+
+  addressed-alike : (t : T.Target) → Sayable t → hearing.addressed u t ≡ paper.addressed lines d t
+  unfolding hearing.addressed paper.addressed
+  addressed-alike (target.Unit n) s = ap (λ x. eqb (x .number) n) (a .settings)
+  addressed-alike (target.Session n) s = k .hearing n s ∙ ap (λ x. hearsIn lines (x .number) n) (a .settings)
+  addressed-alike target.All s = refl
+
+  befalls-alike : (t : T.Target) (class header : ℕ) → Sayable t → befalls u t class header ≡ paper.hearingOf lines d (frame.Cell t class header)
+  unfolding paper.hearingOf paper.fateIn
+  befalls-alike t class header s =
+      let n : held (u .outlet) (own u t class header) ≡ D.held d (queueOf (d .limits) class) = count-alike (own u t class header) (queue-lt (u .outlet .limits) class) ∙ ap (λ l. D.held d (queueOf l class)) (a .limits) in
+      λ z.
+      let l = a .limits z in
+      fated (addressed-alike t s z) (tooWide (a .settings z .link) header) (leb (capacity l (queueOf l class)) (n z)) (eqb (busClp header) 1 && leb (limit l (queueOf l class)) (n z))
+
+  ends-alike : (t : T.Target) (class header : ℕ) → Sayable t →
+      Ends (isFull u t class header) (own u t class header) (hearing.planOf u (frame.Cell t class header)) (paper.hearingOf lines d (frame.Cell t class header))
+  ends-alike t class header s =
+      subst (Ends (isFull u t class header) (own u t class header) (hearing.planOf u (frame.Cell t class header))) (befalls-alike t class header s) (ends-at u t class header)
+
+  -- the copy has the fate that the document's unit gives it
+  pub fate-alike : (h : H.Heard) (bytes : List ℕ) → Says h bytes → hearing.fateBy (hearing.planOf u h) ≡ paper.hearingOf lines d h
+  unfolding hearing.fateBy hearing.planOf paper.hearingOf
+  fate-alike frame.Length bytes s = refl
+  fate-alike frame.Damaged bytes s = refl
+  fate-alike (frame.Cell t class header) bytes s = go (ends-alike t class header (s .0))
+    where
+      go : {p : P.Plan} {f : A.Hearing} → Ends (isFull u t class header) (own u t class header) p f → hearing.fateBy p ≡ f
+      go (lost f same) = refl
+      go (queued room) = refl
+
+  -- a copy behind the others in a queue with room
+  module _ (housed : Housed i u (length store)) (bytes : List ℕ) (whole : length bytes ≡ 56) (q : ℕ) (few : q < 4) (room : held (u .outlet) q < capacity (u .outlet .limits) q) where
+    abbrev ring : Ring
+    ring = queue (u .outlet) q
+
+    abbrev spot : ℕ
+    spot = tail ring (capacity (u .outlet .limits) q)
+
+    abbrev after : List ℕ
+    after = putAt store i (outletSlot (u .outlet .limits) q spot) bytes
+
+    abbrev longer : List D.Cell
+    longer = D.queueAt d q ++ (offBus bytes ∷ [])
+
+    spot-lt : spot < capacity (u .outlet .limits) q
+    spot-lt = let b = start-inside (u .outlet .limits) q (housed .limits) few in tail-lt (capacity (u .outlet .limits) q) (omega arith) ring (housed .queues .each q few) (omega arith)
+
+    queues-longer : (p : ℕ) → p < 4 → map offBus (outletCells after i (u .outlet .limits) p (getD (set (u .outlet .queues) q (pushed ring)) p empty)) ≡ getD (set (d .queues) q longer) p []
+    queues-longer p h =
+        same-or p q
+        (λ e.
+        subst (λ k. map offBus (outletCells after i (u .outlet .limits) k (getD (set (u .outlet .queues) q (pushed ring)) k empty)) ≡ getD (set (d .queues) q longer) k []) (sym e)
+        (ap (λ r. map offBus (outletCells after i (u .outlet .limits) q r)) (getD-set-same (u .outlet .queues) q (pushed ring) empty (omega (arith, few, a .rings)))
+        ∙ ap (map offBus) (outlet-pushed i (u .outlet .limits) (housed .limits) q few ring (housed .queues .each q few) store bytes whole (housed .inside) room)
+        ∙ map-append offBus (outletCells store i (u .outlet .limits) q ring) (bytes ∷ [])
+        ∙ ap (λ l. l ++ (offBus bytes ∷ [])) (a .queues q few)
+        ∙ sym (getD-set-same (d .queues) q longer [] (omega (arith, few, a .four)))))
+        (λ ne.
+        ap (λ r. map offBus (outletCells after i (u .outlet .limits) p r)) (getD-set-other (u .outlet .queues) q p (pushed ring) empty ne)
+        ∙ ap (map offBus) (outlet-beside i (u .outlet .limits) (housed .limits) p h (queue (u .outlet) p) (housed .queues .each p h) store bytes whole (housed .inside) q spot few spot-lt ne)
+        ∙ a .queues p h ∙ sym (getD-set-other (d .queues) q p longer [] ne))
+
+    unit-longer : UnitAlike after i (withQueue u q (pushed ring)) (D.withQueue d q longer)
+    unit-longer =
+        record {
+          settings = a .settings;
+          limits = a .limits;
+          sendable = a .sendable;
+          inlet = inlet-below i (u .inlet) (housed .inlet) store bytes whole (housed .inside) (u .outlet .limits) (housed .limits) q spot few spot-lt ∙ a .inlet;
+          rings = length-set (u .outlet .queues) q (pushed ring) ∙ a .rings;
+          four = length-set (d .queues) q longer ∙ a .four;
+          queues = queues-longer;
+        }
+
+  -- the unit with its copy is the document's unit with its copy
+  pub copy-alike : Housed i u (length store) → (h : H.Heard) (bytes : List ℕ) → length bytes ≡ 56 → Says h bytes →
+      UnitAlike (hearing.storeOf u h i store bytes) i (hearing.copyOf u h .unit) (paper.hearingUnit lines d h (part bytes 8 48))
+  unfolding hearing.storeBy hearing.copyBy hearing.planOf paper.hearingUnit paper.keeping
+  copy-alike housed frame.Length bytes whole s = a
+  copy-alike housed frame.Damaged bytes whole s = a
+  copy-alike housed (frame.Cell t class header) bytes whole s = go (ends-alike t class header (s .0))
+    where
+      q : ℕ
+      q = own u t class header
+
+      go : {p : P.Plan} {f : A.Hearing} → Ends (isFull u t class header) q p f →
+          UnitAlike (hearing.storeBy p u i store bytes) i (hearing.copyBy p u .unit) (paper.keeping f d (queueOf (d .limits) class) (record { header = header; payload = part bytes 8 48 }))
+      go (lost f same) = subst (UnitAlike store i u) (sym (same d (queueOf (d .limits) class) (record { header = header; payload = part bytes 8 48 }))) a
+      go (queued room) =
+          subst (λ p. UnitAlike (after housed bytes whole q (queue-lt (u .outlet .limits) class) (leb-false _ _ room)) i (withQueue u q (pushed (queue (u .outlet) q))) (D.withQueue d p (D.queueAt d p ++ (record { header = header; payload = part bytes 8 48 } ∷ []))))
+          (ap (λ l. queueOf l class) (a .limits))
+          (subst (λ n. UnitAlike (after housed bytes whole q (queue-lt (u .outlet .limits) class) (leb-false _ _ room)) i (withQueue u q (pushed (queue (u .outlet) q))) (D.withQueue d q (D.queueAt d q ++ (record { header = n; payload = part bytes 8 48 } ∷ []))))
+          (s .1)
+          (unit-longer housed bytes whole q (queue-lt (u .outlet .limits) class) (leb-false _ _ room)))
+
+-- another unit is as it was
+pub copy-elsewhere : (store : List ℕ) (i j : ℕ) (u v : U.Unit) (e : D.Unit) (h : H.Heard) (bytes : List ℕ) → length bytes ≡ 56 → Housed i u (length store) → Housed j v (length store) → (j ≢ i) →
+    UnitAlike store j v e → UnitAlike (hearing.storeOf u h i store bytes) j v e
+unfolding hearing.storeBy hearing.planOf
+copy-elsewhere store i j u v e frame.Length bytes whole here there apart a = a
+copy-elsewhere store i j u v e frame.Damaged bytes whole here there apart a = a
+copy-elsewhere store i j u v e (frame.Cell t class header) bytes whole here there apart a = go (ends-at u t class header)
+  where
+    q : ℕ
+    q = own u t class header
+
+    go : {p : P.Plan} {f : A.Hearing} → Ends (isFull u t class header) q p f → UnitAlike (hearing.storeBy p u i store bytes) j v e
+    go (lost f same) = a
+    go (queued room) =
+        let few = queue-lt (u .outlet .limits) class in
+        let less : held (u .outlet) q < capacity (u .outlet .limits) q = leb-false _ _ room in
+        let b = start-inside (u .outlet .limits) q (here .limits) few in
+        let spot = tail-lt (capacity (u .outlet .limits) q) (omega arith) (queue (u .outlet) q) (here .queues .each q few) (omega arith) in
+        elsewhere store j i (outletSlot (u .outlet .limits) q (tail (queue (u .outlet) q) (capacity (u .outlet .limits) q))) bytes v e whole (omega arith) (here .inside) (λ x. apart (sym x)) there a
+
+-- 2. what is heard of a frame
+abbrev SayableIn : Ad.Address → Type 0
+SayableIn Bad = Unit {0}
+SayableIn (To t class) = Sayable t
+
+chosen : (b : Bool) (x y : Ad.Address) → (b ≡ true → SayableIn x) → (b ≡ false → SayableIn y) → SayableIn (cond b x y)
+chosen true x y p q = p refl
+chosen false x y p q = q refl
+
+-- a routing header says only what can be said in one
+address-sayable : (r : ℕ) → SayableIn (address r)
+unfolding address
+address-sayable r =
+    chosen (eqb (check (r / 2 ^ 4)) (r % 2 ^ 4)) _ _
+    (λ good.
+    chosen (eqb (kindIn r) 0) _ _
+    (λ one. chosen (leb (numberIn r) 31) _ _ (λ t. leb-true (numberIn r) 31 t) (λ f. tt))
+    (λ more.
+    chosen (eqb (kindIn r) 1) _ _ (λ some. omega arith)
+    (λ rest. chosen (eqb (kindIn r) 2) _ _ (λ all. chosen (eqb (numberIn r) 0) _ _ (λ t. tt) (λ f. tt)) (λ f. tt))))
+    (λ bad. tt)
+
+four-before : (f : List ℕ) → length f ≡ 57 → four (take 56 f) 4 ≡ four f 4
+four-before f l = let n = before-parity f l in sym (four-append (take 56 f) (drop 56 f) 4 (omega arith)) ∙ ap (λ x. four x 4) (take-append-drop 56 f)
+
+part-before : (f : List ℕ) → length f ≡ 57 → part (take 56 f) 8 48 ≡ part f 8 48
+part-before f l =
+    let n = before-parity f l in
+    sym (take-append-le 48 (drop 8 (take 56 f)) (drop 56 f) (let m = length-drop 8 (take 56 f) in omega arith))
+    ∙ ap (take 48) (sym (drop-append-le 8 (take 56 f) (drop 56 f) (omega arith)))
+    ∙ ap (λ x. part x 8 48) (take-append-drop 56 f)
+
+pub heard-says : (f : List ℕ) → length f ≡ 57 → Says (heard f) (take 56 f)
+unfolding heard
+heard-says f l = pick (eqb (length f) 57) (eqb (parity (take 56 f)) (getD f 56 0))
+  where
+    to : (x : Ad.Address) → SayableIn x → Says (delivered x (four f 4)) (take 56 f)
+    to Bad s = tt
+    to (To t class) s = (s, four-before f l)
+
+    pick : (b c : Bool) → Says (cond b (cond c (delivered (address (two f 0)) (four f 4)) frame.Damaged) frame.Length) (take 56 f)
+    pick false c = tt
+    pick true false = tt
+    pick true true = to (address (two f 0)) (address-sayable (two f 0))
+
+-- a unit with its copy knows what it knew
+pub copy-knows : (card : Card) (memory : List ℕ) (lines : List Line) (u : U.Unit) (h : H.Heard) → Known card memory lines u → Known card memory lines (hearing.copyOf u h .unit)
+unfolding hearing.copyBy
+copy-knows card memory lines u h k = go (hearing.planOf u h)
+  where
+    go : (p : P.Plan) → Known card memory lines (hearing.copyBy p u .unit)
+    go (Lost f) = k
+    go (Queue q) = record { looks = k .looks; hearing = k .hearing }
+
+copy-fate : (u : U.Unit) (p : P.Plan) → hearing.copyBy p u .fate ≡ hearing.fateBy p
+unfolding hearing.copyBy hearing.fateBy
+copy-fate u (Lost f) = refl
+copy-fate u (Queue q) = refl
+
+-- 3. a frame handed in to a unit
+pub hear-alike : (card : Card) (shelf : Shelf) (memory store : List ℕ) (d : D.Shelf) (rows : ℕ) → soundOf card shelf (length store) rows ≡ true → Alike card shelf memory store d →
+    (n i : ℕ) → S.findIn (S.declared shelf) n ≡ found.At i → (f : List ℕ) → length f ≡ 57 →
+    (hearing.doneAt shelf i f .reply .answer ≡ Heard (paper.hearingOf (d .lines) (D.unitAt d i) (heard f)))
+    × Alike card (hearing.doneAt shelf i f .reply .shelf) memory (hearing.storeAt shelf i store f) (paper.handedIn d i f)
+unfolding paper.handedIn
+hear-alike card shelf memory store d rows sound a n i at f long =
+    let here = found-below card shelf memory store d a n i at in
+    let housed : (j : ℕ) → j < length (d .units) → Housed j (unitAt shelf j) (length store) = λ j k. sound-housed card shelf (length store) rows sound j (omega (arith, k, a .many)) .0 in
+    let u = unitAt shelf i in
+    let e = D.unitAt d i in
+    let says = heard-says f long in
+    let whole = before-parity f long in (
+      ap Heard (copy-fate u (hearing.planOf u (heard f)) ∙ fate-alike card memory store (d .lines) i u e (a .units i here) (a .known i here) (heard f) (take 56 f) says),
+      changed card shelf memory store d a i here (hearing.copyOf u (heard f) .unit) (paper.hearingUnit (d .lines) e (heard f) (payload f)) (hearing.storeAt shelf i store f)
+          (entries (D.numberOf e) (hearingCounts (paper.hearingOf (d .lines) e (heard f))))
+          (subst (λ b. UnitAlike (hearing.storeAt shelf i store f) i (hearing.copyOf u (heard f) .unit) (paper.hearingUnit (d .lines) e (heard f) b)) (part-before f long)
+          (copy-alike card memory store (d .lines) i u e (a .units i here) (a .known i here) (housed i here) (heard f) (take 56 f) whole says))
+          (copy-knows card memory (d .lines) u (heard f) (a .known i here))
+          (λ j k ne. copy-elsewhere store i j u (unitAt shelf j) (D.unitAt d j) (heard f) (take 56 f) whole (housed i here) (housed j k) ne (a .units j k)),
+    )
