@@ -282,12 +282,11 @@ copy-fate u (Queue q) = refl
 
 -- 3. a frame handed in to a unit
 pub hear-alike : (card : Card) (shelf : Shelf) (memory store : List ℕ) (d : D.Shelf) (rows : ℕ) → soundOf card shelf (length store) rows ≡ true → Alike card shelf memory store d →
-    (n i : ℕ) → S.findIn (S.declared shelf) n ≡ found.At i → (f : List ℕ) → length f ≡ 57 →
+    (i : ℕ) → i < length (d .units) → (f : List ℕ) → length f ≡ 57 →
     (hearing.doneAt shelf i f .reply .answer ≡ Heard (paper.hearingOf (d .lines) (D.unitAt d i) (heard f)))
     × Alike card (hearing.doneAt shelf i f .reply .shelf) memory (hearing.storeAt shelf i store f) (paper.handedIn d i f)
 unfolding paper.handedIn
-hear-alike card shelf memory store d rows sound a n i at f long =
-    let here = found-below card shelf memory store d a n i at in
+hear-alike card shelf memory store d rows sound a i here f long =
     let housed : (j : ℕ) → j < length (d .units) → Housed j (unitAt shelf j) (length store) = λ j k. sound-housed card shelf (length store) rows sound j (omega (arith, k, a .many)) .0 in
     let u = unitAt shelf i in
     let e = D.unitAt d i in

@@ -17,7 +17,11 @@ use Rattle.soundness.proofs.Facts.{sound-iff}
 use Rattle.queueing.specs.Taking.{leaving}
 use Rattle.queueing.specs.declared.Leaving as L
 use Rattle.queueing.specs.declared.Leaving.the-variants as leaves
-use Rattle.answer.specs.Answers.{refused, row, none, arrivalRises, #taken}
+use Rattle.answer.specs.Answers.{refused, row, none, arrivalRises, hearingRises, #taken}
+use Rattle.answer.specs.declared.Hearing as H
+use Rattle.bus.specs.Frame.{heard, payload}
+use Rattle.hearing.specs.Hearings as hearing
+use Rattle.document.specs.Hearing as Q
 use Rattle.answer.specs.declared.Answer.the-variants as answer
 use Rattle.counters.specs.Counting.{settledTo, settled, value, zero}
 use Rattle.counters.proofs.Settling.{settled-ahead}
@@ -31,7 +35,7 @@ use Rattle.taking.specs.Takes as taking
 use Rattle.entry.specs.Counts.{countOf, counted}
 use Rattle.entry.specs.declared.Counted.the-variants as Counted
 use Rattle.document.specs.Events.{Event, arrive, frame, hear, take, count, Said, answers, counts}
-use Rattle.document.specs.Counters.{Counter, placeOf, counterOf, countersOf, entries, arrivalCounts}
+use Rattle.document.specs.Counters.{Counter, placeOf, counterOf, countersOf, entries, arrivalCounts, hearingCounts}
 use Rattle.document.specs.Shelf as D
 use Rattle.document.specs.Arrival as P
 use Rattle.document.specs.Take as T
@@ -40,7 +44,8 @@ use Rattle.running.specs.Events.{World, Outcome, ended, countSaid, happens}
 use Rattle.running.specs.Keeping.{soundIn}
 use Rattle.refining.proofs.Alike.{Alike, RowAlike, WorldAlike}
 use Rattle.refining.proofs.Finds.{find-alike, found-below, declared-is}
-use Rattle.refining.proofs.Rows.{Different, row-alike, agree-arrival}
+use Rattle.refining.proofs.Hears.{hear-alike}
+use Rattle.refining.proofs.Rows.{Different, row-alike, agree-arrival, agree-hearing, heard-settings}
 use Rattle.refining.proofs.Arrives.{arrive-alike}
 use Rattle.refining.proofs.Takes.{take-alike}
 
@@ -52,6 +57,9 @@ pub record StepAlike (card : Card) (w : World) (d : D.Shelf) (o : Outcome) (s : 
   pub shelf : Alike card (o .world .shelf) (o .world .memory) (o .world .store) (s .shelf)
   pub rows : (j : ℕ) → j < length (d .units) → RowAlike (o .world .rows) (s .shelf) j
   pub beyond : (j : ℕ) → length (d .units) ≤ j → getD (o .world .rows) j zero ≡ getD (w .rows) j zero
+
+heard-is : {x y : H.Hearing} → answer.Heard x ≡ answer.Heard y → x ≡ y
+heard-is e = cc
 
 module _ (card : Card) (w : World) (d : D.Shelf) (a : WorldAlike card w d) where
   facts : Sound card (w .shelf) (length (w .store)) (length (w .rows))
@@ -120,6 +128,33 @@ module _ (card : Card) (w : World) (d : D.Shelf) (a : WorldAlike card w d) where
             (row-alike (w .rows) d once enough (a .rows) i (arrivalRises (P.arrivalOf (d .lines) e c)) new (arrivalCounts (P.arrivalOf (d .lines) e c)) h (below-32 i h) refl (agree-arrival (P.arrivalOf (d .lines) e c)));
         beyond = λ j k.
             ap (λ z. getD (settled (w .rows) z) j zero) rises ∙ settled-ahead (w .rows) (row i (arrivalRises (P.arrivalOf (d .lines) e c))) (i + 1) j (omega (arith, h, k));
+      })
+
+  -- a frame handed in
+  hear-step : (unit : ℕ) (f : List ℕ) → StepAlike card w d (happens card w (hear unit f)) (document.happensTo d (hear unit f))
+  unfolding happens document.happensTo decided settledTo Q.handedIn
+  hear-step unit f =
+      at-unit unit (eqb (length f) 57) f
+      (λ adm.
+      ended w (decided adm (λ place. hearing.doneAt (w .shelf) place f) (refused (w .shelf)))
+      (decided adm (λ place. hearing.storeAt (w .shelf) place (w .store) f) (λ number. w .store)) f)
+      (λ place. document.step (answers (answer.Heard (Q.hearingOf (d .lines) (D.unitAt d place) (heard f)))) (Q.handedIn d place f) f)
+      (λ number some. refl)
+      (λ i h r.
+      let x = hear-alike card (w .shelf) (w .memory) (w .store) d (length (w .rows)) (a .sound) (a .shelf) i h f (eqb-true (length f) 57 r) in
+      let e = D.unitAt d i in
+      let new = Q.hearingUnit (d .lines) e (heard f) (payload f) in
+      let fate = Q.hearingOf (d .lines) e (heard f) in
+      let rises : hearing.doneAt (w .shelf) i f .rises ≡ row i (hearingRises fate) = ap (λ z. row i (hearingRises z)) (heard-is (x .0)) in
+      record {
+        said = ap answers (x .0);
+        bytes = refl;
+        many = length-set (d .units) i new;
+        shelf = x .1;
+        rows = subst (λ z. (j : ℕ) → j < length (d .units) → RowAlike (settled (w .rows) z) (Q.handedIn d i f) j) (sym rises)
+            (row-alike (w .rows) d once enough (a .rows) i (hearingRises fate) new (hearingCounts fate) h (below-32 i h)
+            (ap (λ s. s .number) (heard-settings (d .lines) e (heard f) (payload f))) (agree-hearing fate));
+        beyond = λ j k. ap (λ z. getD (settled (w .rows) z) j zero) rises ∙ settled-ahead (w .rows) (row i (hearingRises fate)) (i + 1) j (omega (arith, h, k));
       })
 
   -- a take leaves as many units, and the rows beyond them
