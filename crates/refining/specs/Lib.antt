@@ -1,1 +1,2 @@
 pub mod Refines
+pub mod Cards

@@ -1,0 +1,45 @@
+-- Demand 3 over every sequence of events. Assumes nothing.
+use Prim.Native.Nat.{ℕ}
+use mathlib.Core.Path.{_≡_}
+use mathlib.Core.List.{List}
+use lib.ListN.{length}
+use Rattle.card.specs.declared.Card.the-variants.{Narrow, Wide}
+use Rattle.line.specs.declared.Line.{Line}
+use Rattle.counters.specs.declared.Counters as C
+use Rattle.answer.specs.declared.Answer.the-variants.{Unloaded}
+use Rattle.loading.specs.Loads.{loadDone}
+use Rattle.promise.specs.Refusals.{Accepts}
+use Rattle.promise.specs.Narrow.{NoneWide, FirstWide}
+use Rattle.document.specs.Events.{Event}
+use Rattle.document.specs.Shelf.{opened}
+use Rattle.document.specs.Steps as document
+use Rattle.running.specs.Keeping.{loaded}
+use Rattle.refining.specs.Refines.{gives}
+
+-- "Take a route table that the twelve-bit card accepts, and lend both cards equal room."
+pub record Equal (memory memory′ store store′ : List ℕ) (rows rows′ : List C.Counters) : Type 0 where
+  pub memories : length memory ≡ length memory′
+  pub stores : length store ≡ length store′
+  pub records : length rows ≡ length rows′
+
+-- "The eight-bit card refuses it as too wide, naming the first line that asks for an NNI link, an outgoing path above 255 or the 32-unit bus, exactly
+-- when there is such a line."
+abbrev pub TooWide : Type 0
+TooWide =
+    (text memory memory′ store store′ : List ℕ) (rows rows′ : List C.Counters) → Equal memory memory′ store store′ rows rows′ → (told : List Line) →
+    Accepts Wide text memory (length store) (length rows) told → (line : ℕ) →
+    (loadDone Narrow text memory′ (length store′) (length rows′) .reply .answer ≡ Unloaded 5 line → FirstWide told line)
+    × (FirstWide told line → loadDone Narrow text memory′ (length store′) (length rows′) .reply .answer ≡ Unloaded 5 line)
+
+-- "Otherwise, over every sequence of events after loading .. it gives the same answers, cells and counters as the twelve-bit card, and both are those
+-- of demand 2.": load's answer too, whatever the two memories, stores and rows held before
+pub record Same (text memory memory′ store store′ : List ℕ) (rows rows′ : List C.Counters) (told : List Line) (es : List Event) : Type 0 where
+  pub answer :
+      loadDone Narrow text memory′ (length store′) (length rows′) .reply .answer ≡ loadDone Wide text memory (length store) (length rows) .reply .answer
+  pub events : gives Narrow (loaded Narrow text memory′ store′ rows′) es ≡ gives Wide (loaded Wide text memory store rows) es
+  pub both : gives Wide (loaded Wide text memory store rows) es ≡ document.gives (opened told) es
+
+abbrev pub SameCard : Type 0
+SameCard =
+    (text memory memory′ store store′ : List ℕ) (rows rows′ : List C.Counters) → Equal memory memory′ store store′ rows rows′ → (told : List Line) →
+    Accepts Wide text memory (length store) (length rows) told → NoneWide told → (es : List Event) → Same text memory memory′ store store′ rows rows′ told es
