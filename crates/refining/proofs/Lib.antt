@@ -7,3 +7,4 @@ pub mod Arrives
 pub mod Takes
 pub mod Opens
 pub mod Steps
+pub mod Refined

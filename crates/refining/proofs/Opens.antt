@@ -1,13 +1,13 @@
 -- A good load: the shelf is the document's shelf of these lines. Assumes nothing.
-use Prim.Native.Nat.{ℕ, zero, suc, _+_, _*_, _%_, _^_, _<_, _≤_, min}
+use Prim.Native.Nat.{ℕ, zero, suc, _*_, _<_, _≤_, min}
 use native.Mathlib.Omega.{arith}
 use mathlib.Core.Path.{_≡_, refl, sym, ap, ap₂, subst, _∙_}
-use mathlib.Core.Bool.{true, false, false≢true}
+use mathlib.Core.Bool.{true, false≢true}
 use mathlib.Core.List.{List, [], _∷_, _++_, map, map-append, append-nil}
 use mathlib.Core.Option.{Option, none, some}
 use lib.ListN.{length, getD, replicate, length-take, length-map, getD-replicate, List·getD-map}
 use lib.Seq.{map-set-same, take-set-lt, getD-take}
-use Rattle.outlet.specs.Outlets.{empty, queue, fresh as freshOutlet}
+use Rattle.outlet.specs.Outlets.{queue, fresh as freshOutlet}
 use Rattle.outlet.specs.declared.Limits.{Limits}
 use Rattle.store.specs.Rings as R
 use Rattle.store.specs.Places.{cells, inletCells, outletCells}
@@ -15,26 +15,23 @@ use Rattle.card.specs.declared.Card.{Card}
 use Rattle.record.specs.Record.{size, usable, recordAt}
 use Rattle.lookup.specs.Lookup.{translated}
 use Rattle.shelf.specs.Shelves.{unit, blank, fresh, declared, findIn, numberOf}
-use Rattle.shelf.specs.Sessions.{hears}
 use Rattle.shelf.specs.declared.Unit as U
 use Rattle.shelf.specs.declared.Shelf.{Shelf}
 use Rattle.shelf.specs.declared.Found.{Found}
 use Rattle.shelf.specs.declared.Found.the-variants.{At, Nothing}
-use Rattle.shelf.specs.declared.Settings.{Settings}
 use Rattle.shelf.proofs.Finding.{find-at, declared-at}
 use Rattle.line.specs.declared.Line.{Line}
 use Rattle.line.specs.declared.Line.the-variants.{Bus, Unit as L·Unit, Vp, Drop, Page, Vc, Mc}
-use Rattle.judge.specs.declared.Verdict.the-variants.{Fine}
 use Rattle.soundness.specs.State.{soundOf}
 use Rattle.soundness.proofs.Facts.{sound-find}
 use Rattle.told.specs.Told.{ofUnit, topOf, total, hearsIn, declare, hearing, joinAt, shelfBy, shelfOf, memoryOf}
-use Rattle.told.specs.Lines.{isFirst, judge, Good}
+use Rattle.told.specs.Lines.{isFirst, Good}
 use Rattle.told.proofs.Regions.{start}
 use Rattle.told.proofs.Fits.{fine-bus, fine-unit}
 use Rattle.told.proofs.Memory.{AllRanged}
-use Rattle.told.proofs.Shelved.{Stands, Shelved, shelved, declared-more, room-for-one}
+use Rattle.told.proofs.Shelved.{Stands, shelved, declared-more, room-for-one}
 use Rattle.table.specs.Load.{load, loaded as loadedMemory}
-use Rattle.promise.specs.Served.{lookedUp, lookupAt, saidBy}
+use Rattle.promise.specs.Served.{lookedUp}
 use Rattle.promise.specs.Refusals.{Accepts}
 use Rattle.promise.proofs.Runs.{good-in-range, good-ranged}
 use Rattle.promise.proofs.ByLines.{lookup-lines}
@@ -46,9 +43,9 @@ use Rattle.counters.specs.Counting as C·
 use Rattle.counters.specs.declared.Counters as C
 use Rattle.counters.proofs.Settling.{settled-row, settled-ahead, length-settled}
 use Rattle.admit.specs.Admission.{unitAt}
-use Rattle.document.specs.Counters.{Counter, placeOf, times, counterOf}
+use Rattle.document.specs.Counters.{placeOf, times}
 use Rattle.document.specs.Shelf as D
-use Rattle.running.specs.Keeping.{loaded, soundIn}
+use Rattle.running.specs.Keeping.{loaded}
 use Rattle.refining.proofs.Alike.{AllSendable, onBus, offBus, Known, UnitAlike, RowAlike, Alike, WorldAlike}
 use Rattle.refining.proofs.Rows.{placed}
 
@@ -56,6 +53,7 @@ use Rattle.refining.proofs.Rows.{placed}
 abbrev idle : Shelf → Shelf
 idle shelf = record { bus = shelf .bus; count = 0; units = []; arbiter = shelf .arbiter; granted = shelf .granted; frame = shelf .frame }
 
+-- a session more does not either
 joined-idle : (shelf : Shelf) (f : Found) (session : ℕ) → idle (joinAt shelf f session) ≡ idle shelf
 unfolding joinAt
 joined-idle shelf (At i) session = refl
@@ -94,6 +92,7 @@ joined-plain shelf a session (At i) e =
     ∙ map-set-same plain (declared shelf) i (hearing (getD (shelf .units) i blank) session) blank (ap plain (sym (getD-take (shelf .count) (shelf .units) i blank below)))
 joined-plain shelf a session Nothing e = refl
 
+-- a `bus` line comes first
 bus-units : (told : List Line) (bus : ℕ) → isFirst told ≡ true → map plain (declared (fresh bus)) ≡ map made (D.unitsOf (Bus bus ∷ told))
 unfolding D.unitsOf
 bus-units [] bus e = refl
@@ -142,6 +141,7 @@ empty-queue store place limits (suc (suc zero)) = refl
 empty-queue store place limits (suc (suc (suc zero))) = refl
 empty-queue store place limits (suc (suc (suc (suc q)))) = refl
 
+-- it is alike to the document's fresh unit
 fresh-alike : (store : List ℕ) (place : ℕ) (u : U.Unit) (d : D.Unit) → plain u ≡ made d → again d ≡ d → UnitAlike store place u d
 unfolding cells R.queue
 fresh-alike store place u d e f =
@@ -156,6 +156,7 @@ fresh-alike store place u d e f =
     }
 
 -- C. what the memory and the sessions mean to each of them
+-- what is found is told apart
 at-is : {i j : ℕ} → At i ≡ At j → i ≡ j
 at-is e = cc
 
@@ -171,6 +172,7 @@ module _ (card : Card) (memory : List ℕ) (told : List Line) (g : Good card (us
       go none e = absurd (nothing-at (sym (shelved card (usable memory) told g r .gone n e) ∙ found))
       go (some top) e = (top, e, shelved card (usable memory) told g r .here n top e)
 
+  -- and it knows what the lines say
   known : Known card (memoryOf card memory told) told (unitAt (shelfOf told) i)
   known =
       let top = stands .0 in
@@ -193,6 +195,7 @@ module _ (card : Card) (text memory store : List ℕ) (rows : List C.Counters) (
   ranges : AllRanged told
   ranges = good-ranged card (usable memory) text told (a .fine)
 
+  -- its shelf is that of the lines
   same-shelf : load card text memory (length store) (length rows) .shelf ≡ shelfOf told
   same-shelf = ap (λ x. x .shelf) (accepted card text memory (length store) (length rows) told a .0)
 
@@ -216,14 +219,17 @@ module _ (card : Card) (text memory store : List ℕ) (rows : List C.Counters) (
       ∙ sym (List·getD-map plain (declared (shelfOf told)) i blank) ∙ ap (λ us. getD us i (plain blank)) same-units ∙ List·getD-map made (D.unitsOf told) i D.blank)
       (sym (List·getD-map again (D.unitsOf told) i D.blank) ∙ ap (λ us. getD us i D.blank) (fresh-units told))
 
+  -- which is sound
   sound-told : soundOf card (shelfOf told) (length store) (length rows) ≡ true
   sound-told = ap (λ x. soundOf card x (length store) (length rows)) (sym same-shelf) ∙ loaded-sound card text memory (length store) (length rows) told a
 
+  -- each unit knows what the lines say
   opened-known : (i : ℕ) → i < length (D.unitsOf told) → Known card (memoryOf card memory told) told (unitAt (shelfOf told) i)
   opened-known i h =
       known card memory told good ranges (numberOf (getD (declared (shelfOf told)) i blank)) i
       (sound-find card (shelfOf told) (length store) (length rows) sound-told i (omega (arith, opened-many)))
 
+  -- all but the counters
   opened-shelf : Alike card (shelfOf told) (memoryOf card memory told) store (D.opened told)
   opened-shelf =
       let e = opened-idle told in

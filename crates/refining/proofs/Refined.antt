@@ -1,22 +1,35 @@
 -- The shelf refines the document's shelf; its counters are the history; both cards are one. Assumes nothing.
-use Prim.Native.Nat.{ℕ, _<_, _≤_}
+use Prim.Native.Nat.{ℕ, _*_, _<_, _≤_, min}
 use native.Mathlib.Omega.{arith}
 use mathlib.Core.Path.{_≡_, refl, sym, ap, subst, _∙_}
 use mathlib.Core.List.{List, [], _∷_}
-use lib.ListN.{length, getD}
+use lib.ListN.{length, getD, List·getD-map}
 use Rattle.card.specs.declared.Card.{Card}
+use Rattle.card.specs.declared.Card.the-variants.{Narrow, Wide}
+use Rattle.record.specs.Record.{most, usable}
 use Rattle.line.specs.declared.Line.{Line}
 use Rattle.counters.specs.Counting.{value, zero}
 use Rattle.counters.specs.declared.Counters as C
+use Rattle.told.specs.Told.{shelfOf}
+use Rattle.told.specs.Lines.{Good}
+use Rattle.table.specs.declared.Outcome as O
+use Rattle.table.specs.declared.Outcome.the-variants as outcome
+use Rattle.table.specs.Load.{load}
+use Rattle.answer.specs.declared.Answer.the-variants.{Unloaded}
+use Rattle.loading.specs.Loads.{answerOf}
 use Rattle.promise.specs.Refusals.{Accepts}
+use Rattle.promise.proofs.Refusals.{accepted}
+use Rattle.promise.proofs.Cards.{narrow-accepts, narrow-refuses-iff}
 use Rattle.document.specs.Events.{Event, arrive, frame, hear, take, count, Back}
 use Rattle.document.specs.Counters.{Counter, placeOf, counterOf}
 use Rattle.document.specs.Shelf as D
 use Rattle.document.specs.Steps as document
+use Rattle.document.proofs.Fixed.{givenOf, given-stays}
 use Rattle.running.specs.Events.{World, happens}
 use Rattle.running.specs.Keeping.{run, loaded}
 use Rattle.running.proofs.Kept.{soundness-kept}
 use Rattle.refining.specs.Refines.{gives, Refines, Counted, CountersAreHistory}
+use Rattle.refining.specs.Cards.{Equal, TooWide, SameCard}
 use Rattle.refining.proofs.Alike.{Alike, WorldAlike}
 use Rattle.refining.proofs.Opens.{opened-alike, opened-rows}
 use Rattle.refining.proofs.Steps.{StepAlike, arrive-step, frame-step, hear-step, take-step, count-step}
@@ -67,4 +80,58 @@ run-alike card w d a (e ∷ es) =
       alike = r .alike;
       beyond = λ j h. r .beyond j (subst (λ n. n ≤ j) (sym (x .many)) h) ∙ x .beyond j h;
       many = r .many ∙ x .many;
+    }
+
+-- a unit's number is its line's for ever
+number-stays : (d : D.Shelf) (es : List Event) (i : ℕ) → D.numberOf (D.unitAt (document.becomes d es) i) ≡ D.numberOf (D.unitAt d i)
+number-stays d es i =
+    ap (λ g. g .settings .number)
+    (sym (List·getD-map givenOf (document.becomes d es .units) i D.blank) ∙ ap (λ l. getD l i (givenOf D.blank)) (given-stays d es) ∙ List·getD-map givenOf (d .units) i D.blank)
+
+pub counters-are-history : CountersAreHistory
+counters-are-history card text memory store rows told good es =
+    let left = run-alike card (loaded card text memory store rows) (D.opened told) (opened-alike card text memory store rows told good) es in
+    record {
+      equal = λ i h c. left .alike .rows i (subst (λ n. i < n) (sym (left .many)) h) c ∙ ap (λ n. counterOf (document.becomes (D.opened told) es .history) n c) (number-stays (D.opened told) es i);
+      untouched = λ i h. left .beyond i h ∙ opened-rows card text memory store rows told good i h;
+    }
+
+-- the same lines are good with equal room
+module _ (text memory memory′ store store′ : List ℕ) (rows rows′ : List C.Counters) (equal : Equal memory memory′ store store′ rows rows′) (told : List Line) where
+  same-room : usable memory ≡ usable memory′
+  same-room = ap (λ n. min n most) (equal .memories)
+
+  moved : (card : Card) → Accepts card text memory (length store) (length rows) told → Accepts card text memory′ (length store′) (length rows′) told
+  moved card a =
+      record {
+        short = a .short;
+        fine = record { all = a .fine .all; good = subst (λ room. Good card room told) same-room (a .fine .good) };
+        store-enough = subst (λ n. 8192 * shelfOf told .count ≤ n) (equal .stores) (a .store-enough);
+        rows-enough = subst (λ n. shelfOf told .count ≤ n) (equal .records) (a .rows-enough);
+      }
+
+answer-refused : (o : O.Outcome) (line : ℕ) → answerOf o ≡ Unloaded 5 line → o ≡ outcome.Refused 5 line
+unfolding answerOf
+answer-refused (outcome.Loaded used) line e = let z : _≡_ {A = ℕ} 0 1 = cc in absurd (omega arith)
+answer-refused (outcome.Refused number n) line e = cc
+
+pub too-wide : TooWide
+unfolding answerOf
+too-wide text memory memory′ store store′ rows rows′ equal told a line =
+    let b = moved text memory memory′ store store′ rows rows′ equal told Wide a in
+    let iff = narrow-refuses-iff text memory′ (length store′) (length rows′) told b line in (
+      λ e. iff .1 (answer-refused (load Narrow text memory′ (length store′) (length rows′) .outcome) line e),
+      λ w. ap answerOf (iff .0 w),
+    )
+
+pub same-card : SameCard
+same-card text memory memory′ store store′ rows rows′ equal told a none es =
+    let b = moved text memory memory′ store store′ rows rows′ equal told Wide a in
+    let n = narrow-accepts text memory′ (length store′) (length rows′) told b none in
+    let wide = refines Wide text memory store rows told a es in
+    record {
+      answer =
+          ap (λ x. answerOf (x .outcome)) (accepted Narrow text memory′ (length store′) (length rows′) told n .0 ∙ sym (accepted Wide text memory (length store) (length rows) told a .0));
+      events = refines Narrow text memory′ store′ rows′ told n es ∙ sym wide;
+      both = wide;
     }

@@ -4,10 +4,10 @@ use native.Mathlib.Nat.{mod-add-mod, add-comm}
 use native.Mathlib.Omega.{arith}
 use mathlib.Core.Path.{_≡_, refl, sym, ap, ap₂, subst, _∙_}
 use mathlib.Core.Bool.{Bool, true, false, cond, _&&_, false≢true}
-use mathlib.Core.List.{List, [], _∷_, _++_, map}
+use mathlib.Core.List.{List, [], _∷_, _++_}
 use lib.Bits.{bitOr}
 use lib.Dec.{eqb, ltb}
-use lib.ListN.{length, getD, set, replicate, length-set, length-replicate, List·getD-map}
+use lib.ListN.{length, getD, set, replicate, length-set, length-replicate, getD-replicate, List·getD-eq-default, List·getD-map}
 use lib.Seq.{getD-set-same, map-set-same}
 use borrow.Author.Tests.{eqb-true, eqb-false, eq-eqb, ne-eqb, ltb-true, ltb-false}
 use Rattle.answer.specs.Answers.{#taken, arrivalRises, hearingRises, row}
@@ -18,8 +18,9 @@ use Rattle.answer.specs.declared.Hearing as H
 use Rattle.answer.specs.declared.Hearing.the-variants as hearing
 use Rattle.bus.specs.declared.Heard as B
 use Rattle.bus.specs.declared.Heard.the-variants as frame
+use Rattle.shelf.specs.declared.Found.the-variants.{At, Nothing}
 use Rattle.line.specs.declared.Line.{Line}
-use Rattle.counters.specs.Counting.{value, zero, raised, rowAfter, settledTo, settled}
+use Rattle.counters.specs.Counting.{value, zero, raised, rowAfter, settled}
 use Rattle.counters.specs.declared.Counters as C
 use Rattle.counters.proofs.Settling.{raised-value, settled-row, settled-ahead, settled-behind}
 use Rattle.framing.specs.Sending.{sentRises}
@@ -27,7 +28,7 @@ use Rattle.told.proofs.Grown.{decide}
 use Rattle.document.specs.Counters.{Counter, arrived, hec, ignored, misrouted, inletfull, sent, unheard, damaged, queued, full, clp, wide, taken, placeOf, Entry, entries, matches, times, counterOf, arrivalCounts, hearingCounts, sentCounts}
 use Rattle.document.specs.Shelf as D
 use Rattle.document.specs.Hearing.{hearingOf, keeping, hearingUnit}
-use Rattle.document.specs.Frame.{asHeard, allHear, someAddressed, heardEntries}
+use Rattle.document.specs.Frame.{asHeard, allHear, someAddressed, heardEntries, idle, sends, sendsFrom, sentIn, framed}
 use Rattle.refining.proofs.Alike.{RowAlike}
 
 -- A. how often something stands in a history
@@ -36,6 +37,7 @@ unfoldable pub occurs : List Counter → ℕ → ℕ
 occurs [] k = 0
 occurs (c ∷ cs) k = cond (eqb (placeOf c) k) (suc (occurs cs k)) (occurs cs k)
 
+-- one more or not, before a sum and in its first part
 plus : (b : Bool) (m n : ℕ) → cond b (suc (m + n)) (m + n) ≡ cond b (suc m) m + n
 plus true m n = omega arith
 plus false m n = refl
@@ -92,10 +94,12 @@ unfoldable tallies : ℕ → List Counter → ℕ → Bool
 tallies n cs none = true
 tallies n cs (suc k) = eqb (n / 2 ^ k % 2) (occurs cs k) && tallies n cs k
 
+-- a test of two tests
 both : (a b : Bool) → (a && b) ≡ true → (a ≡ true) × (b ≡ true)
 both true b e = (refl, e)
 both false b e = absurd (false≢true e)
 
+-- what it says of each of them
 tallied : (n : ℕ) (cs : List Counter) (m k : ℕ) → tallies n cs m ≡ true → k < m → n / 2 ^ k % 2 ≡ occurs cs k
 unfolding tallies
 tallied n cs none k e h = absurd (omega arith)
@@ -108,9 +112,15 @@ tallied n cs (suc m) k e h =
 abbrev pub Agree : ℕ → List Counter → Type 0
 Agree n cs = (c : Counter) → n / 2 ^ placeOf c % 2 ≡ occurs cs (placeOf c)
 
+-- a row that is a unit's history, and what happened there counted
+pub raised-alike : (x : C.Counters) (n u : ℕ) (cs : List Counter) (history : List Entry) → Agree n cs → ((c : Counter) → value x (placeOf c) ≡ counterOf history u c) → (c : Counter) → value (raised x n) (placeOf c) ≡ counterOf (entries u cs ++ history) u c
+raised-alike x n u cs history a = raised-times x n u (entries u cs) history (λ c. a c ∙ sym (times-here u cs c))
+
+-- the test of all thirteen says it of each counter
 agree : (n : ℕ) (cs : List Counter) → tallies n cs 13 ≡ true → Agree n cs
 agree n cs e c = tallied n cs 13 (placeOf c) e (placed c)
 
+-- an arrival, a hearing, a take
 pub agree-arrival : (fate : A.Arrival) → Agree (arrivalRises fate) (arrivalCounts fate)
 unfolding arrivalRises arrivalCounts tallies occurs
 agree-arrival arrival.Hec = agree 3 (arrived ∷ hec ∷ []) refl
@@ -153,6 +163,7 @@ agree-sent hearing.Queued false = agree (256 + 96) (sent ∷ unheard ∷ queued 
 abbrev pub Different : List D.Unit → Type 0
 Different us = (i j : ℕ) → i < j → j < length us → D.numberOf (getD us i D.blank) ≡ D.numberOf (getD us j D.blank) → ⊥
 
+-- in two places two numbers
 different-apart : (us : List D.Unit) → Different us → (i j : ℕ) → i < length us → j < length us → (i ≡ j → ⊥) → D.numberOf (getD us i D.blank) ≡ D.numberOf (getD us j D.blank) → ⊥
 different-apart us once i j h k d e =
     decide (ltb i j) (λ t. once i j (ltb-true i j t) k e) (λ f. once j i (let g = ltb-false i j f in omega (arith, d)) h (sym e))
@@ -252,16 +263,22 @@ module _ (lines : List Line) (r : D.Routed) where
       let e = heard-times us (λ i j l m. once (suc i) (suc j) (omega arith) (omega arith)) k (omega arith) c in
       omega (arith, a, b, e)
 
+-- two lists, one behind the other
 occurs-append : (cs ks : List Counter) (k : ℕ) → occurs (cs ++ ks) k ≡ occurs cs k + occurs ks k
 unfolding occurs
 occurs-append [] ks k = omega arith
 occurs-append (c ∷ cs) ks k = rw (occurs-append cs ks k) (plus (eqb (placeOf c) k) (occurs cs k) (occurs ks k))
+
+-- silence raises nothing
+pub nought : (k : ℕ) → _≡_ {A = ℕ} (getD (replicate 32 0) k 0) 0
+nought k = decide (ltb k 32) (λ t. getD-replicate 32 k 0 0 (ltb-true k 32 t)) (λ f. List·getD-eq-default (replicate 32 0) 0 (ltb-false k 32 f))
 
 -- the rises of a frame: every declared unit's
 abbrev pub frameRises : ℕ → List ℕ → Rises
 frameRises count each = record { from = 0; to = count; anew = false; each = each }
 
 module _ (rows : List C.Counters) (d : D.Shelf) (count : ℕ) (many : count ≡ length (d .units)) (enough : count ≤ length rows) (alike : (i : ℕ) → i < length (d .units) → RowAlike rows d i) where
+  -- each declared row rises by its own set
   rose : (each : List ℕ) (i : ℕ) → i < count → getD (settled rows (frameRises count each)) i zero ≡ raised (getD rows i zero) (getD each i 0)
   unfolding rowAfter
   rose each i h = settled-row rows (frameRises count each) count i (omega arith) h (omega arith)
@@ -275,6 +292,7 @@ module _ (rows : List C.Counters) (d : D.Shelf) (count : ℕ) (many : count ≡ 
 
   -- a unit sends, all hear
   module _ (once : Different (d .units)) (place : ℕ) (inside : place < length (d .units)) (r : D.Routed) (rest : List D.Routed) where
+    -- the units once the cell is out, whether one is addressed, what each hears, what is counted at the sender
     abbrev without : List D.Unit
     without = set (d .units) place (D.withInlet (D.unitAt d place) rest)
 
@@ -287,6 +305,7 @@ module _ (rows : List C.Counters) (d : D.Shelf) (count : ℕ) (many : count ≡ 
     abbrev sentEntries : List Entry
     sentEntries = entries (D.numberOf (D.unitAt d place)) (sentCounts someone)
 
+    -- the numbers are as they were, so none is there twice
     number-without : (k : ℕ) → D.numberOf (getD without k D.blank) ≡ D.numberOf (D.unitAt d k)
     number-without k = same-numbers (d .units) place (D.withInlet (D.unitAt d place) rest) refl k
 
@@ -295,6 +314,7 @@ module _ (rows : List C.Counters) (d : D.Shelf) (count : ℕ) (many : count ≡ 
         let l = length-set (d .units) place (D.withInlet (D.unitAt d place) rest) in
         once i j h (omega arith) (sym (number-without i) ∙ e ∙ number-without j)
 
+    -- what is counted of hearing at a unit
     heard-at : (k : ℕ) → k < length (d .units) → (c : Counter) → times (heardEntries (d .lines) without r) (D.numberOf (D.unitAt d k)) c ≡ occurs (hearingCounts (fate k)) (placeOf c)
     heard-at k h c =
         ap (λ u. times (heardEntries (d .lines) without r) u c) (sym (number-without k))
@@ -314,6 +334,7 @@ module _ (rows : List C.Counters) (d : D.Shelf) (count : ℕ) (many : count ≡ 
         agree-hearing (fate k) c ∙ sym (heard-at k h c)
         ∙ omega (arith, times-append sentEntries (heardEntries (d .lines) without r) u c, times-other (D.numberOf (D.unitAt d place)) (sentCounts someone) u c (λ q. different-apart (d .units) once k place h inside p (sym q)))
 
+    -- the rows of all
     pub sent-rows : (each : List ℕ) → ((k : ℕ) → k < count → (k ≡ place → ⊥) → getD each k 0 ≡ hearingRises (fate k)) → getD each place 0 ≡ bitOr (hearingRises (fate place)) (sentRises someone) →
         (d′ : D.Shelf) → d′ .history ≡ (sentEntries ++ heardEntries (d .lines) without r) ++ d .history → d′ .units ≡ allHear (d .lines) without r →
         (i : ℕ) → i < length (d .units) → RowAlike (settled rows (frameRises count each)) d′ i
@@ -328,6 +349,26 @@ module _ (rows : List C.Counters) (d : D.Shelf) (count : ℕ) (many : count ≡ 
         (λ f.
         let p = eqb-false i place f in
         subst (λ n. Raises n (sentEntries ++ heardEntries (d .lines) without r) (D.numberOf (D.unitAt d i))) (sym (others i (omega arith) p)) (raises-hearer i h p)))
+
+module _ (rows : List C.Counters) (d : D.Shelf) (count : ℕ) (many : count ≡ length (d .units)) (enough : count ≤ length rows) (alike : (i : ℕ) → i < length (d .units) → RowAlike rows d i) (buffer : List ℕ) where
+  -- the rows after a frame in which nobody sends
+  pub framed-idle : D.findIn (d .units) (d .granted) ≡ Nothing → (i : ℕ) → i < length (d .units) → RowAlike (settled rows (frameRises count (replicate 32 0))) (framed d buffer) i
+  unfolding sends
+  framed-idle e =
+      let s : sentIn d buffer ≡ idle d buffer = ap (λ f. sends f d buffer) e in
+      idle-rows rows d count many enough alike (replicate 32 0) nought (framed d buffer) (ap (λ x. x .happened ++ d .history) s) (ap (λ x. x .units) s)
+
+  -- and after one in which the unit in a place sends its oldest cell
+  pub framed-sent : Different (d .units) → (place : ℕ) → place < length (d .units) → (r : D.Routed) (rest : List D.Routed) →
+      D.findIn (d .units) (d .granted) ≡ At place → D.unitAt d place .inlet ≡ r ∷ rest → (each : List ℕ) →
+      let us = set (d .units) place (D.withInlet (D.unitAt d place) rest) in
+      ((k : ℕ) → k < count → (k ≡ place → ⊥) → getD each k 0 ≡ hearingRises (hearingOf (d .lines) (getD us k D.blank) (asHeard r))) →
+      getD each place 0 ≡ bitOr (hearingRises (hearingOf (d .lines) (getD us place D.blank) (asHeard r))) (sentRises (someAddressed (d .lines) us r)) →
+      (i : ℕ) → i < length (d .units) → RowAlike (settled rows (frameRises count each)) (framed d buffer) i
+  unfolding sends sendsFrom
+  framed-sent once place inside r rest found cells each others here =
+      let s : sentIn d buffer ≡ sendsFrom (r ∷ rest) d place buffer = ap (λ f. sends f d buffer) found ∙ ap (λ q. sendsFrom q d place buffer) cells in
+      sent-rows rows d count many enough alike once place inside r rest each others here (framed d buffer) (ap (λ x. x .happened ++ d .history) s) (ap (λ x. x .units) s)
 
 -- rows beyond the declared units are as they were
 pub frame-beyond : (rows : List C.Counters) (count : ℕ) (each : List ℕ) (i : ℕ) → count ≤ i → getD (settled rows (frameRises count each)) i zero ≡ getD rows i zero

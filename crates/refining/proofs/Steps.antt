@@ -105,7 +105,7 @@ module _ (card : Card) (w : World) (d : D.Shelf) (a : WorldAlike card w d) where
   below-32 i h = housed i h .below
 
   -- arrival
-  arrive-step : (unit : ℕ) (c : List ℕ) → StepAlike card w d (happens card w (arrive unit c)) (document.happensTo d (arrive unit c))
+  pub arrive-step : (unit : ℕ) (c : List ℕ) → StepAlike card w d (happens card w (arrive unit c)) (document.happensTo d (arrive unit c))
   unfolding happens document.happensTo decided settledTo P.arrived
   arrive-step unit c =
       at-unit unit (eqb (length c) 53) c
@@ -131,7 +131,7 @@ module _ (card : Card) (w : World) (d : D.Shelf) (a : WorldAlike card w d) where
       })
 
   -- a frame handed in
-  hear-step : (unit : ℕ) (f : List ℕ) → StepAlike card w d (happens card w (hear unit f)) (document.happensTo d (hear unit f))
+  pub hear-step : (unit : ℕ) (f : List ℕ) → StepAlike card w d (happens card w (hear unit f)) (document.happensTo d (hear unit f))
   unfolding happens document.happensTo decided settledTo Q.handedIn
   hear-step unit f =
       at-unit unit (eqb (length f) 57) f
@@ -192,7 +192,7 @@ module _ (card : Card) (w : World) (d : D.Shelf) (a : WorldAlike card w d) where
         taken = e Rattle.document.specs.Counters.taken t;
       }
 
-  count-step : (unit : ℕ) → StepAlike card w d (happens card w (count unit)) (document.happensTo d (count unit))
+  pub count-step : (unit : ℕ) → StepAlike card w d (happens card w (count unit)) (document.happensTo d (count unit))
   unfolding happens document.happensTo counted toldApart countSaid
   count-step unit =
       at-unit unit true []
@@ -210,7 +210,7 @@ module _ (card : Card) (w : World) (d : D.Shelf) (a : WorldAlike card w d) where
       })
 
   -- take
-  take-step : (unit : ℕ) (buffer : List ℕ) → StepAlike card w d (happens card w (take unit buffer)) (document.happensTo d (take unit buffer))
+  pub take-step : (unit : ℕ) (buffer : List ℕ) → StepAlike card w d (happens card w (take unit buffer)) (document.happensTo d (take unit buffer))
   unfolding happens document.happensTo decided settledTo
   take-step unit buffer =
       at-unit unit (eqb (length buffer) 53) buffer
@@ -229,3 +229,6 @@ module _ (card : Card) (w : World) (d : D.Shelf) (a : WorldAlike card w d) where
         rows = x .rows (w .rows) once enough (below-32 i h) (a .rows);
         beyond = λ j k. took-beyond (leaving (unitAt (w .shelf) i .outlet)) i j (omega (arith, h, k));
       })
+
+  pub frame-step : (buffer : List ℕ) → StepAlike card w d (happens card w (frame buffer)) (document.happensTo d (frame buffer))
+  frame-step buffer = ?
