@@ -275,7 +275,7 @@ copy-knows card memory lines u h k = go (hearing.planOf u h)
     go (Lost f) = k
     go (Queue q) = record { looks = k .looks; hearing = k .hearing }
 
-copy-fate : (u : U.Unit) (p : P.Plan) → hearing.copyBy p u .fate ≡ hearing.fateBy p
+pub copy-fate : (u : U.Unit) (p : P.Plan) → hearing.copyBy p u .fate ≡ hearing.fateBy p
 unfolding hearing.copyBy hearing.fateBy
 copy-fate u (Lost f) = refl
 copy-fate u (Queue q) = refl
