@@ -1,18 +1,17 @@
 -- A frame, on both. Assumes nothing.
 use Prim.Native.Nat.{ℕ, zero, suc, _+_, _<_, _≤_, _%_, _^_, min}
 use native.Mathlib.Omega.{arith}
-use mathlib.Core.Path.{_≡_, refl, sym, ap, ap₂, subst, _∙_}
+use mathlib.Core.Path.{_≡_, refl, sym, ap, subst, _∙_}
 use mathlib.Core.Logic.{_≢_}
 use mathlib.Core.Bool.{Bool, true, false, cond, _||_}
-use mathlib.Core.List.{List, [], _∷_, _++_, map}
+use mathlib.Core.List.{List, [], _∷_, map}
 use lib.Bits.{bitOr}
 use lib.Dec.{eqb}
-use lib.ListN.{length, length-take, length-set, length-replicate, getD, getD-replicate, set, take, drop, replicate, List·getD-map, List·getD-append}
+use lib.ListN.{length, length-take, length-set, getD, getD-replicate, set, take, drop, replicate, List·getD-append}
 use lib.Seq.{getD-set-same, getD-set-other, sets, sets-eq, length-sets, take-at, take-all}
 use borrow.Author.Tests.{eq-eqb, ne-eqb}
 use Rattle.octets.specs.Octets.{four, part}
 use Rattle.octets.proofs.Numbers.{four-be4}
-use Rattle.routing.specs.Routing.{routing}
 use Rattle.card.specs.declared.Card.{Card}
 use Rattle.bus.specs.Frame.{cell, sealed, heard, parity}
 use Rattle.bus.specs.declared.Heard as H
@@ -20,7 +19,8 @@ use Rattle.bus.specs.declared.Heard.the-variants as frame
 use Rattle.bus.proofs.Wire.{sent-is-heard}
 use Rattle.arbiter.specs.Arbitration.{asking, renewed, grantedBy}
 use Rattle.arbiter.proofs.Requests.{same-or}
-use Rattle.store.specs.Places.{Cell, inletSlot, cellAt, inletCells}
+use Rattle.outlet.specs.Outlets.{RingFits}
+use Rattle.store.specs.Places.{inletSlot, cellAt, inletCells}
 use Rattle.store.specs.Rings.{popped}
 use Rattle.store.proofs.Queues.{length-cells, inlet-popped}
 use Rattle.shelf.specs.Shelves as S
@@ -28,7 +28,7 @@ use Rattle.shelf.specs.declared.Found as F
 use Rattle.shelf.specs.declared.Found.the-variants as found
 use Rattle.shelf.specs.declared.Unit as U
 use Rattle.shelf.specs.declared.Shelf.{Shelf}
-use Rattle.shelf.proofs.Finding.{declared-at, find-at}
+use Rattle.shelf.proofs.Finding.{find-at}
 use Rattle.line.specs.declared.Line.{Line}
 use Rattle.soundness.specs.State.{soundOf}
 use Rattle.soundness.proofs.Facts.{sound-iff}
@@ -50,7 +50,7 @@ use Rattle.document.specs.Frame as page
 use Rattle.running.proofs.Copies.{copied, store-kept}
 use Rattle.running.proofs.Sent.{bus-kept, count-kept, many-kept}
 use Rattle.refining.proofs.Alike.{UnitAlike, Known, Alike, Sendable, AllSendable, onBus}
-use Rattle.refining.proofs.Finds.{length-map, declared-is, below-count, find-alike}
+use Rattle.refining.proofs.Finds.{length-map, declared-is, find-alike}
 use Rattle.refining.proofs.Changes.{changed}
 use Rattle.refining.proofs.Hears.{Says, fate-alike, copy-alike, copy-elsewhere, copy-knows, copy-fate}
 
@@ -80,6 +80,7 @@ module _ (card : Card) (shelf : Shelf) (memory store : List ℕ) (d : D.Shelf) (
         ap (λ u. u .inlet .count) e ∙ sym (length-cells store k 123 4 (unitAt shelf k .inlet)) ∙ ap length (x .inlet) ∙ length-map onBus (D.unitAt d k .inlet),
       ))
 
+  -- so the requests as they are renewed are the same
   pub requests-alike : requests.requests shelf ≡ page.requests d
   requests-alike = λ z. renewed (a .arbiter z) (a .bus z) (a .frame z) (asking-alike z)
 
@@ -94,6 +95,7 @@ pub data Both (card : Card) (memory : List ℕ) (lines : List Line) (store : Lis
   more : {place : ℕ} {u : U.Unit} {d : D.Unit} {us : List U.Unit} {ds : List D.Unit} → Beside card memory lines store place u d → Both card memory lines store (suc place) us ds → Both card memory lines store place (u ∷ us) (d ∷ ds)
 
 module _ (card : Card) (memory : List ℕ) (lines : List Line) where
+  -- made of its places, and read at one
   both-from : (store : List ℕ) (place : ℕ) (us : List U.Unit) (ds : List D.Unit) → length us ≡ length ds →
       ((k : ℕ) → k < length ds → Beside card memory lines store (place + k) (getD us k S.blank) (getD ds k D.blank)) → Both card memory lines store place us ds
   both-from store place [] [] l at = none
@@ -123,6 +125,7 @@ module _ (card : Card) (memory : List ℕ) (lines : List Line) where
     abbrev hears : D.Unit → D.Unit
     hears d = paper.hearingUnit lines d h (part bytes 8 48)
 
+    -- a unit with its copy has its part of the store
     copy-housed : (place n : ℕ) (u : U.Unit) → Housed place u n → Housed place (copy u) n
     copy-housed place n u x =
         let c = copied u h (x .limits) (x .queues) in
@@ -131,7 +134,7 @@ module _ (card : Card) (memory : List ℕ) (lines : List Line) where
           inside = x .inside;
           limits = c .limits;
           queues = c .queues;
-          inlet = subst (λ r. Rattle.outlet.specs.Outlets.RingFits r 4) (sym (ap (λ (v : U.Unit). v .inlet) (c .copy))) (x .inlet);
+          inlet = subst (λ r. RingFits r 4) (sym (ap (λ (v : U.Unit). v .inlet) (c .copy))) (x .inlet);
         }
 
     -- a unit with its copy, and another unit
@@ -143,6 +146,7 @@ module _ (card : Card) (memory : List ℕ) (lines : List Line) where
           knows = copy-knows card memory lines u h (x .knows);
         }
 
+    -- a unit in another place keeps what it has; so do all in later places
     other-beside : (store : List ℕ) (i : ℕ) (u : U.Unit) → Housed i u (length store) → (j : ℕ) (v : U.Unit) (e : D.Unit) → (j ≢ i) → Beside card memory lines store j v e → Beside card memory lines (hearing.storeOf u h i store bytes) j v e
     other-beside store i u here j v e apart x =
         record {
@@ -176,19 +180,23 @@ module _ (card : Card) (memory : List ℕ) (lines : List Line) where
 
 -- 3. what has been heard: the units and the counters that rise, place by place
 module _ (h : H.Heard) where
+  -- every unit becomes its copy
   heard-units : (place : ℕ) (us : List U.Unit) (l : Listened) → sending.heardFrom h place us l .shelf .units ≡ sets (l .shelf .units) place (map (λ u. hearing.copyOf u h .unit) us)
   unfolding sending.heardFrom
   heard-units place [] l = refl
   heard-units place (u ∷ us) l = heard-units (suc place) us (sending.after place (hearing.copyOf u h) l)
 
+  -- every row rises by its fate
   heard-each : (place : ℕ) (us : List U.Unit) (l : Listened) → sending.heardFrom h place us l .each ≡ sets (l .each) place (map (λ u. hearingRises (hearing.copyOf u h .fate)) us)
   unfolding sending.heardFrom
   heard-each place [] l = refl
   heard-each place (u ∷ us) l = heard-each (suc place) us (sending.after place (hearing.copyOf u h) l)
 
+-- a place of a run of stores
 sets-at : {X : Type 0} (vs l : List X) (k : ℕ) (x : X) → length vs ≤ length l → k < length vs → getD (sets l 0 vs) k x ≡ getD vs k x
 sets-at vs l k x fits few = ap (λ m. getD m k x) (sets-eq vs l 0 (omega arith)) ∙ List·getD-append vs (drop (0 + length vs) l) x k few
 
+-- copies are counted alike, and so is who is addressed
 queued-same : (f : A.Hearing) → sending.queuedOne f ≡ page.isQueued f
 unfolding sending.queuedOne page.isQueued
 queued-same Damaged = refl
@@ -207,16 +215,19 @@ addressed-same Full = refl
 addressed-same Clp = refl
 addressed-same Queued = refl
 
+-- one of three, from the left or from the right
 either : (a b c : Bool) → ((a || b) || c) ≡ (a || (b || c))
 either true b c = refl
 either false b c = refl
 
 -- a sent cell with these bytes is heard: the copies that are queued, and whether a unit is addressed
 module _ (card : Card) (memory : List ℕ) (lines : List Line) (store : List ℕ) (r : D.Routed) (bytes : List ℕ) (says : Says (page.asHeard r) bytes) where
+  -- the fate of a copy
   copy-fates : (place : ℕ) (u : U.Unit) (d : D.Unit) → Beside card memory lines store place u d → hearing.copyOf u (page.asHeard r) .fate ≡ paper.hearingOf lines d (page.asHeard r)
   copy-fates place u d x =
       copy-fate u (hearing.planOf u (page.asHeard r)) ∙ fate-alike card memory store lines place u d (x .alike) (x .knows) (page.asHeard r) bytes says
 
+  -- the copies that are queued
   copies-alike : {place : ℕ} {us : List U.Unit} {ds : List D.Unit} → Both card memory lines store place us ds → (l : Listened) →
       sending.heardFrom (page.asHeard r) place us l .copies ≡ l .copies + page.copies lines ds r
   unfolding sending.heardFrom page.copies
@@ -226,6 +237,7 @@ module _ (card : Card) (memory : List ℕ) (lines : List Line) (store : List ℕ
       let e = copies-alike rest (sending.after place (hearing.copyOf u (page.asHeard r)) l) in
       omega arith
 
+  -- whether a unit is addressed
   addressed-alike : {place : ℕ} {us : List U.Unit} {ds : List D.Unit} → Both card memory lines store place us ds → (l : Listened) →
       sending.heardFrom (page.asHeard r) place us l .addressed ≡ (l .addressed || page.someAddressed lines ds r)
   unfolding sending.heardFrom page.someAddressed
@@ -239,18 +251,16 @@ module _ (card : Card) (memory : List ℕ) (lines : List Line) (store : List ℕ
       ∙ ap (λ b. (l .addressed || b) || page.someAddressed lines ds r) (addressed-same (hearing.copyOf u (page.asHeard r) .fate) ∙ ap page.isAddressed (copy-fates place u d x))
       ∙ either (l .addressed) (page.isAddressed (paper.hearingOf lines d (page.asHeard r))) (page.someAddressed lines ds r)
 
+  -- what rises in each row
   rises-alike : {place : ℕ} {us : List U.Unit} {ds : List D.Unit} → Both card memory lines store place us ds → (k : ℕ) → k < length ds →
       getD (map (λ u. hearingRises (hearing.copyOf u (page.asHeard r) .fate)) us) k 0 ≡ hearingRises (paper.hearingOf lines (getD ds k D.blank) (page.asHeard r))
   rises-alike none k h = absurd (omega arith)
   rises-alike {place} (more {u = u} {d = d} x rest) zero h = ap hearingRises (copy-fates place u d x)
   rises-alike (more x rest) (suc k) h = rises-alike rest k (omega arith)
 
-  both-length : {place : ℕ} {us : List U.Unit} {ds : List D.Unit} → Both card memory lines store place us ds → length us ≡ length ds
-  both-length none = refl
-  both-length (more x rest) = ap suc (both-length rest)
-
 -- 4. what goes on the bus
 module _ (r : D.Routed) (s : Sendable r) where
+  -- a cell on the bus has 56 bytes, its header and its payload
   bus-length : length (onBus r) ≡ 56
   unfolding cell
   bus-length = omega (arith, s .payload)
@@ -263,6 +273,7 @@ module _ (r : D.Routed) (s : Sendable r) where
   unfolding cell
   bus-payload = take-all 48 (r .cell .payload) (omega (arith, s .payload))
 
+  -- its frame is heard as what it is; without parity it is the cell
   bus-heard : heard (page.frameOf r) ≡ page.asHeard r
   bus-heard = sent-is-heard (r .target) (r .class) 0 (r .cell .header) (r .cell .payload) (s .target) (s .class) (s .header) (s .payload)
 
@@ -286,6 +297,7 @@ abbrev pub risesIn : D.Shelf → ℕ → ℕ
 risesIn d k = risesBy (D.findIn (d .units) (d .granted)) d k
 
 module _ (card : Card) (shelf : Shelf) (memory store : List ℕ) (d : D.Shelf) (rows : ℕ) (sound : soundOf card shelf (length store) rows ≡ true) (a : Alike card shelf memory store d) where
+  -- each declared unit has its part of the store; there are at most 32
   all-housed : sending.AllHoused shelf (length store)
   all-housed i h = sound-housed card shelf (length store) rows sound i h .0
 
@@ -304,6 +316,7 @@ module _ (card : Card) (shelf : Shelf) (memory store : List ℕ) (d : D.Shelf) (
     each : (k : ℕ) → k < length (d .units) → getD (l .each) k 0 ≡ rises k
 
   module _ (place : ℕ) (at : framing.sender shelf ≡ found.At place) where
+    -- the sender is declared
     inside : place < length (S.declared shelf)
     inside = find-at (shelf .granted) (S.declared shelf) place .0 at .inside
 
@@ -332,9 +345,11 @@ module _ (card : Card) (shelf : Shelf) (memory store : List ℕ) (d : D.Shelf) (
       abbrev us : List D.Unit
       us = set (d .units) place (D.withInlet e rest)
 
+      -- the cells of its inlet can be sent
       sendable : AllSendable (r ∷ rest)
       sendable = subst AllSendable first (a .units place here .sendable)
 
+      -- the frame is that of the oldest cell
       frame-is : sending.sentFrame shelf place store ≡ page.frameOf r
       unfolding sending.sentFrame
       frame-is = let q = oldest ∙ ap (map onBus) first in ap sealed (cc)
@@ -350,6 +365,7 @@ module _ (card : Card) (shelf : Shelf) (memory store : List ℕ) (d : D.Shelf) (
           (record { looks = k .looks; hearing = k .hearing })
           (λ j h n. a .units j h)
 
+      -- all units then, beside the document's
       both-out : Both card memory (d .lines) store 0 (S.declared out) us
       both-out =
           both-from card memory (d .lines) store 0 (S.declared out) us (out-alike .many)
@@ -375,17 +391,20 @@ module _ (card : Card) (shelf : Shelf) (memory store : List ℕ) (d : D.Shelf) (
       abbrev copies : List U.Unit
       copies = map (λ x. hearing.copyOf x h .unit) (S.declared out)
 
+      -- and when all have heard it
       both-now : Both card memory (d .lines) now 0 copies (page.allHear (d .lines) us r)
       both-now =
           subst (λ b. Both card memory (d .lines) now 0 copies (map (λ x. paper.hearingUnit (d .lines) x h b) us)) (bus-payload r (sendable .0))
           (both-heard card memory (d .lines) h (onBus r) (bus-length r (sendable .0)) (bus-says r (sendable .0)) (S.declared out) store both-out)
 
+      -- the unit in a place of the shelf is one of these
       unit-now : (k : ℕ) → k < length (S.declared out) → unitAt (l .shelf) k ≡ getD copies k S.blank
       unit-now k few =
           ap (λ m. getD m k S.blank) (heard-units h 0 (S.declared out) (sending.silence out))
           ∙ sets-at copies (out .units) k S.blank (omega (arith, length-map (λ x. hearing.copyOf x h .unit) (S.declared out), length-take (out .count) (out .units)))
           (omega (arith, few, length-map (λ x. hearing.copyOf x h .unit) (S.declared out)))
 
+      -- the rises of 32 rows, and of each declared unit
       each-length : length (l .each) ≡ 32
       each-length =
           ap length (heard-each h 0 (S.declared out) (sending.silence out))
@@ -401,6 +420,7 @@ module _ (card : Card) (shelf : Shelf) (memory store : List ℕ) (d : D.Shelf) (
           ∙ sets-at (map (λ x. hearingRises (hearing.copyOf x h .fate)) (S.declared out)) (replicate 32 0) k 0 (omega arith) (omega arith)
           ∙ rises-alike card memory (d .lines) store r (onBus r) (bus-says r (sendable .0)) both-out k few
 
+      -- the unit in a place, beside the document's
       beside-now : (k : ℕ) → k < length (page.allHear (d .lines) us r) → Beside card memory (d .lines) now k (unitAt (l .shelf) k) (getD (page.allHear (d .lines) us r) k D.blank)
       beside-now k few =
           let on : 0 + k ≡ k = omega arith in
@@ -408,6 +428,7 @@ module _ (card : Card) (shelf : Shelf) (memory store : List ℕ) (d : D.Shelf) (
           (sym (unit-now k (omega (arith, few, length-map (λ x. paper.hearingUnit (d .lines) x h (r .cell .payload)) us, out-alike .many))))
           (subst (λ p. Beside card memory (d .lines) now p (getD copies k S.blank) (getD (page.allHear (d .lines) us r) k D.blank)) on (both-at card memory (d .lines) now both-now k few))
 
+      -- what rises in its row, and in the sender's
       each-now : (k : ℕ) → k < length us → getD (sending.countSent place l .each) k 0 ≡ risesFrom (r ∷ rest) d place k
       unfolding risesFrom
       each-now k few =
@@ -421,6 +442,7 @@ module _ (card : Card) (shelf : Shelf) (memory store : List ℕ) (d : D.Shelf) (
           ∙ (λ z. bitOr ((ap (λ n. getD (l .each) n 0) (sym q) ∙ each-at k few) z) (sending.sentRises (all z)))))
           (λ q. rw (ne-eqb k place q) (getD-set-other (l .each) place k both 0 q ∙ each-at k few))
 
+      -- a sent frame
       sent-alike : (buffer : List ℕ) → HeardAlike (sending.countSent place l) now (page.frameOf r) (page.sendsFrom (r ∷ rest) d place buffer) (risesFrom (r ∷ rest) d place)
       unfolding page.sendsFrom risesFrom
       sent-alike buffer =
@@ -440,6 +462,7 @@ module _ (card : Card) (shelf : Shelf) (memory store : List ℕ) (d : D.Shelf) (
             each = λ k few. each-now k (omega (arith, few, n));
           }
 
+    -- whatever the document's inlet holds, it is not empty
     by-inlet : (m : List D.Routed) → e .inlet ≡ m → (buffer : List ℕ) →
         HeardAlike (framing.listenedBy (found.At place) shelf store) (framing.storeBy (found.At place) shelf store) (framing.bufferBy (found.At place) shelf store buffer)
         (page.sendsFrom m d place buffer) (risesFrom m d place)
@@ -454,6 +477,7 @@ module _ (card : Card) (shelf : Shelf) (memory store : List ℕ) (d : D.Shelf) (
         (subst (λ b. HeardAlike (sending.countSent place (sending.heardByAll out (page.asHeard r))) (sending.heardStore out (page.asHeard r) store b) (page.frameOf r) paper rises) (sym (bus-bytes r s))
         (sent-alike r rest first buffer)))
 
+  -- with a sender, or idle
   by-sender : (f : F.Found) → framing.sender shelf ≡ f → (buffer : List ℕ) →
       HeardAlike (framing.listenedBy f shelf store) (framing.storeBy f shelf store) (framing.bufferBy f shelf store buffer) (page.sends f d buffer) (risesBy f d)
   unfolding framing.listenedBy framing.storeBy framing.bufferBy page.sends risesBy
@@ -470,6 +494,7 @@ module _ (card : Card) (shelf : Shelf) (memory store : List ℕ) (d : D.Shelf) (
         each = λ k few. let most = few-units in getD-replicate 32 k 0 0 (omega arith);
       }
 
+  -- the sender is the document's
   heard-alike : (buffer : List ℕ) → HeardAlike (framing.listenedOf shelf store) (framing.storeAt shelf store) (framing.bufferAt shelf store buffer) (page.sentIn d buffer) (risesIn d)
   heard-alike buffer =
       let same : framing.sender shelf ≡ D.findIn (d .units) (d .granted) = find-alike card shelf memory store d a (shelf .granted) ∙ ap (D.findIn (d .units)) (a .granted) in
