@@ -137,6 +137,13 @@ filled place q n d = after d place (withQueue (unitAt d place) q (replicate n (r
 abbrev pub to : ℕ → ℕ → ℕ → Event
 to unit class header = hear unit (sound (routing (target.Unit unit) class) header)
 
+-- with no cell in any queue before: in mode one the third with CLP 1, in mode four the third of class 0
+abbrev pub discards : List Event
+discards = to 0 1 0 ∷ to 0 1 0 ∷ to 0 1 1 ∷ to 3 0 0 ∷ to 3 0 0 ∷ to 3 0 0 ∷ []
+
+abbrev pub discards-say : List Said
+discards-say = hears (hearing.Queued ∷ hearing.Queued ∷ hearing.Clp ∷ hearing.Queued ∷ hearing.Queued ∷ hearing.Full ∷ [])
+
 -- F. 004's figures 15 and 16: PT of the cells that leave; in figure 16 a class 0 cell leaves before them, marked too
 unfoldable pub pts : Shelf → ℕ → ℕ → List ℕ
 pts shelf unit n = map (λ b. fields Uni (four (b .bytes) 0) .pt) (gives shelf (replicate n (take unit (lent 53))))
