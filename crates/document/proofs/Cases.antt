@@ -21,7 +21,7 @@ use Rattle.document.specs.Hearing.{addressed, fateIn, hearingOf, keeping
 use Rattle.document.specs.Frame.{askingOf, isQueued, isAddressed, copies, someAddressed, heardEntries, sendsFrom, sends}
 use Rattle.document.specs.Take.{congested, takesFrom, takesBy}
 use Rattle.document.specs.Steps.{admitted, happensTo, gives}
-use mathlib.Core.List.{[], _∷_, _++_}
+use mathlib.Core.List.{[], _∷_}
 use Rattle.answer.specs.declared.Hearing.the-variants as hearing
 use Rattle.answer.specs.declared.Answer.the-variants.{Framed}
 use Rattle.arbiter.specs.Arbitration.{nobody}

@@ -1,19 +1,16 @@
 -- The witness, computed. Assumes nothing.
-use Prim.Native.Nat.{ℕ, _*_, _≤_, min}
+use Prim.Native.Nat.{ℕ, _*_, min}
 use native.Mathlib.Omega.{arith}
 use mathlib.Core.Path.{_≡_, refl, sym, ap, subst, _∙_}
-use mathlib.Core.Logic.{_⊎_, ⊎-elim}
-use mathlib.Core.Bool.{Bool, true, false, cond}
-use mathlib.Core.List.{List, [], _∷_, map}
+use mathlib.Core.Logic.{⊎-elim}
+use mathlib.Core.Bool.{true, false, cond}
+use mathlib.Core.List.{List, [], map}
 use lib.Dec.{ltb}
 use lib.ListN.{length, getD, take, drop, replicate, length-replicate}
-use Rattle.remainder.specs.Bits.{bits, number}
-use Rattle.remainder.specs.Division.{minus, divide, remainder, residue}
-use Rattle.routing.specs.Routing.{check as routing-check, upper, routing}
 use Rattle.card.specs.Cards.{holds as card-holds, narrowHolds}
 use Rattle.card.specs.declared.Card.{Card}
 use Rattle.card.specs.declared.Card.the-variants.{Narrow, Wide}
-use Rattle.record.specs.Record.{most, usable}
+use Rattle.record.specs.Record.{most}
 use Rattle.line.specs.Text.{split, same as same-word}
 use Rattle.line.specs.Digits.{digit, digits, plain, decimalOf, value, ranged, aimOf}
 use Rattle.line.specs.Lines.{busLine, settingsOn, settingsOf, limitsIn, limitsOf, unitLine, keyOf, wayOf, vpLine, dropLine, pageLine, vcOn, vcLine, mcLine, lineOf, wordOf, spoken, readingOf}
@@ -34,7 +31,7 @@ use Rattle.loading.specs.Loads.{answerOf}
 use Rattle.soundness.specs.State.{soundOf}
 use Rattle.soundness.proofs.Facts.{sound-iff}
 use Rattle.shelf.specs.Shelves.{fresh, findIn, placeFrom}
-use Rattle.promise.specs.Refusals.{linesOf, readThen, AllGood, Accepts}
+use Rattle.promise.specs.Refusals.{linesOf, readThen, Accepts}
 use Rattle.promise.specs.Starred.{path}
 use Rattle.promise.proofs.Refusals.{accepted}
 use Rattle.document.specs.Events.{Event, Said, answers}
