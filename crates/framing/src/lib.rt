@@ -112,15 +112,15 @@ fn hear_all(mut shelf: Shelf, heard: Heard, cell: [u8; 56], store: &mut [u8]) ->
     while i < end {
         let unit = shelf.units[i];
         let plan = hearing::plan_of(unit, heard);
-        let fate = hearing::fate_by(plan);
-        each[i] = answer::hearing_rises(fate);
-        copies = copies + queued_one(fate);
-        addressed = addressed | is_addressed(fate);
         if let Plan::Queue(queue) = plan {
             let outlet = unit.outlet;
             store::put_cell(store, hearing::slot_of(outlet, i, queue), &cell);
             shelf.units[i] = hearing::queued_up(unit, queue);
         }
+        let fate = hearing::fate_by(plan);
+        each[i] = answer::hearing_rises(fate);
+        copies = copies + queued_one(fate);
+        addressed = addressed | is_addressed(fate);
         i += 1;
     }
     Listened {

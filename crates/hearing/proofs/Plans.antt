@@ -81,10 +81,6 @@ module _ (u : U.Unit) (p : Plan) (place : ℕ) (store : List ℕ) (cell : Cell) 
   unfolding copyBy
   queued-copy q e after r = rw e (λ i. copyWith (r i) Queued)
 
-  pub queued-fate : (q : ℕ) → p ≡ Queue q → (x : A.Hearing) → x ≡ fateBy p → (after : U.Unit) → after ≡ queuedUp u q → copyWith after x ≡ copyBy p u
-  unfolding fateBy copyBy
-  queued-fate q e x s after r = rw e (λ i. copyWith (r i) ((s ∙ ap fateBy e) i))
-
   pub queued-store : (q : ℕ) → p ≡ Queue q →
       putAt store place (outletSlot (u .outlet .limits) q (tail (queue (u .outlet) q) (capacity (u .outlet .limits) q))) cell ≡ storeBy p u place store cell
   unfolding storeBy

@@ -13,8 +13,9 @@ use Rattle.shelf.specs.declared.Shelf.{Shelf}
 use Rattle.shelf.proofs.Finding.{length-mapped}
 use Rattle.admit.proofs.Laws.{nowhere, copied}
 use Rattle.admit.specs.Admission.{Housed, withUnit}
-use Rattle.hearing.specs.Hearings.{copyWith, copyBy, copyOf, storeBy, storeOf}
-use Rattle.hearing.proofs.Plans.{plan-queue, outlet-inside, lost-copy, lost-store, queued-fate, queued-store}
+use Rattle.answer.specs.declared.Hearing.the-variants.{Queued}
+use Rattle.hearing.specs.Hearings.{fateBy, copyWith, copyBy, copyOf, storeBy, storeOf}
+use Rattle.hearing.proofs.Plans.{plan-queue, outlet-inside, lost-copy, lost-store, queued-copy, queued-store}
 use Rattle.framing.specs.Sending.{heardFrom, storeFrom, heardByAll, heardStore}
 use Rattle.framing.proofs.Turns.{listening, none-left, inside, turned, unturned, stored, heard-none, store-none}
 use Rattle.framing.proofs.hear_all.Statement.{statement}
@@ -55,56 +56,31 @@ element-copy-out-unit c = let e = c .before .before .held .ensures in omega arit
 plan-of-requires : tie.Need-plan-of-requires Inv-loop μ-loop
 plan-of-requires c κs = search needs
 
-fate-by-requires : tie.Need-fate-by-requires Inv-loop μ-loop
-fate-by-requires c κs = search needs
-
-hearing-rises-requires : tie.Need-hearing-rises-requires Inv-loop μ-loop
-hearing-rises-requires c κs = search needs
-
-mul-each : tie.Need-mul-each Inv-loop μ-loop
-mul-each c = let e = c .before .before .before .before .before .before .held .ensures in omega arith
-
-array-write-each : tie.Need-array-write-each Inv-loop μ-loop
-array-write-each c = let e = c .before .before .before .before .before .before .held .ensures in omega arith
-
-queued-one-requires : tie.Need-queued-one-requires Inv-loop μ-loop
-queued-one-requires c κs = search needs
-
-add-copies : tie.Need-add-copies Inv-loop μ-loop
-add-copies c =
-    let e = c .before .before .before .before .before .before .before .held .ensures in
-    let w = c .before .before .before .before .before .before .loop .inv in
-    let q = c .queued-one .ensures .1 in
-    omega (arith, w .1, q, e)
-
-is-addressed-requires : tie.Need-is-addressed-requires Inv-loop μ-loop
-is-addressed-requires c κs = search needs
-
 enum-known-plan : tie.Need-enum-known-plan Inv-loop μ-loop
 enum-known-plan c = search needs
 
 -- what is known once a unit's plan is made: the place is one of 32, and the unit is the one that stood there
-below : (s : tie.After-is-addressed Inv-loop μ-loop) → s .before .before .before .before .before .before .before .loop .i < min (s .before .before .before .before .before .before .before .before .before .before .args .t1 .count) 32
-below s = let e = s .before .before .before .before .before .before .before .before .held .ensures in omega (arith, e, s .before .before .before .before .before .before .loop-test .taken)
+below : (s : tie.After-plan-of Inv-loop μ-loop) → s .before .before .before .loop .i < min (s .before .before .before .before .before .before .args .t1 .count) 32
+below s = let e = s .before .before .before .before .held .ensures in omega (arith, e, s .before .before .loop-test .taken)
 
-same-unit : (s : tie.After-is-addressed Inv-loop μ-loop) → getD (s .before .before .before .before .before .before .before .loop .shelf .units) (s .before .before .before .before .before .before .before .loop .i) nowhere ≡ getD (s .before .before .before .before .before .before .before .before .before .before .args .t1 .units) (s .before .before .before .before .before .before .before .loop .i) nowhere
-same-unit s = s .before .before .before .before .before .before .before .loop .inv .3 (s .before .before .before .before .before .before .before .loop .i) (omega arith)
+same-unit : (s : tie.After-plan-of Inv-loop μ-loop) → getD (s .before .before .before .loop .shelf .units) (s .before .before .before .loop .i) nowhere ≡ getD (s .before .before .before .before .before .before .args .t1 .units) (s .before .before .before .loop .i) nowhere
+same-unit s = s .before .before .before .loop .inv .3 (s .before .before .before .loop .i) (omega arith)
 
-housed : (s : tie.After-is-addressed Inv-loop μ-loop) → Housed (s .before .before .before .before .before .before .before .loop .i) (getD (s .before .before .before .before .before .before .before .loop .shelf .units) (s .before .before .before .before .before .before .before .loop .i) nowhere) (length (s .before .before .before .before .before .before .before .loop .store))
+housed : (s : tie.After-plan-of Inv-loop μ-loop) → Housed (s .before .before .before .loop .i) (getD (s .before .before .before .loop .shelf .units) (s .before .before .before .loop .i) nowhere) (length (s .before .before .before .loop .store))
 housed s =
-    let a = s .before .before .before .before .before .before .before .before .before .before .args in
-    let l = s .before .before .before .before .before .before .before .loop in
+    let a = s .before .before .before .before .before .before .args in
+    let l = s .before .before .before .loop in
     let less = below s in
-    let u = same-unit s ∙ copied (a .t1) (l .i) (long (s .before .before .before .before .before .before .before .before .before .before)) (omega (arith, less)) in
+    let u = same-unit s ∙ copied (a .t1) (l .i) (long (s .before .before .before .before .before .before)) (omega (arith, less)) in
     subst (λ b. Housed (l .i) (getD (l .shelf .units) (l .i) nowhere) b) (sym (l .inv .2))
-    (subst (λ x. Housed (l .i) x (length (a .store .now))) (sym u) (s .before .before .before .before .before .before .before .before .before .before .pre (l .i) (inside (a .t1) (long (s .before .before .before .before .before .before .before .before .before .before)) (l .i) less)))
+    (subst (λ x. Housed (l .i) x (length (a .store .now))) (sym u) (s .before .before .before .before .before .before .pre (l .i) (inside (a .t1) (long (s .before .before .before .before .before .before)) (l .i) less)))
 
 slot-of-requires : tie.Need-slot-of-requires Inv-loop μ-loop
 slot-of-requires c κs =
     let s = c .before .before .before .before .before in
     let less = below s in
-    let e = sym (s .before .before .before .before .plan-of .ensures) ∙ c .before .before .before .plan .given .1 in
-    (plan-queue (getD (s .before .before .before .before .before .before .before .loop .shelf .units) (s .before .before .before .before .before .before .before .loop .i) nowhere) (s .before .before .before .before .before .before .before .before .before .before .args .heard) _ e, omega (arith, less))
+    let e = sym (s .plan-of .ensures) ∙ c .before .before .before .plan .given .1 in
+    (plan-queue (getD (s .before .before .before .loop .shelf .units) (s .before .before .before .loop .i) nowhere) (s .before .before .before .before .before .before .args .heard) _ e, omega (arith, less))
 
 slice-aggregate-put-cell : tie.Need-slice-aggregate-put-cell Inv-loop μ-loop
 slice-aggregate-put-cell c = search needs
@@ -112,21 +88,21 @@ slice-aggregate-put-cell c = search needs
 put-cell-requires : tie.Need-put-cell-requires Inv-loop μ-loop
 put-cell-requires c κs =
     let s = c .before .before .before .before .before .before .before in
-    let l = s .before .before .before .before .before .before .before .loop in
+    let l = s .before .before .before .loop in
     let u = getD (l .shelf .units) (l .i) nowhere in
-    let e = sym (s .before .before .before .before .plan-of .ensures) ∙ c .before .before .before .before .before .plan .given .1 in (
-      whole (s .before .before .before .before .before .before .before .before .before .before),
-      subst (λ n. n + 56 ≤ length (l .store)) (sym (c .before .slot-of .ensures)) (outlet-inside (l .i) (length (l .store)) u _ (housed s) (plan-queue u (s .before .before .before .before .before .before .before .before .before .before .args .heard) _ e)),
+    let e = sym (s .plan-of .ensures) ∙ c .before .before .before .before .before .plan .given .1 in (
+      whole (s .before .before .before .before .before .before),
+      subst (λ n. n + 56 ≤ length (l .store)) (sym (c .before .slot-of .ensures)) (outlet-inside (l .i) (length (l .store)) u _ (housed s) (plan-queue u (s .before .before .before .before .before .before .args .heard) _ e)),
     )
 
 queued-up-requires : tie.Need-queued-up-requires Inv-loop μ-loop
 queued-up-requires c κs =
     let s = c .before .before .before .before .before .before .before .before .before .before in
-    let e = sym (s .before .before .before .before .plan-of .ensures) ∙ c .before .before .before .before .before .before .before .before .plan .given .1 in
-    plan-queue (getD (s .before .before .before .before .before .before .before .loop .shelf .units) (s .before .before .before .before .before .before .before .loop .i) nowhere) (s .before .before .before .before .before .before .before .before .before .before .args .heard) _ e
+    let e = sym (s .plan-of .ensures) ∙ c .before .before .before .before .before .before .before .before .plan .given .1 in
+    plan-queue (getD (s .before .before .before .loop .shelf .units) (s .before .before .before .loop .i) nowhere) (s .before .before .before .before .before .before .args .heard) _ e
 
-mul-t30 : tie.Need-mul-t30 Inv-loop μ-loop
-mul-t30 c = let less = below (c .before .before .before .before .before .before .before .before .before .before .before) in omega (arith, less)
+mul-t26 : tie.Need-mul-t26 Inv-loop μ-loop
+mul-t26 c = let less = below (c .before .before .before .before .before .before .before .before .before .before .before) in omega (arith, less)
 
 element-set-from-shelf : tie.Need-element-set-from-shelf Inv-loop μ-loop
 element-set-from-shelf c = let less = below (c .before .before .before .before .before .before .before .before .before .before .before) in omega (arith, less)
@@ -134,60 +110,89 @@ element-set-from-shelf c = let less = below (c .before .before .before .before .
 enum-told : tie.Need-enum-told Inv-loop μ-loop
 enum-told c = search needs
 
+fate-by-requires : tie.Need-fate-by-requires Inv-loop μ-loop
+fate-by-requires c κs = search needs
+
+hearing-rises-requires : tie.Need-hearing-rises-requires Inv-loop μ-loop
+hearing-rises-requires c κs = search needs
+
+mul-each : tie.Need-mul-each Inv-loop μ-loop
+mul-each c = let less = below (c .before .before .before) in omega (arith, less)
+
+array-write-each : tie.Need-array-write-each Inv-loop μ-loop
+array-write-each c = let less = below (c .before .before .before) in omega (arith, less)
+
+queued-one-requires : tie.Need-queued-one-requires Inv-loop μ-loop
+queued-one-requires c κs = search needs
+
+add-copies : tie.Need-add-copies Inv-loop μ-loop
+add-copies c =
+    let s = c .before .before .before .before in
+    let less = below s in
+    let w = s .before .before .before .loop .inv in
+    let q = c .queued-one .ensures .1 in
+    omega (arith, w .1, q, less)
+
+is-addressed-requires : tie.Need-is-addressed-requires Inv-loop μ-loop
+is-addressed-requires c κs = search needs
+
 add-i : tie.Need-add-i Inv-loop μ-loop
-add-i c = let less = below (c .before) in omega (arith, less)
+add-i c = let less = below (c .before .before .before .before .before) in omega (arith, less)
 
 loop-less : tie.Need-loop-less Inv-loop μ-loop
 loop-less c = omega arith
 
 loop-again : tie.Need-loop-again Inv-loop μ-loop
-unfolding putAt
+unfolding putAt fateBy
 loop-again c =
-    let s = c .before in
-    let a = s .before .before .before .before .before .before .before .before .before .before .args in
-    let l = s .before .before .before .before .before .before .before .loop in
+    let s = c .before .before .before .before .before in
+    let m = c .before .before .before .before .match in
+    let a = s .before .before .before .before .before .before .args in
+    let l = s .before .before .before .loop in
     let n = l .i in
     let less = below s in
     let u = getD (l .shelf .units) n nowhere in
     let same = same-unit s in
-    let p = s .before .before .before .before .plan-of .ensures in
-    let x = s .before .before .before .fate-by .ensures in
+    let p = s .plan-of .ensures in
+    let f = c .before .before .before .fate-by in
     ⊎-elim
     (λ w.
     let e = w .1 .given .1 in
     let r = w .10 in
     let es = w .11 in
-    let eh = w .12 in (
-      omega (arith, s .before .before .before .before .before .before .before .before .held .ensures, less),
-      omega (arith, l .inv .1, s .before .queued-one .ensures .1),
+    let eh = w .12 in
+    let x : f .result ≡ Queued = f .ensures ∙ ap fateBy (w .13) in (
+      omega (arith, s .before .before .before .before .held .ensures, less),
+      omega (arith, l .inv .1, c .before .queued-one .ensures .1),
       ap length es ∙ w .8 .given ∙ l .inv .2,
       λ j h. ap (λ (z : Shelf). getD (z .units) j nowhere) eh ∙ getD-set-other (l .shelf .units) n j (r .result) nowhere (omega arith) ∙ l .inv .3 j (omega arith),
       l .inv .4
-          ∙ turned (a .t1) (long (s .before .before .before .before .before .before .before .before .before .before)) n less (a .heard) (copyWith (r .result) (s .before .before .before .fate-by .result))
-          (queued-fate u _ n (l .store) (a .t3) _ e _ x _ (r .ensures) ∙ ap (λ y. copyBy y u) p ∙ ap (λ y. copyOf y (a .heard)) same)
-          (l .shelf) (c .match .shelf) eh (l .each) (l .copies) (l .addressed) _ _ _ (s .before .before .hearing-rises .ensures) (s .before .queued-one .ensures .0) (s .is-addressed .ensures),
+          ∙ turned (a .t1) (long (s .before .before .before .before .before .before)) n less (a .heard) (copyWith (r .result) (f .result))
+          (ap (copyWith (r .result)) x ∙ queued-copy u _ n (l .store) (a .t3) _ e _ (r .ensures) ∙ ap (λ y. copyBy y u) p ∙ ap (λ y. copyOf y (a .heard)) same)
+          (l .shelf) (m .shelf) eh (l .each) (l .copies) (l .addressed) _ _ _ (c .before .before .hearing-rises .ensures) (c .before .queued-one .ensures .0) (c .is-addressed .ensures),
       l .inv .5
-          ∙ stored (a .t1) (long (s .before .before .before .before .before .before .before .before .before .before)) n less (a .heard) (l .store) (c .match .store) (a .t3)
+          ∙ stored (a .t1) (long (s .before .before .before .before .before .before)) n less (a .heard) (l .store) (m .store) (a .t3)
           (es ∙ w .7 .ensures ∙ ap (λ m. splice (l .store) m (a .t3)) (w .5 .ensures) ∙ queued-store u _ n (l .store) (a .t3) _ e
           ∙ ap (λ y. storeBy y u n (l .store) (a .t3)) p ∙ ap (λ y. storeOf y (a .heard) n (l .store) (a .t3)) same),
     ))
     (λ w.
     let e = w .1 .given .1 in
     let es = w .2 in
-    let eh = w .3 in (
-      omega (arith, s .before .before .before .before .before .before .before .before .held .ensures, less),
-      omega (arith, l .inv .1, s .before .queued-one .ensures .1),
+    let eh = w .3 in
+    let x = f .ensures ∙ ap fateBy (w .4) in (
+      omega (arith, s .before .before .before .before .held .ensures, less),
+      omega (arith, l .inv .1, c .before .queued-one .ensures .1),
       ap length es ∙ l .inv .2,
       λ j h. ap (λ (z : Shelf). getD (z .units) j nowhere) eh ∙ l .inv .3 j (omega arith),
       l .inv .4
-          ∙ turned (a .t1) (long (s .before .before .before .before .before .before .before .before .before .before)) n less (a .heard) (copyWith u (s .before .before .before .fate-by .result))
+          ∙ turned (a .t1) (long (s .before .before .before .before .before .before)) n less (a .heard) (copyWith u (f .result))
           (lost-copy u _ n (l .store) (a .t3) _ e _ x ∙ ap (λ y. copyBy y u) p ∙ ap (λ y. copyOf y (a .heard)) same)
-          (l .shelf) (c .match .shelf) (eh ∙ unturned (l .shelf) n) (l .each) (l .copies) (l .addressed) _ _ _ (s .before .before .hearing-rises .ensures) (s .before .queued-one .ensures .0) (s .is-addressed .ensures),
+          (l .shelf) (m .shelf) (eh ∙ unturned (l .shelf) n) (l .each) (l .copies) (l .addressed) _ _ _ (c .before .before .hearing-rises .ensures) (c .before .queued-one .ensures .0) (c .is-addressed .ensures),
       l .inv .5
-          ∙ stored (a .t1) (long (s .before .before .before .before .before .before .before .before .before .before)) n less (a .heard) (l .store) (c .match .store) (a .t3)
+          ∙ stored (a .t1) (long (s .before .before .before .before .before .before)) n less (a .heard) (l .store) (m .store) (a .t3)
           (es ∙ lost-store u _ n (l .store) (a .t3) _ e ∙ ap (λ y. storeBy y u n (l .store) (a .t3)) p ∙ ap (λ y. storeOf y (a .heard) n (l .store) (a .t3)) same),
     ))
-    (c .match .came)
+    (m .came)
 
 same-length : tie.Need-same-length Inv-loop μ-loop
 same-length c = c .before .loop .inv .2
@@ -211,6 +216,14 @@ hear-all-spec =
     mul-unit
     element-copy-out-unit
     plan-of-requires
+    enum-known-plan
+    slot-of-requires
+    slice-aggregate-put-cell
+    put-cell-requires
+    queued-up-requires
+    mul-t26
+    element-set-from-shelf
+    enum-told
     fate-by-requires
     hearing-rises-requires
     mul-each
@@ -218,14 +231,6 @@ hear-all-spec =
     queued-one-requires
     add-copies
     is-addressed-requires
-    enum-known-plan
-    slot-of-requires
-    slice-aggregate-put-cell
-    put-cell-requires
-    queued-up-requires
-    mul-t30
-    element-set-from-shelf
-    enum-told
     add-i
     loop-less
     loop-again
