@@ -10,7 +10,7 @@ ghost use Rattle.answer.specs.Answers.{arrivalWord, hearingWord};
 ghost use Rattle.hex.specs.Writing.{Wrote};
 ghost use Rattle.hex.specs.Hex.{hexOf};
 ghost use Rattle.words.specs.Decimals.{decimal};
-ghost use Rattle.fates.specs.Fates.{tabbed, fields, who};
+ghost use Rattle.phrases.specs.Fates.{tabbed, fields, who};
 ghost use Rattle.answered.specs.Answers.{wRefused, wOk, wEmpty, byteAt, headerBytes, answerFields};
 
 // Writes that something is refused.
@@ -18,7 +18,7 @@ fn put_refused(out: &mut [u8], at: usize, number: u8) -> usize
     requires { ⌜ at + 29 ≤ length (now out) ⌝ }
     ensures { λ r. ⌜ Wrote (now (out .entry)) at (fields (wRefused ∷ decimal number ∷ [])) r (now (out .exit)) × (r ≤ at + 29) ⌝ }
 {
-    let next = fates::put_field(out, at, b"refused");
+    let next = phrases::put_field(out, at, b"refused");
     words::put_number(out, next, number as u64)
 }
 
@@ -28,8 +28,8 @@ fn put_framed(out: &mut [u8], at: usize, number: u16, sender: u8, granted: u8, c
     ensures { λ r. ⌜ Wrote (now (out .entry)) at (fields (decimal number ∷ who sender ∷ who granted ∷ decimal copies ∷ [])) r (now (out .exit)) × (r ≤ at + 84) ⌝ }
 {
     let a = words::put_number(out, at, number as u64);
-    let b = fates::put_who(out, a, sender);
-    let c = fates::put_who(out, b, granted);
+    let b = phrases::put_who(out, a, sender);
+    let c = phrases::put_who(out, b, granted);
     words::put_number(out, c, copies as u64)
 }
 
@@ -85,7 +85,7 @@ fn put_arrived(out: &mut [u8], at: usize, unit: u8, fate: Arrival) -> usize
     ensures { λ r. ⌜ Wrote (now (out .entry)) at (fields (decimal unit ∷ arrivalWord fate ∷ [])) r (now (out .exit)) × (r ≤ at + 31) ⌝ }
 {
     let next = words::put_number(out, at, unit as u64);
-    fates::put_arrival(out, next, fate)
+    phrases::put_arrival(out, next, fate)
 }
 
 // Writes a unit and the fate of a heard frame there.
@@ -94,7 +94,7 @@ fn put_heard(out: &mut [u8], at: usize, unit: u8, fate: Hearing) -> usize
     ensures { λ r. ⌜ Wrote (now (out .entry)) at (fields (decimal unit ∷ hearingWord fate ∷ [])) r (now (out .exit)) × (r ≤ at + 29) ⌝ }
 {
     let next = words::put_number(out, at, unit as u64);
-    fates::put_hearing(out, next, fate)
+    phrases::put_hearing(out, next, fate)
 }
 
 // Writes that a unit has no cell.
@@ -103,7 +103,7 @@ fn put_empty(out: &mut [u8], at: usize, unit: u8) -> usize
     ensures { λ r. ⌜ Wrote (now (out .entry)) at (fields (decimal unit ∷ wEmpty ∷ [])) r (now (out .exit)) × (r ≤ at + 27) ⌝ }
 {
     let next = words::put_number(out, at, unit as u64);
-    fates::put_field(out, next, b"empty")
+    phrases::put_field(out, next, b"empty")
 }
 
 // Writes that a table is loaded.
@@ -111,7 +111,7 @@ fn put_loaded(out: &mut [u8], at: usize, used: u32) -> usize
     requires { ⌜ at + 24 ≤ length (now out) ⌝ }
     ensures { λ r. ⌜ Wrote (now (out .entry)) at (fields (wOk ∷ decimal used ∷ [])) r (now (out .exit)) × (r ≤ at + 24) ⌝ }
 {
-    let next = fates::put_field(out, at, b"ok");
+    let next = phrases::put_field(out, at, b"ok");
     words::put_number(out, next, used as u64)
 }
 

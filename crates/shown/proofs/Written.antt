@@ -12,7 +12,7 @@ use Rattle.hex.specs.Writing.{Wrote}
 use Rattle.hex.proofs.Splices.{nothing, then, cat-snoc}
 use Rattle.counters.specs.declared.Counters.{Counters}
 use Rattle.words.specs.Decimals.{decimal}
-use Rattle.fates.specs.Fates.{tabbed, who}
+use Rattle.phrases.specs.Fates.{tabbed, who}
 use Rattle.shown.specs.Lines.{unitField, rowFields}
 
 -- the field of a unit is the tab and who it is

@@ -23,8 +23,8 @@ fn put_frame(out: &mut [u8], at: usize, number: u16, sender: u8, granted: u8, co
     ensures { λ r. ⌜ Wrote (now (out .entry)) at (frameText number sender granted copies) r (now (out .exit)) × (r ≤ at + 89) ⌝ }
 {
     let numbered = say(out, at, b"frame", number as u64);
-    let sent = fates::put_who(out, numbered, sender);
-    let all = fates::put_who(out, sent, granted);
+    let sent = phrases::put_who(out, numbered, sender);
+    let all = phrases::put_who(out, sent, granted);
     words::put_number(out, all, copies as u64)
 }
 
@@ -45,7 +45,7 @@ pub fn said(out: &mut [u8], at: usize, word: &[u8], unit: u8, answer: Answer) ->
         }
         Answer::Arrived(fate) => {
             let next = say(out, at, b"arrive", unit as u64);
-            fates::put_arrival(out, next, fate)
+            phrases::put_arrival(out, next, fate)
         }
         Answer::Framed {
             number,
@@ -55,7 +55,7 @@ pub fn said(out: &mut [u8], at: usize, word: &[u8], unit: u8, answer: Answer) ->
         } => put_frame(out, at, number, sender, granted, copies),
         Answer::Heard(fate) => {
             let next = say(out, at, b"hear", unit as u64);
-            fates::put_hearing(out, next, fate)
+            phrases::put_hearing(out, next, fate)
         }
         Answer::Taken => {
             let next = say(out, at, b"take", unit as u64);
@@ -83,7 +83,7 @@ pub fn counted(out: &mut [u8], at: usize, unit: u8, c: Counters) -> usize
     ensures { λ r. ⌜ Wrote (now (out .entry)) at (countText unit c) r (now (out .exit)) × (r ≤ at + 299) ⌝ }
 {
     let next = say(out, at, b"count", unit as u64);
-    words::put_numbers(out, next, &fates::listed(c))
+    words::put_numbers(out, next, &phrases::listed(c))
 }
 
 // How many bytes there are, and their sum.
@@ -106,7 +106,7 @@ pub fn rows(out: &mut [u8], at: usize, count: usize, rows: [Counters; 40]) -> us
     let mut i: usize = 0;
     while i < count {
         let row = rows[i];
-        next = words::put_numbers(out, next, &fates::listed(row));
+        next = words::put_numbers(out, next, &phrases::listed(row));
         i += 1;
     }
     next

@@ -27,7 +27,7 @@ fn put_counters(out: &mut [u8], at: usize, unit: u8, c: Counters) -> usize
     ensures { λ r. ⌜ Wrote (now (out .entry)) at (numberFields (unit ∷ listed c)) r (now (out .exit)) × (r ≤ at + 294) ⌝ }
 {
     let next = words::put_number(out, at, unit as u64);
-    words::put_numbers(out, next, &fates::listed(c))
+    words::put_numbers(out, next, &phrases::listed(c))
 }
 
 // Writes what is said of an event behind its word.

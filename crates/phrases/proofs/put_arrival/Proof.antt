@@ -1,9 +1,9 @@
--- `fates::put_arrival` meets its contract. Assumes nothing.
+-- `phrases::put_arrival` meets its contract. Assumes nothing.
 use native.Mathlib.Omega.{arith}
 use Rattle.answer.specs.Answers.{arrivalWord}
 use borrow.Author.Needs.{needs}
-use Rattle.fates.proofs.put_arrival.Statement.{statement}
-use Rattle.fates.proofs.put_arrival.Tie as tie
+use Rattle.phrases.proofs.put_arrival.Statement.{statement}
+use Rattle.phrases.proofs.put_arrival.Tie as tie
 
 enum-told : tie.Need-enum-told
 enum-told c = search needs

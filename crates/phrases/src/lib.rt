@@ -8,7 +8,7 @@ ghost use lib.ListN.{length};
 ghost use Rattle.answer.specs.Answers.{arrivalWord, hearingWord};
 ghost use Rattle.counters.specs.Counting.{listed as listedOf};
 ghost use Rattle.hex.specs.Writing.{Wrote};
-ghost use Rattle.fates.specs.Fates.{tabbed, who};
+ghost use Rattle.phrases.specs.Fates.{tabbed, who};
 
 // Nobody, where a unit stands.
 const NOBODY: u8 = 255;

@@ -8,7 +8,7 @@ use Rattle.octets.specs.Octets.{cat}
 use Rattle.hex.specs.Writing.{Wrote}
 use Rattle.words.specs.Decimals.{decimal}
 use Rattle.hex.proofs.Splices.{then, cat-snoc}
-use Rattle.fates.specs.Fates.{tabbed, fields, who}
+use Rattle.phrases.specs.Fates.{tabbed, fields, who}
 
 one-field : (f : List ℕ) → tabbed f ≡ fields (f ∷ [])
 unfolding cat

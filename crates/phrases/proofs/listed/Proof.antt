@@ -1,8 +1,8 @@
--- `fates::listed` meets its contract. Assumes nothing.
+-- `phrases::listed` meets its contract. Assumes nothing.
 use native.Mathlib.Omega.{arith}
 use borrow.Author.Needs.{needs}
-use Rattle.fates.proofs.listed.Statement.{statement}
-use Rattle.fates.proofs.listed.Tie as tie
+use Rattle.phrases.proofs.listed.Statement.{statement}
+use Rattle.phrases.proofs.listed.Tie as tie
 
 cast-t2 : tie.Need-cast-t2
 cast-t2 c = omega (arith, c .struct-known .given)

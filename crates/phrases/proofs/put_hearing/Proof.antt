@@ -1,9 +1,9 @@
--- `fates::put_hearing` meets its contract. Assumes nothing.
+-- `phrases::put_hearing` meets its contract. Assumes nothing.
 use native.Mathlib.Omega.{arith}
 use Rattle.answer.specs.Answers.{hearingWord}
 use borrow.Author.Needs.{needs}
-use Rattle.fates.proofs.put_hearing.Statement.{statement}
-use Rattle.fates.proofs.put_hearing.Tie as tie
+use Rattle.phrases.proofs.put_hearing.Statement.{statement}
+use Rattle.phrases.proofs.put_hearing.Tie as tie
 
 enum-told : tie.Need-enum-told
 enum-told c = search needs

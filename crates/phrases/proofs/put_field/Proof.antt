@@ -1,9 +1,9 @@
--- `fates::put_field` meets its contract. Assumes nothing.
+-- `phrases::put_field` meets its contract. Assumes nothing.
 use native.Mathlib.Omega.{arith}
 use Rattle.hex.proofs.Splices.{then}
 use borrow.Author.Needs.{needs}
-use Rattle.fates.proofs.put_field.Statement.{statement}
-use Rattle.fates.proofs.put_field.Tie as tie
+use Rattle.phrases.proofs.put_field.Statement.{statement}
+use Rattle.phrases.proofs.put_field.Tie as tie
 
 slice-aggregate-put : tie.Need-slice-aggregate-put
 slice-aggregate-put c = search needs

@@ -1,9 +1,9 @@
--- `fates::put_who` meets its contract. Assumes nothing.
+-- `phrases::put_who` meets its contract. Assumes nothing.
 use native.Mathlib.Omega.{arith}
-use Rattle.fates.proofs.Joins.{who-nobody, who-number}
+use Rattle.phrases.proofs.Joins.{who-nobody, who-number}
 use borrow.Author.Needs.{needs}
-use Rattle.fates.proofs.put_who.Statement.{statement}
-use Rattle.fates.proofs.put_who.Tie as tie
+use Rattle.phrases.proofs.put_who.Statement.{statement}
+use Rattle.phrases.proofs.put_who.Tie as tie
 
 slice-aggregate-put-field : tie.Need-slice-aggregate-put-field
 slice-aggregate-put-field c = search needs
