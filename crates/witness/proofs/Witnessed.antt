@@ -11,9 +11,11 @@ use Rattle.card.specs.Cards.{holds as card-holds, narrowHolds}
 use Rattle.card.specs.declared.Card.{Card}
 use Rattle.card.specs.declared.Card.the-variants.{Narrow, Wide}
 use Rattle.record.specs.Record.{most}
-use Rattle.line.specs.Text.{split, same as same-word}
-use Rattle.line.specs.Digits.{digit, digits, plain, decimalOf, value, ranged, aimOf}
-use Rattle.line.specs.Lines.{busLine, settingsOn, settingsOf, limitsIn, limitsOf, unitLine, keyOf, wayOf, vpLine, dropLine, pageLine, vcOn, vcLine, mcLine, lineOf, wordOf, spoken, readingOf}
+use Rattle.text.specs.Text.{split, same as same-word}
+use Rattle.text.specs.Digits.{digit, digits, plain, decimalOf, value}
+use Rattle.ranged.specs.Ranged.{ranged, aimOf}
+use Rattle.unitline.specs.Units.{settingsOn, settingsOf, limitsIn, limitsOf}
+use Rattle.line.specs.Lines.{busLine, unitLine, keyOf, wayOf, vpLine, dropLine, pageLine, vcOn, vcLine, mcLine, lineOf, wordOf, spoken, readingOf}
 use Rattle.judge.specs.Judge.{judgeBus, judgeUnit, judgeVp, judgeDrop, judgePage, judgeVc, judgeMc}
 use Rattle.told.specs.Told.{same as same-whose, opens, gives as gives-record, hearsBy, topOf, total, recordOf, hearsIn, declare, joinAt, shelfBy, shelfOf}
 use Rattle.told.specs.Lines.{judge, run, Good}
