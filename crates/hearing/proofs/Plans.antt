@@ -1,19 +1,20 @@
 -- The two ways a copy ends, and what a queued one may count on. Assumes nothing.
-use Prim.Native.Nat.{ℕ, _+_, _-_, _≤_, _<_}
+use Prim.Native.Nat.{ℕ, zero, suc, _+_, _-_, _≤_, _<_}
 use native.Mathlib.Omega.{arith}
 use mathlib.Core.Path.{_≡_, refl, sym, ap, subst, _∙_}
 use mathlib.Core.Bool.{Bool, true, false, cond}
-use mathlib.Core.List.{List}
-use lib.Dec.{ltb}
-use lib.ListN.{length, take, length-take}
-use Rattle.outlet.specs.Outlets.{capacity, queue}
+use mathlib.Core.List.{List, [], _∷_}
+use lib.Dec.{ltb, eqb}
+use lib.ListN.{length, getD, set, take, length-take}
+use Rattle.outlet.specs.Outlets.{capacity, queue, empty as emptyRing}
+use Rattle.outlet.specs.declared.Ring.{Ring}
 use Rattle.bus.specs.declared.Heard as H
 use Rattle.bus.specs.declared.Heard.the-variants as frame
 use Rattle.queueing.specs.Hearing.{queueOf, fate}
 use Rattle.queueing.specs.declared.Fate as F
 use Rattle.queueing.specs.declared.Fate.the-variants as fates
 use Rattle.queueing.proofs.Fates.{queue-lt}
-use Rattle.store.specs.Rings.{back, tail}
+use Rattle.store.specs.Rings.{back, tail, pushed}
 use Rattle.store.specs.Places.{Cell, slotAt, outletSlot, putAt}
 use Rattle.store.proofs.Rounds.{back-lt}
 use Rattle.store.proofs.Slots.{by-lt, start-inside, slot-inside}
@@ -66,6 +67,35 @@ outlet-inside place bytes u q h few =
     (λ some. omega (arith, start, back-lt cap (ring .head + ring .count) (omega (arith, fits .place some, fits .held))))
     (λ none. let z : cap ≡ 0 = omega arith in omega (arith, start, low, fits .nowhere z, fits .held)) in
     omega (arith, slot-inside place (outletSlot (u .outlet .limits) q (tail ring cap)) slot .1, h .inside)
+
+-- one of four queues has one more cell
+abbrev pub withQueues : U.Unit → List Ring → U.Unit
+withQueues u qs =
+    record {
+      settings = u .settings;
+      outlet = record { limits = u .outlet .limits; queues = qs };
+      inlet = u .inlet;
+      place = u .place;
+      sessions = u .sessions;
+    }
+
+abbrev at : List Ring → ℕ → Ring
+at qs k = getD qs k emptyRing
+
+abbrev grow : List Ring → ℕ → ℕ → Ring
+grow qs q k = cond (eqb q k) (pushed (at qs k)) (at qs k)
+
+pub grown-all : (qs : List Ring) (q : ℕ) → length qs ≡ 4 → q < 4 → (grow qs q 0 ∷ grow qs q 1 ∷ grow qs q 2 ∷ grow qs q 3 ∷ []) ≡ set qs q (pushed (at qs q))
+grown-all [] q l h = absurd (omega arith)
+grown-all (a ∷ []) q l h = absurd (omega arith)
+grown-all (a ∷ b ∷ []) q l h = absurd (omega arith)
+grown-all (a ∷ b ∷ c ∷ []) q l h = absurd (omega arith)
+grown-all (a ∷ b ∷ c ∷ d ∷ []) zero l h = refl
+grown-all (a ∷ b ∷ c ∷ d ∷ []) (suc zero) l h = refl
+grown-all (a ∷ b ∷ c ∷ d ∷ []) (suc (suc zero)) l h = refl
+grown-all (a ∷ b ∷ c ∷ d ∷ []) (suc (suc (suc zero))) l h = refl
+grown-all (a ∷ b ∷ c ∷ d ∷ []) (suc (suc (suc (suc q)))) l h = absurd (omega arith)
+grown-all (a ∷ b ∷ c ∷ d ∷ e ∷ qs) q l h = absurd (omega arith)
 
 -- how a copy ends
 module _ (u : U.Unit) (p : Plan) (place : ℕ) (store : List ℕ) (cell : Cell) where

@@ -7,6 +7,7 @@ use answer::Rises;
 use bus::Heard;
 use card::Card;
 use outlet::Outlet;
+use outlet::Ring;
 use queueing::Fate;
 use routing::Target;
 use shelf::Shelf;
@@ -14,6 +15,8 @@ use shelf::Unit;
 ghost use mathlib.Core.Path.{_≡_};
 ghost use Prim.Native.Nat.{_<_, _≤_};
 ghost use lib.ListN.{length};
+ghost use mathlib.Core.Bool.{cond};
+ghost use Rattle.store.specs.Rings.{pushed};
 ghost use Rattle.admit.specs.Admission.{unitAt, Housed};
 ghost use Rattle.hearing.specs.Hearings.{addressed as addressedTo, planFor, planOf, fateBy, slotOf, queuedUp, copyOf, storeOf, doneAt, storeAt, hearDone, hearStore};
 
@@ -102,17 +105,27 @@ pub fn slot_of(outlet: Outlet, place: usize, queue: u8) -> usize
     store::outlet_at(place, limits, queue, tail)
 }
 
-// The unit with one more cell in a queue of its outlet.
+// A queue with one more cell, if it is the one.
+fn grown(ring: Ring, here: bool) -> Ring
+    ensures { λ r. ⌜ r ≡ cond here (pushed ring) ring ⌝ }
+{
+    if here { store::pushed(ring) } else { ring }
+}
+
+// The unit with one more cell in a queue of its outlet. All four are written anew: one written by its number would be waited for when they are read.
 pub fn queued_up(mut unit: Unit, queue: u8) -> Unit
     requires { ⌜ queue < 4 ⌝ }
     ensures { λ r. ⌜ r ≡ queuedUp unit queue ⌝ }
 {
     let mut outlet = unit.outlet;
-    let mut queues = outlet.queues;
-    let q = queue as usize;
-    let ring = queues[q];
-    queues[q] = store::pushed(ring);
-    outlet.queues = queues;
+    let queues = outlet.queues;
+    let after = [
+        grown(queues[0], queue == 0),
+        grown(queues[1], queue == 1),
+        grown(queues[2], queue == 2),
+        grown(queues[3], queue == 3),
+    ];
+    outlet.queues = after;
     unit.outlet = outlet;
     unit
 }
