@@ -41,7 +41,8 @@ pub record OnlyAt (place : ℕ) (before after : World) : Type 0 where
   pub granted : after .shelf .granted ≡ before .shelf .granted
   pub frame : after .shelf .frame ≡ before .shelf .frame
 
--- "a cell at one unit disturbs no other": whatever the world, sound or not, and whatever the event is handed
+-- Arrive, hear, take and count change no other unit, no other row and no byte of another part of the store, whatever the world, sound or not, and
+-- whatever the event is handed; "9 Unit: unit not declared", "Refusals 8 to 10 .. change nothing"
 abbrev pub Isolation : Type 0
 Isolation =
     (card : Card) (w : World) (e : Event) (unit : ℕ) → named e ≡ some unit →
