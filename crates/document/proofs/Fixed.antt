@@ -64,7 +64,7 @@ sent-from [] d place buffer = refl
 sent-from (r ∷ rest) d place buffer =
     all-kept (d .lines) (set (d .units) place (withInlet (unitAt d place) rest)) r ∙ map-set-same givenOf (d .units) place (withInlet (unitAt d place) rest) blank refl
 
-sent-kept : (f : F.Found) (d : Shelf) (buffer : List ℕ) → map givenOf (sends f d buffer .units) ≡ given d
+pub sent-kept : (f : F.Found) (d : Shelf) (buffer : List ℕ) → map givenOf (sends f d buffer .units) ≡ given d
 unfolding sends
 sent-kept (found.At place) d buffer = sent-from (unitAt d place .inlet) d place buffer
 sent-kept found.Nothing d buffer = refl

@@ -7,3 +7,4 @@ pub mod Frame
 pub mod Take
 pub mod Steps
 pub mod Examples
+pub mod Cases

@@ -1,18 +1,17 @@
 -- A unit hears a frame, on both. Assumes nothing.
-use Prim.Native.Nat.{ℕ, _+_, _<_, _≤_, _/_, _%_, _^_}
+use Prim.Native.Nat.{ℕ, _<_, _/_, _%_, _^_}
 use native.Mathlib.Omega.{arith}
-use mathlib.Core.Path.{_≡_, refl, sym, ap, ap₂, subst, _∙_}
+use mathlib.Core.Path.{_≡_, refl, sym, ap, subst, _∙_}
 use mathlib.Core.Logic.{_≢_}
 use mathlib.Core.Bool.{Bool, true, false, cond, _&&_}
 use mathlib.Core.List.{List, [], _∷_, _++_, map, map-append}
 use lib.Dec.{eqb, leb}
-use lib.ListN.{length, length-set, length-take, length-drop, getD, set, take, drop, take-append-drop}
+use lib.ListN.{length, length-set, length-drop, getD, set, take, drop, take-append-drop}
 use lib.Seq.{getD-set-same, getD-set-other, drop-append-le, take-append-le}
 use borrow.Author.Tests.{leb-true, leb-false}
 use Rattle.octets.specs.Octets.{two, four, part}
 use Rattle.octets.proofs.Numbers.{four-append}
-use Rattle.header.specs.declared.Link.{Link}
-use Rattle.routing.specs.Routing.{check, kindIn, classIn, numberIn, said, address}
+use Rattle.routing.specs.Routing.{check, kindIn, numberIn, address}
 use Rattle.routing.specs.declared.Target as T
 use Rattle.routing.specs.declared.Target.the-variants as target
 use Rattle.routing.specs.declared.Address as Ad
@@ -24,26 +23,22 @@ use Rattle.bus.specs.declared.Heard as H
 use Rattle.bus.specs.declared.Heard.the-variants as frame
 use Rattle.arbiter.proofs.Requests.{same-or}
 use Rattle.outlet.specs.Outlets.{capacity, queue, empty}
-use Rattle.outlet.specs.declared.Limits.{Limits}
 use Rattle.outlet.specs.declared.Ring.{Ring}
 use Rattle.queueing.specs.Hearing.{queueOf, limit, held, tooWide, busClp, fate, fateAt}
 use Rattle.queueing.specs.declared.Fate.the-variants as fates
 use Rattle.queueing.proofs.Fates.{queue-lt}
 use Rattle.store.specs.Rings.{tail, pushed}
-use Rattle.store.specs.Places.{Cell, start, outletSlot, putAt, outletCells}
+use Rattle.store.specs.Places.{start, outletSlot, putAt, outletCells}
 use Rattle.store.proofs.Rounds.{tail-lt}
 use Rattle.store.proofs.Slots.{start-inside}
 use Rattle.store.proofs.Queues.{length-cells, outlet-pushed, outlet-beside, inlet-below}
-use Rattle.shelf.specs.Sessions.{hears}
-use Rattle.shelf.specs.Shelves as S
-use Rattle.shelf.specs.declared.Found.the-variants as found
 use Rattle.shelf.specs.declared.Unit as U
 use Rattle.shelf.specs.declared.Shelf.{Shelf}
 use Rattle.line.specs.declared.Line.{Line}
 use Rattle.told.specs.Told.{hearsIn}
 use Rattle.soundness.specs.State.{soundOf}
 use Rattle.answer.specs.declared.Hearing as A
-use Rattle.answer.specs.declared.Hearing.the-variants.{Damaged, Other, Wide, Full, Clp, Queued}
+use Rattle.answer.specs.declared.Hearing.the-variants.{Other, Wide, Full, Clp, Queued}
 use Rattle.answer.specs.declared.Answer.the-variants.{Heard}
 use Rattle.admit.specs.Admission.{unitAt, withQueue, Housed}
 use Rattle.admit.proofs.Laws.{sound-housed}
@@ -55,7 +50,7 @@ use Rattle.document.specs.Counters.{entries, hearingCounts}
 use Rattle.document.specs.Shelf as D
 use Rattle.document.specs.Hearing as paper
 use Rattle.refining.proofs.Alike.{UnitAlike, Known, Alike, offBus, elsewhere}
-use Rattle.refining.proofs.Finds.{length-map, found-below}
+use Rattle.refining.proofs.Finds.{length-map}
 use Rattle.refining.proofs.Changes.{changed}
 
 -- 1. how a copy ends: lost, and the document's unit is as it was, or behind the others in its queue, which has room
@@ -67,6 +62,7 @@ pub data Ends (full : Bool) (q : ℕ) : P.Plan → A.Hearing → Type 0 where
 abbrev fated : Bool → Bool → Bool → Bool → A.Hearing
 fated mine wide full low = cond mine (cond wide Wide (cond full Full (cond low Clp Queued))) Other
 
+-- each way through the four tests ends so
 ends-so : (mine wide full low : Bool) (q : ℕ) →
     Ends full q (cond mine (hearing.planFor (cond wide fates.Wide (cond full fates.Full (cond low fates.Clp fates.Queued))) q) (Lost Other)) (fated mine wide full low)
 unfolding hearing.planFor paper.keeping
@@ -78,12 +74,14 @@ ends-so true false false false q = queued refl
 
 -- at a unit: what befalls a cell with this target, class and header
 module _ (u : U.Unit) (t : T.Target) (class header : ℕ) where
+  -- the queue of its class, and whether that is full
   abbrev own : ℕ
   own = queueOf (u .outlet .limits) class
 
   abbrev isFull : Bool
   isFull = leb (capacity (u .outlet .limits) own) (held (u .outlet) own)
 
+  -- its fate, and that its plan ends so
   abbrev befalls : A.Hearing
   befalls =
       fated (hearing.addressed u t) (tooWide (u .settings .link) header) isFull
@@ -106,12 +104,14 @@ module _ (card : Card) (memory store : List ℕ) (lines : List Line) (i : ℕ) (
       sym (length-cells store i (start (u .outlet .limits) q) (capacity (u .outlet .limits) q) (queue (u .outlet) q))
       ∙ sym (length-map offBus (outletCells store i (u .outlet .limits) q (queue (u .outlet) q))) ∙ ap length (a .queues q h)
 
+  -- the same cells are addressed to both
   addressed-alike : (t : T.Target) → Sayable t → hearing.addressed u t ≡ paper.addressed lines d t
   unfolding hearing.addressed paper.addressed
   addressed-alike (target.Unit n) s = ap (λ x. eqb (x .number) n) (a .settings)
   addressed-alike (target.Session n) s = k .hearing n s ∙ ap (λ x. hearsIn lines (x .number) n) (a .settings)
   addressed-alike target.All s = refl
 
+  -- they have the same fate on both
   befalls-alike : (t : T.Target) (class header : ℕ) → Sayable t → befalls u t class header ≡ paper.hearingOf lines d (frame.Cell t class header)
   unfolding paper.hearingOf paper.fateIn
   befalls-alike t class header s =
@@ -120,6 +120,7 @@ module _ (card : Card) (memory store : List ℕ) (lines : List Line) (i : ℕ) (
       let l = a .limits z in
       fated (addressed-alike t s z) (tooWide (a .settings z .link) header) (leb (capacity l (queueOf l class)) (n z)) (eqb (busClp header) 1 && leb (limit l (queueOf l class)) (n z))
 
+  -- so a plan ends as the document has it
   ends-alike : (t : T.Target) (class header : ℕ) → Sayable t →
       Ends (isFull u t class header) (own u t class header) (hearing.planOf u (frame.Cell t class header)) (paper.hearingOf lines d (frame.Cell t class header))
   ends-alike t class header s =
@@ -150,9 +151,11 @@ module _ (card : Card) (memory store : List ℕ) (lines : List Line) (i : ℕ) (
     abbrev longer : List D.Cell
     longer = D.queueAt d q ++ (offBus bytes ∷ [])
 
+    -- the place past the newest lies in the queue
     spot-lt : spot < capacity (u .outlet .limits) q
     spot-lt = let b = start-inside (u .outlet .limits) q (housed .limits) few in tail-lt (capacity (u .outlet .limits) q) (omega arith) ring (housed .queues .each q few) (omega arith)
 
+    -- each queue, with the copy in its own
     queues-longer : (p : ℕ) → p < 4 → map offBus (outletCells after i (u .outlet .limits) p (getD (set (u .outlet .queues) q (pushed ring)) p empty)) ≡ getD (set (d .queues) q longer) p []
     queues-longer p h =
         same-or p q
@@ -168,6 +171,7 @@ module _ (card : Card) (memory store : List ℕ) (lines : List Line) (i : ℕ) (
         ∙ ap (map offBus) (outlet-beside i (u .outlet .limits) (housed .limits) p h (queue (u .outlet) p) (housed .queues .each p h) store bytes whole (housed .inside) q spot few spot-lt ne)
         ∙ a .queues p h ∙ sym (getD-set-other (d .queues) q p longer [] ne))
 
+    -- and the unit
     unit-longer : UnitAlike after i (withQueue u q (pushed ring)) (D.withQueue d q longer)
     unit-longer =
         record {
@@ -226,6 +230,7 @@ abbrev SayableIn : Ad.Address → Type 0
 SayableIn Bad = Unit {0}
 SayableIn (To t class) = Sayable t
 
+-- a choice between two addresses
 chosen : (b : Bool) (x y : Ad.Address) → (b ≡ true → SayableIn x) → (b ≡ false → SayableIn y) → SayableIn (cond b x y)
 chosen true x y p q = p refl
 chosen false x y p q = q refl
@@ -243,6 +248,7 @@ address-sayable r =
     (λ rest. chosen (eqb (kindIn r) 2) _ _ (λ all. chosen (eqb (numberIn r) 0) _ _ (λ t. tt) (λ f. tt)) (λ f. tt))))
     (λ bad. tt)
 
+-- the header and the payload stand before parity
 four-before : (f : List ℕ) → length f ≡ 57 → four (take 56 f) 4 ≡ four f 4
 four-before f l = let n = before-parity f l in sym (four-append (take 56 f) (drop 56 f) 4 (omega arith)) ∙ ap (λ x. four x 4) (take-append-drop 56 f)
 
@@ -253,6 +259,7 @@ part-before f l =
     ∙ ap (take 48) (sym (drop-append-le 8 (take 56 f) (drop 56 f) (omega arith)))
     ∙ ap (λ x. part x 8 48) (take-append-drop 56 f)
 
+-- what is heard of a frame can be said, and the stored bytes have its header
 pub heard-says : (f : List ℕ) → length f ≡ 57 → Says (heard f) (take 56 f)
 unfolding heard
 heard-says f l = pick (eqb (length f) 57) (eqb (parity (take 56 f)) (getD f 56 0))
@@ -275,7 +282,8 @@ copy-knows card memory lines u h k = go (hearing.planOf u h)
     go (Lost f) = k
     go (Queue q) = record { looks = k .looks; hearing = k .hearing }
 
-copy-fate : (u : U.Unit) (p : P.Plan) → hearing.copyBy p u .fate ≡ hearing.fateBy p
+-- a copy has the fate of its plan
+pub copy-fate : (u : U.Unit) (p : P.Plan) → hearing.copyBy p u .fate ≡ hearing.fateBy p
 unfolding hearing.copyBy hearing.fateBy
 copy-fate u (Lost f) = refl
 copy-fate u (Queue q) = refl

@@ -3,6 +3,7 @@ pub mod Finds
 pub mod Changes
 pub mod Rows
 pub mod Hears
+pub mod Frames
 pub mod Arrives
 pub mod Takes
 pub mod Opens

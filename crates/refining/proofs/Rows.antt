@@ -284,11 +284,11 @@ module _ (rows : List C.Counters) (d : D.Shelf) (count : ℕ) (many : count ≡ 
   rose each i h = settled-row rows (frameRises count each) count i (omega arith) h (omega arith)
 
   -- nobody sends
-  pub idle-rows : (each : List ℕ) → ((k : ℕ) → getD each k 0 ≡ 0) → (d′ : D.Shelf) → d′ .history ≡ d .history → d′ .units ≡ d .units → (i : ℕ) → i < length (d .units) → RowAlike (settled rows (frameRises count each)) d′ i
+  pub idle-rows : (each : List ℕ) → ((k : ℕ) → k < length (d .units) → getD each k 0 ≡ 0) → (d′ : D.Shelf) → d′ .history ≡ d .history → d′ .units ≡ d .units → (i : ℕ) → i < length (d .units) → RowAlike (settled rows (frameRises count each)) d′ i
   unfolding tallies occurs times
   idle-rows each nought d′ told same i h =
       row-rose rows (settled rows (frameRises count each)) d d′ i [] told (ap (λ us. D.numberOf (getD us i D.blank)) same) (alike i h) (getD each i 0) (rose each i (omega arith))
-      (λ c. ap (λ n. n / 2 ^ placeOf c % 2) (nought i) ∙ agree 0 [] refl c)
+      (λ c. ap (λ n. n / 2 ^ placeOf c % 2) (nought i h) ∙ agree 0 [] refl c)
 
   -- a unit sends, all hear
   module _ (once : Different (d .units)) (place : ℕ) (inside : place < length (d .units)) (r : D.Routed) (rest : List D.Routed) where
@@ -349,26 +349,6 @@ module _ (rows : List C.Counters) (d : D.Shelf) (count : ℕ) (many : count ≡ 
         (λ f.
         let p = eqb-false i place f in
         subst (λ n. Raises n (sentEntries ++ heardEntries (d .lines) without r) (D.numberOf (D.unitAt d i))) (sym (others i (omega arith) p)) (raises-hearer i h p)))
-
-module _ (rows : List C.Counters) (d : D.Shelf) (count : ℕ) (many : count ≡ length (d .units)) (enough : count ≤ length rows) (alike : (i : ℕ) → i < length (d .units) → RowAlike rows d i) (buffer : List ℕ) where
-  -- the rows after a frame in which nobody sends
-  pub framed-idle : D.findIn (d .units) (d .granted) ≡ Nothing → (i : ℕ) → i < length (d .units) → RowAlike (settled rows (frameRises count (replicate 32 0))) (framed d buffer) i
-  unfolding sends
-  framed-idle e =
-      let s : sentIn d buffer ≡ idle d buffer = ap (λ f. sends f d buffer) e in
-      idle-rows rows d count many enough alike (replicate 32 0) nought (framed d buffer) (ap (λ x. x .happened ++ d .history) s) (ap (λ x. x .units) s)
-
-  -- and after one in which the unit in a place sends its oldest cell
-  pub framed-sent : Different (d .units) → (place : ℕ) → place < length (d .units) → (r : D.Routed) (rest : List D.Routed) →
-      D.findIn (d .units) (d .granted) ≡ At place → D.unitAt d place .inlet ≡ r ∷ rest → (each : List ℕ) →
-      let us = set (d .units) place (D.withInlet (D.unitAt d place) rest) in
-      ((k : ℕ) → k < count → (k ≡ place → ⊥) → getD each k 0 ≡ hearingRises (hearingOf (d .lines) (getD us k D.blank) (asHeard r))) →
-      getD each place 0 ≡ bitOr (hearingRises (hearingOf (d .lines) (getD us place D.blank) (asHeard r))) (sentRises (someAddressed (d .lines) us r)) →
-      (i : ℕ) → i < length (d .units) → RowAlike (settled rows (frameRises count each)) (framed d buffer) i
-  unfolding sends sendsFrom
-  framed-sent once place inside r rest found cells each others here =
-      let s : sentIn d buffer ≡ sendsFrom (r ∷ rest) d place buffer = ap (λ f. sends f d buffer) found ∙ ap (λ q. sendsFrom q d place buffer) cells in
-      sent-rows rows d count many enough alike once place inside r rest each others here (framed d buffer) (ap (λ x. x .happened ++ d .history) s) (ap (λ x. x .units) s)
 
 -- rows beyond the declared units are as they were
 pub frame-beyond : (rows : List C.Counters) (count : ℕ) (each : List ℕ) (i : ℕ) → count ≤ i → getD (settled rows (frameRises count each)) i zero ≡ getD rows i zero

@@ -3,10 +3,11 @@ use Prim.Native.Nat.{ℕ, _+_, _<_, _≤_}
 use native.Mathlib.Omega.{arith}
 use mathlib.Core.Path.{_≡_, refl, sym, ap, subst, _∙_}
 use mathlib.Core.Bool.{Bool, true, false, cond}
-use mathlib.Core.List.{List, [], _∷_}
+use mathlib.Core.List.{List, [], _∷_, _++_}
 use lib.Dec.{eqb}
-use lib.ListN.{length, length-set, getD}
-use borrow.Author.Tests.{eqb-true, ne-eqb}
+use lib.Bits.{bitOr}
+use lib.ListN.{length, length-set, getD, set}
+use borrow.Author.Tests.{eqb-true, ne-eqb, eq-eqb}
 use Rattle.card.specs.declared.Card.{Card}
 use Rattle.shelf.specs.Shelves as S
 use Rattle.shelf.specs.declared.Found as F
@@ -38,14 +39,20 @@ use Rattle.document.specs.Events.{Event, arrive, frame, hear, take, count, Said
 use Rattle.document.specs.Counters.{Counter, placeOf, counterOf, countersOf, entries, arrivalCounts, hearingCounts}
 use Rattle.document.specs.Shelf as D
 use Rattle.document.specs.Arrival as P
+use Rattle.document.specs.Frame as page
 use Rattle.document.specs.Take as T
 use Rattle.document.specs.Steps as document
 use Rattle.running.specs.Events.{World, Outcome, ended, countSaid, happens}
 use Rattle.running.specs.Keeping.{soundIn}
 use Rattle.refining.proofs.Alike.{Alike, RowAlike, WorldAlike}
-use Rattle.refining.proofs.Finds.{find-alike, found-below, declared-is}
+use Rattle.document.proofs.Fixed.{givenOf, sent-kept}
+use Rattle.told.proofs.Grown.{decide}
+use Rattle.framing.specs.Frames as framing
+use Rattle.framing.specs.Sending.{sentRises}
+use Rattle.refining.proofs.Finds.{length-map, find-alike, found-below, declared-is}
 use Rattle.refining.proofs.Hears.{hear-alike}
-use Rattle.refining.proofs.Rows.{Different, row-alike, agree-arrival, agree-hearing, heard-settings}
+use Rattle.refining.proofs.Frames.{risesFrom, risesBy, risesIn, frame-rises, frame-alike}
+use Rattle.refining.proofs.Rows.{Different, row-alike, agree-arrival, agree-hearing, heard-settings, frameRises, idle-rows, sent-rows, frame-beyond}
 use Rattle.refining.proofs.Arrives.{arrive-alike}
 use Rattle.refining.proofs.Takes.{take-alike}
 
@@ -57,6 +64,19 @@ pub record StepAlike (card : Card) (w : World) (d : D.Shelf) (o : Outcome) (s : 
   pub shelf : Alike card (o .world .shelf) (o .world .memory) (o .world .store) (s .shelf)
   pub rows : (j : ℕ) → j < length (d .units) → RowAlike (o .world .rows) (s .shelf) j
   pub beyond : (j : ℕ) → length (d .units) ≤ j → getD (o .world .rows) j zero ≡ getD (w .rows) j zero
+
+-- which counters rise at a unit that hears, and at the sender
+module _ (r : D.Routed) (rest : List D.Routed) (d : D.Shelf) (place : ℕ) where
+  abbrev us : List D.Unit
+  us = set (d .units) place (D.withInlet (D.unitAt d place) rest)
+
+  rises-hearer : (k : ℕ) → (k ≡ place → ⊥) → risesFrom (r ∷ rest) d place k ≡ hearingRises (Q.hearingOf (d .lines) (getD us k D.blank) (page.asHeard r))
+  unfolding risesFrom
+  rises-hearer k other = rw (ne-eqb k place other) refl
+
+  rises-sender : risesFrom (r ∷ rest) d place place ≡ bitOr (hearingRises (Q.hearingOf (d .lines) (getD us place D.blank) (page.asHeard r))) (sentRises (page.someAddressed (d .lines) us r))
+  unfolding risesFrom
+  rises-sender = rw (eq-eqb place place refl) refl
 
 heard-is : {x y : H.Hearing} → answer.Heard x ≡ answer.Heard y → x ≡ y
 heard-is e = cc
@@ -230,5 +250,60 @@ module _ (card : Card) (w : World) (d : D.Shelf) (a : WorldAlike card w d) where
         beyond = λ j k. took-beyond (leaving (unitAt (w .shelf) i .outlet)) i j (omega (arith, h, k));
       })
 
+  -- frame: as many units
+  sent-many : (f : F.Found) (buffer : List ℕ) → length (page.sends f d buffer .units) ≡ length (d .units)
+  sent-many f buffer = sym (length-map givenOf (page.sends f d buffer .units)) ∙ ap length (sent-kept f d buffer) ∙ length-map givenOf (d .units)
+
+  -- the rows of all units
+  frame-rows : (each buffer : List ℕ) → ((k : ℕ) → k < length (d .units) → getD each k 0 ≡ risesIn d k) →
+      (i : ℕ) → i < length (d .units) → RowAlike (settled (w .rows) (frameRises (w .shelf .count) each)) (page.framed d buffer) i
+  unfolding risesFrom risesBy page.sends page.sendsFrom
+  frame-rows each buffer rises = by-found (D.findIn (d .units) (d .granted)) refl rises
+    where
+      n : ℕ
+      n = w .shelf .count
+
+      few : n ≤ length (w .rows)
+      few = facts .rows
+
+      -- nobody sends
+      quiet : page.sentIn d buffer ≡ page.idle d buffer → ((k : ℕ) → k < length (d .units) → getD each k 0 ≡ 0) →
+          (i : ℕ) → i < length (d .units) → RowAlike (settled (w .rows) (frameRises n each)) (page.framed d buffer) i
+      quiet s nought =
+          idle-rows (w .rows) d n (a .shelf .counted) few (a .rows) each nought (page.framed d buffer) (ap (λ x. x .happened ++ d .history) s) (ap (λ x. x .units) s)
+
+      by-inlet : (place : ℕ) → D.findIn (d .units) (d .granted) ≡ found.At place → (m : List D.Routed) → D.unitAt d place .inlet ≡ m →
+          ((k : ℕ) → k < length (d .units) → getD each k 0 ≡ risesFrom m d place k) →
+          (i : ℕ) → i < length (d .units) → RowAlike (settled (w .rows) (frameRises n each)) (page.framed d buffer) i
+      by-inlet place at [] first r = quiet (ap (λ f. page.sends f d buffer) at ∙ ap (λ q. page.sendsFrom q d place buffer) first) r
+      by-inlet place at (c ∷ rest) first r =
+          let here = found-below card (w .shelf) (w .memory) (w .store) d (a .shelf) (d .granted) place (find-alike card (w .shelf) (w .memory) (w .store) d (a .shelf) (d .granted) ∙ at) in
+          let s : page.sentIn d buffer ≡ page.sendsFrom (c ∷ rest) d place buffer = ap (λ f. page.sends f d buffer) at ∙ ap (λ q. page.sendsFrom q d place buffer) first in
+          sent-rows (w .rows) d n (a .shelf .counted) few (a .rows) once place here c rest each
+          (λ k low other. r k (omega (arith, low, a .shelf .counted)) ∙ rises-hearer c rest d place k other)
+          (r place here ∙ rises-sender c rest d place)
+          (page.framed d buffer) (ap (λ x. x .happened ++ d .history) s) (ap (λ x. x .units) s)
+
+      by-found : (f : F.Found) → D.findIn (d .units) (d .granted) ≡ f → ((k : ℕ) → k < length (d .units) → getD each k 0 ≡ risesBy f d k) →
+          (i : ℕ) → i < length (d .units) → RowAlike (settled (w .rows) (frameRises n each)) (page.framed d buffer) i
+      by-found found.Nothing at r = quiet (ap (λ f. page.sends f d buffer) at) r
+      by-found (found.At place) at r = by-inlet place at (D.unitAt d place .inlet) refl r
+
   pub frame-step : (buffer : List ℕ) → StepAlike card w d (happens card w (frame buffer)) (document.happensTo d (frame buffer))
-  frame-step buffer = ?
+  unfolding happens document.happensTo framing.checked settledTo
+  frame-step buffer =
+      rw (a .sound)
+      (decide (eqb (length buffer) 57)
+      (λ t.
+      rw t
+      (let x = frame-alike card (w .shelf) (w .memory) (w .store) d (length (w .rows)) (a .sound) (a .shelf) buffer in
+      let each = framing.listenedOf (w .shelf) (w .store) .each in
+      record {
+        said = ap answers (x .0);
+        bytes = x .1;
+        many = sent-many (D.findIn (d .units) (d .granted)) buffer;
+        shelf = x .2;
+        rows = frame-rows each buffer (frame-rises card (w .shelf) (w .memory) (w .store) d (length (w .rows)) (a .sound) (a .shelf));
+        beyond = λ j k. frame-beyond (w .rows) (w .shelf .count) each j (omega (arith, k, a .shelf .counted));
+      }))
+      (λ t. rw t (as-was 10 buffer)))

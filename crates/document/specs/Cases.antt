@@ -1,0 +1,169 @@
+-- Cases of document 01 on the document's shelf, to be computed: scripts of events, and what each says. Assumes nothing.
+use Prim.Native.Nat.{ℕ, _+_, _*_}
+use mathlib.Core.Bool.{Bool, true, false}
+use mathlib.Core.List.{List, [], _∷_, _++_, map}
+use lib.ListN.{replicate, getD, set}
+use Rattle.octets.specs.Octets.{be4, four}
+use Rattle.header.specs.Fields.{fields, word}
+use Rattle.header.specs.Check.{check}
+use Rattle.header.specs.declared.Link.{Link}
+use Rattle.header.specs.declared.Link.the-variants.{Uni, Nni}
+use Rattle.routing.specs.Routing.{routing, check as routingCheck}
+use Rattle.routing.specs.declared.Target.{Target}
+use Rattle.routing.specs.declared.Target.the-variants as target
+use Rattle.bus.specs.Frame.{cell, sealed}
+use Rattle.arbiter.specs.Arbitration.{nobody}
+use Rattle.shelf.specs.declared.Settings.{Settings}
+use Rattle.line.specs.declared.Line.{Line}
+use Rattle.line.specs.declared.Line.the-variants.{Bus, Unit as L·Unit, Vp, Drop, Page, Vc, Mc}
+use Rattle.answer.specs.declared.Arrival as A
+use Rattle.answer.specs.declared.Arrival.the-variants as arrival
+use Rattle.answer.specs.declared.Hearing as H
+use Rattle.answer.specs.declared.Hearing.the-variants as hearing
+use Rattle.answer.specs.declared.Answer.the-variants.{Refused, Arrived, Framed, Heard, Taken, Empty}
+use Rattle.document.specs.Events.{Event, arrive, frame, hear, take, count, Said, answers, counts, Back}
+use Rattle.document.specs.Shelf.{Cell, Unit, Shelf, opened, unitAt, withQueue, after}
+use Rattle.document.specs.Steps.{gives}
+use Rattle.document.specs.Examples.{one, four as limits, uni, lent}
+
+abbrev pub nni : ℕ → ℕ → ℕ → Settings
+nni number top priority = record { number = number; link = Nni; top = top; priority = priority }
+
+-- bus 16 / unit 0 uni 5 2 one 0 0 2 1 / unit 3 uni 0 1 four 40 3 2 1 / unit 7 nni 300 3 four 1 1 88 0 / vp 0 1 u3 1 9 / drop 0 2 / page 0 5 33 / vc 0 5 33 u3 2 9 40
+-- vp 0 3 m17 0 300 / vp 0 4 b 3 7 / vp 7 261 u9 3 1 / mc 3 17 / mc 7 17
+unfoldable pub table : List Line
+table =
+    Mc 7 17 ∷
+    Mc 3 17 ∷
+    Vp 7 261 (target.Unit 9) 3 1 ∷
+    Vp 0 4 target.All 3 7 ∷
+    Vp 0 3 (target.Session 17) 0 300 ∷
+    Vc 0 5 33 (target.Unit 3) 2 9 40 ∷
+    Page 0 5 33 ∷
+    Drop 0 2 ∷
+    Vp 0 1 (target.Unit 3) 1 9 ∷
+    L·Unit (nni 7 300 3) (limits 1 1 88 false) ∷
+    L·Unit (uni 3 0 1) (limits 40 3 2 true) ∷
+    L·Unit (uni 0 5 2) (one 2 true) ∷
+    Bus 16 ∷
+    []
+
+-- a cell with a right check; a frame with a sound parity
+abbrev pub good : Link → ℕ → ℕ → List ℕ
+good link vpi vci =
+    let header = word link (record { gfc = 0; vpi = vpi; vci = vci; pt = 0; clp = 0 }) in
+    be4 header ++ (check header ∷ replicate 48 7)
+
+abbrev pub sound : ℕ → ℕ → List ℕ
+sound r header = sealed (cell r 0 header (replicate 48 7))
+
+-- what a script says
+unfoldable pub says : Shelf → List Event → List Said
+says shelf es = map (λ b. b .said) (gives shelf es)
+
+abbrev pub arrives : List A.Arrival → List Said
+arrives fates = map (λ fate. answers (Arrived fate)) fates
+
+abbrev pub hears : List H.Hearing → List Said
+hears fates = map (λ fate. answers (Heard fate)) fates
+
+-- A. arrivals at unit 0: a wrong check; VPI 0 with VCI 0; dropped; no line for the VCI; above the page's top; above the unit's top; no line for the VPI; by `vp`; by `vc`;
+-- the top nibble of a UNI header is no VPI; "cell 4 queued, cell 5 `inletfull`"
+abbrev pub arrivals : List Event
+arrivals =
+    arrive 0 (be4 0x00500210 ++ (0x2c ∷ replicate 48 7)) ∷
+    arrive 0 (good Uni 0 0) ∷
+    arrive 0 (good Uni 2 9) ∷
+    arrive 0 (good Uni 5 32) ∷
+    arrive 0 (good Uni 5 34) ∷
+    arrive 0 (good Uni 6 1) ∷
+    arrive 0 (good Uni 0 7) ∷
+    arrive 0 (good Uni 1 77) ∷
+    arrive 0 (good Uni 5 33) ∷
+    arrive 0 (be4 0x10500210 ++ (0x4c ∷ replicate 48 7)) ∷
+    arrive 0 (good Uni 4 0) ∷
+    arrive 0 (good Uni 4 0) ∷
+    []
+
+abbrev pub arrivals-say : List Said
+arrivals-say =
+    arrives
+    (arrival.Hec ∷ arrival.Ignored ∷ arrival.Ignored ∷ arrival.Misrouted ∷ arrival.Misrouted ∷ arrival.Misrouted ∷ arrival.Misrouted
+    ∷ arrival.Queued ∷ arrival.Queued ∷ arrival.Queued ∷ arrival.Queued ∷ arrival.Inletfull ∷ [])
+
+-- B. refusals: Unit before Length, Length also of a frame that would be idle and of a take that would be empty
+abbrev pub refusals : List Event
+refusals = arrive 4 [] ∷ arrive 0 [] ∷ frame [] ∷ hear 9 [] ∷ hear 0 (lent 56) ∷ take 0 [] ∷ take 300 [] ∷ count 4 ∷ []
+
+abbrev pub refusals-say : List Said
+refusals-say = map (λ n. answers (Refused n)) (9 ∷ 10 ∷ 10 ∷ 9 ∷ 10 ∷ 10 ∷ 9 ∷ 9 ∷ [])
+
+-- C. frames: 7 has priority 3 and is granted before 0, and is granted once, for a granted cell does not ask again; its cell is for unit 9, which nobody declared; then two
+-- of unit 0: to the session of 3 and 7, where VPI 300 is too wide for the UNI, and to all three
+abbrev pub frames : List Event
+frames =
+    arrive 0 (good Uni 3 1) ∷ arrive 0 (good Uni 4 1) ∷ arrive 7 (good Nni 261 1) ∷
+    frame (lent 57) ∷ frame (lent 57) ∷ frame (lent 57) ∷ frame (lent 57) ∷ frame (lent 57) ∷ []
+
+abbrev pub frames-say : List Said
+frames-say =
+    arrives (arrival.Queued ∷ arrival.Queued ∷ arrival.Queued ∷ []) ++
+    map (λ a. answers a) (Framed 0 nobody 7 0 ∷ Framed 1 7 0 0 ∷ Framed 2 0 0 1 ∷ Framed 3 0 nobody 3 ∷ Framed 4 nobody nobody 0 ∷ [])
+
+-- D. frames handed in: 57 zero bytes are a sound frame to unit 0, at 3 another's; bad parity; bad check; kind 3; unicast above 31; VPI 256 at a UNI
+abbrev pub heard : List Event
+heard =
+    hear 0 (replicate 57 0) ∷
+    hear 3 (replicate 57 0) ∷
+    hear 0 (set (replicate 57 0) 56 1) ∷
+    hear 0 (sound 1 0) ∷
+    hear 0 (sound (0xc00 * 16 + routingCheck 0xc00) 0) ∷
+    hear 0 (sound (routing (target.Unit 32) 0) 0) ∷
+    hear 0 (sound (routing (target.Unit 0) 0) 0x10000000) ∷
+    hear 7 (sound (routing (target.Unit 7) 0) 0x10000000) ∷
+    hear 3 (sound (routing (target.Session 17) 0) 0) ∷
+    hear 0 (sound (routing (target.Session 17) 0) 0) ∷
+    []
+
+abbrev pub heard-say : List Said
+heard-say =
+    hears
+    (hearing.Queued ∷ hearing.Other ∷ hearing.Damaged ∷ hearing.Damaged ∷ hearing.Damaged ∷ hearing.Damaged ∷ hearing.Wide ∷ hearing.Queued ∷ hearing.Queued ∷ hearing.Other ∷ [])
+
+-- E. a queue with n cells already; CLP 1 below and at the limit, and at capacity: "Mode `one` ..: cell 123 queued with CLP 0, cell 124 `full`", class 0 holds 2
+abbrev pub filled : ℕ → ℕ → ℕ → Shelf → Shelf
+filled place q n d = after d place (withQueue (unitAt d place) q (replicate n (record { header = 0; payload = [] }))) []
+
+abbrev pub to : ℕ → ℕ → ℕ → Event
+to unit class header = hear unit (sound (routing (target.Unit unit) class) header)
+
+-- F. 004's figures 15 and 16: PT of the cells that leave; in figure 16 a class 0 cell leaves before them, marked too
+unfoldable pub pts : Shelf → ℕ → ℕ → List ℕ
+pts shelf unit n = map (λ b. fields Uni (four (b .bytes) 0) .pt) (gives shelf (replicate n (take unit (lent 53))))
+
+-- G. bus 32 / unit 0 uni 1 1 .. / unit 16 uni 1 1 .. / unit 17 uni 1 1 .., each with vp .. 1 b 0 0
+unfoldable pub wide : List Line
+wide =
+    Vp 17 1 target.All 0 0 ∷
+    Vp 16 1 target.All 0 0 ∷
+    Vp 0 1 target.All 0 0 ∷
+    L·Unit (uni 17 1 1) (one 100 false) ∷
+    L·Unit (uni 16 1 1) (one 100 false) ∷
+    L·Unit (uni 0 1 1) (one 100 false) ∷
+    Bus 32 ∷
+    []
+
+-- in even frames 0 asks, in odd ones 16 and 17, in cyclic order after the last one granted; what was asked stands
+abbrev pub turns : List Event
+turns =
+    arrive 16 (good Uni 1 1) ∷ arrive 17 (good Uni 1 1) ∷ frame (lent 57) ∷ arrive 0 (good Uni 1 1) ∷
+    frame (lent 57) ∷ frame (lent 57) ∷ frame (lent 57) ∷ frame (lent 57) ∷ []
+
+abbrev pub turns-say : List Said
+turns-say =
+    arrives (arrival.Queued ∷ arrival.Queued ∷ []) ++
+    (answers (Framed 0 nobody nobody 0) ∷ answers (Arrived arrival.Queued) ∷ answers (Framed 1 nobody 16 0) ∷ answers (Framed 2 16 17 3) ∷ answers (Framed 3 17 0 3) ∷ answers (Framed 4 0 nobody 3) ∷ [])
+
+-- "modulo 65,536"
+abbrev pub late : Shelf → Shelf
+late d = record { lines = d .lines; bus = d .bus; units = d .units; arbiter = d .arbiter; granted = d .granted; frame = 65535; history = d .history }
