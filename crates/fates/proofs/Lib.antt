@@ -1,2 +1,4 @@
 pub mod Isolated
 pub mod Fated
+pub mod Loads
+pub mod Holding

@@ -1,2 +1,4 @@
 pub mod Isolation
 pub mod Fates
+pub mod Loaded
+pub mod Held
