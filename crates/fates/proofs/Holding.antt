@@ -202,7 +202,7 @@ module _ (d : Shelf) (fours : (j : ℕ) → length (unitAt d j .queues) ≡ 4) w
         let m = length-set (d .units) place (withInlet (unitAt d place) rest) in
         getD-any (map f left) j blank (f blank) (omega arith) ∙ List·getD-map f left j blank
 
-  hears-all : (buffer : List ℕ) (place : ℕ) (r : Routed) (rest : List Routed) → length buffer ≡ 57 → findIn (d .units) (d .granted) ≡ found.At place →
+  pub hears-all : (buffer : List ℕ) (place : ℕ) (r : Routed) (rest : List Routed) → length buffer ≡ 57 → findIn (d .units) (d .granted) ≡ found.At place →
       unitAt d place .inlet ≡ r ∷ rest → (j : ℕ) → j < length (d .units) →
       CopyHeld (d .lines) (unitAt d j) (asHeard r) (r .cell .payload) (unitAfter d (frame buffer) j)
       × (j ≢ place → unitAfter d (frame buffer) j .inlet ≡ unitAt d j .inlet)

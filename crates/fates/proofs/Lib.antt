@@ -2,3 +2,4 @@ pub mod Isolated
 pub mod Fated
 pub mod Loads
 pub mod Holding
+pub mod Going

@@ -2,3 +2,4 @@ pub mod Isolation
 pub mod Fates
 pub mod Loaded
 pub mod Held
+pub mod Frames
