@@ -45,16 +45,16 @@ both-true : (a b : Bool) → (a && b) ≡ true → (a ≡ true) × (b ≡ true)
 both-true true b e = (refl, e)
 both-true false b e = let z : _≡_ {A = ℕ} 0 1 = cc in absurd (omega arith)
 
-either-true : (a b : Bool) → (a || b) ≡ true → (a ≡ true) ⊎ (b ≡ true)
+pub either-true : (a b : Bool) → (a || b) ≡ true → (a ≡ true) ⊎ (b ≡ true)
 either-true true b e = inl refl
 either-true false b e = inr e
 
-right-true : (a b : Bool) → b ≡ true → (a || b) ≡ true
+pub right-true : (a b : Bool) → b ≡ true → (a || b) ≡ true
 right-true true b e = refl
 right-true false b e = e
 
 -- a test that a fact contradicts is false
-untrue : (b : Bool) → (b ≡ true → ⊥) → b ≡ false
+pub untrue : (b : Bool) → (b ≡ true → ⊥) → b ≡ false
 untrue true f = absurd (f refl)
 untrue false f = refl
 

@@ -22,7 +22,7 @@ use Rattle.admit.specs.Admission.{unitAt}
 use Rattle.answer.specs.declared.Answer.the-variants.{Framed}
 use Rattle.document.specs.Events.{frame, answers}
 use Rattle.document.specs.Shelf as D
-use Rattle.document.specs.Frame.{sendsFrom, sends, sentIn, framed, framedAnswer}
+use Rattle.document.specs.Frame.{frameOf, sendsFrom, sends, sentIn, framed, framedAnswer}
 use Rattle.document.specs.Steps.{step, happensTo}
 use Rattle.running.specs.Events.{World, happens}
 use Rattle.refining.proofs.Alike.{WorldAlike, onBus}
@@ -51,7 +51,7 @@ module _ (card : Card) (w : World) (d : D.Shelf) (a : WorldAlike card w d) where
       ∙ sym (length-cells (w .store) i 123 4 (unitAt (w .shelf) i .inlet)) ∙ ap length (a .shelf .units i h .inlet) ∙ length-map onBus (D.unitAt d i .inlet)
 
   -- "an open grant at a unit without a cell" is no sound state
-  grant-held : (i : ℕ) → i < length (d .units) → D.numberOf (D.unitAt d i) ≡ d .granted → 1 ≤ length (D.unitAt d i .inlet)
+  pub grant-held : (i : ℕ) → i < length (d .units) → D.numberOf (D.unitAt d i) ≡ d .granted → 1 ≤ length (D.unitAt d i .inlet)
   grant-held i h e =
       let g = facts .units i (omega (arith, h, a .shelf .many)) .grant (number-is i h ∙ e ∙ sym (a .shelf .granted)) in
       omega (arith, g, waiting-is i h)
@@ -90,25 +90,44 @@ module _ (card : Card) (w : World) (d : D.Shelf) (a : WorldAlike card w d) where
       record { place = o .0; declared = at .0; named = at .1; cell = grant-held (o .0) (at .0) (at .1) }
 
   -- the cell that is sent
-  pub sends-oldest : (d .granted ≡ nobody → ⊥) → (buffer : List ℕ) → length buffer ≡ 57 → SendsOldest d buffer
-  unfolding sends sendsFrom
-  sends-oldest some buffer whole =
-      let o = open-grant some in
-      let at = found-at (d .units) (d .granted) (o .0) (o .1) in
-      go (o .0) (o .1) (at .0) (at .1) (D.unitAt d (o .0) .inlet) refl
+  pub has-cell : (i : ℕ) → D.findIn (d .units) (d .granted) ≡ found.At i → (r : D.Routed) × (rest : List D.Routed) × (D.unitAt d i .inlet ≡ r ∷ rest)
+  has-cell i there = go (D.unitAt d i .inlet) refl
     where
-      go : (i : ℕ) → D.findIn (d .units) (d .granted) ≡ found.At i → i < length (d .units) → D.numberOf (D.unitAt d i) ≡ d .granted → (l : List D.Routed) → D.unitAt d i .inlet ≡ l → SendsOldest d buffer
-      go i there h named [] e = absurd (omega (arith, grant-held i h named, ap length e))
-      go i there h named (r ∷ rest) e =
-          record {
-            sender = record { place = i; declared = h; named = named; cell = grant-held i h named };
-            oldest = r;
-            others = rest;
-            waiting = e;
-            says = ap (λ s. s .said) (let-in d buffer whole);
-            bytes = ap (λ s. s .bytes) (let-in d buffer whole) ∙ rw (there, e);
-            gone = hears-all d (four-queues card w d a) buffer i r rest whole there e i h .2 refl;
-          }
+      go : (l : List D.Routed) → D.unitAt d i .inlet ≡ l → (r : D.Routed) × (rest : List D.Routed) × (D.unitAt d i .inlet ≡ r ∷ rest)
+      go [] e = let at = found-at (d .units) (d .granted) i there in absurd (omega (arith, grant-held i (at .0) (at .1), ap length e))
+      go (r ∷ rest) e = (r, rest, e)
+
+  module _ (buffer : List ℕ) (whole : length buffer ≡ 57) (i : ℕ) (there : D.findIn (d .units) (d .granted) ≡ found.At i) (r : D.Routed) (rest : List D.Routed) (e : D.unitAt d i .inlet ≡ r ∷ rest) where
+    -- what is left when that cell has been on the bus
+    pub sent-is : sentIn d buffer ≡ sendsFrom (r ∷ rest) d i buffer
+    unfolding sends
+    sent-is = ap (λ f. sends f d buffer) there ∙ ap (λ l. sendsFrom l d i buffer) e
+
+    pub sent-bytes : happensTo d (frame buffer) .bytes ≡ frameOf r
+    unfolding sendsFrom
+    sent-bytes = ap (λ s. s .bytes) (let-in d buffer whole) ∙ ap (λ s. s .bytes) sent-is
+
+    abbrev pub sent-at : SendsOldest d buffer
+    sent-at =
+        record {
+          sender =
+              record {
+                place = i;
+                declared = found-at (d .units) (d .granted) i there .0;
+                named = found-at (d .units) (d .granted) i there .1;
+                cell = grant-held i (found-at (d .units) (d .granted) i there .0) (found-at (d .units) (d .granted) i there .1);
+              };
+          oldest = r;
+          others = rest;
+          waiting = e;
+          says = ap (λ s. s .said) (let-in d buffer whole);
+          bytes = sent-bytes;
+          gone = hears-all d (four-queues card w d a) buffer i r rest whole there e i (found-at (d .units) (d .granted) i there .0) .2 refl;
+        }
+
+  sends-oldest : (d .granted ≡ nobody → ⊥) → (buffer : List ℕ) → length buffer ≡ 57 → SendsOldest d buffer
+  sends-oldest some buffer whole =
+      let o = open-grant some in let c = has-cell (o .0) (o .1) in sent-at buffer whole (o .0) (o .1) (c .0) (c .1) (c .2)
 
   idles : d .granted ≡ nobody → (buffer : List ℕ) → length buffer ≡ 57 → Idle d buffer
   unfolding sends

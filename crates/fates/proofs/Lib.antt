@@ -3,3 +3,4 @@ pub mod Fated
 pub mod Loads
 pub mod Holding
 pub mod Going
+pub mod Cleaned

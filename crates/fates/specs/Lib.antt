@@ -3,3 +3,4 @@ pub mod Fates
 pub mod Loaded
 pub mod Held
 pub mod Frames
+pub mod Clean
