@@ -209,7 +209,7 @@ module _ (card : Card) (w : World) (d : Shelf) (a : WorldAlike card w d) (buffer
 pub clean-table-clean-bus : CleanTableCleanBus
 clean-table-clean-bus =
     from-load (λ d. (d .granted ≡ nobody → ⊥) → (buffer : List ℕ) → length buffer ≡ 57 → CleanFrame d buffer)
-    (λ card w d a some buffer whole.
+    (λ card w d a full some buffer whole.
     let o = open-grant card w d a some in
     let c = has-cell card w d a (o .0) (o .1) in
     clean-frame card w d a buffer whole (o .0) (o .1) (c .0) (c .1) (c .2))

@@ -234,6 +234,6 @@ module _ (d : Shelf) (fours : (j : ℕ) → length (unitAt d j .queues) ≡ 4) w
 pub held-means-held : HeldMeansHeld
 held-means-held =
     from-load Holds
-    (λ card w d a.
+    (λ card w d a full.
     let fours = four-queues card w d a in
     record { arrived = arrives d fours; heard-one = hears-one d fours; heard-all = hears-all d fours })

@@ -2,17 +2,27 @@
 use Prim.Native.Nat.{ℕ, suc, _+_, _-_, _<_, _≤_}
 use native.Mathlib.Omega.{arith}
 use mathlib.Core.Path.{_≡_, refl, sym, ap, subst, _∙_}
+use mathlib.Core.Bool.{Bool, true, false, cond}
 use mathlib.Core.List.{List, [], _∷_, map}
 use lib.Dec.{eqb}
-use lib.ListN.{length, getD, List·getD-eq-default, List·getD-map}
+use lib.ListN.{length, getD, replicate, List·getD-eq-default, List·getD-map}
 use borrow.Author.Tests.{eqb-true}
 use Rattle.card.specs.declared.Card.{Card}
 use Rattle.shelf.specs.Shelves.{placeFrom}
+use Rattle.shelf.specs.declared.Found as F
 use Rattle.shelf.specs.declared.Found.the-variants as found
+use Rattle.arbiter.specs.Arbitration.{renewedFrom}
+use Rattle.arbiter.proofs.Grants.{granted-length}
+use Rattle.queueing.specs.declared.Leaving as L
+use Rattle.queueing.specs.declared.Leaving.the-variants as leaves
 use Rattle.store.proofs.Slots.{by-lt}
 use Rattle.told.proofs.Grown.{decide}
 use Rattle.document.specs.Events.{Event, arrive, frame, hear, take, count}
 use Rattle.document.specs.Shelf as D
+use Rattle.document.specs.Arrival.{arrived}
+use Rattle.document.specs.Hearing.{handedIn}
+use Rattle.document.specs.Frame as page
+use Rattle.document.specs.Take as T
 use Rattle.document.specs.Steps as document
 use Rattle.running.specs.Events.{World, happens}
 use Rattle.running.specs.Keeping.{run, loaded}
@@ -41,11 +51,62 @@ unfolding run document.becomes
 run-alike card w d a [] = a
 run-alike card w d a (e ∷ es) = run-alike card (happens card w e .world) (document.happensTo d e .shelf) (then-alike card w d a e) es
 
+-- there are 32 requests, for ever
+module _ (P : document.Step → Type 0) where
+  at-unit : (f : F.Found) (right : Bool) (inside outside : ℕ → document.Step) → ((place : ℕ) → P (inside place)) → ((number : ℕ) → P (outside number)) → P (document.admitted f right inside outside)
+  unfolding document.admitted
+  at-unit (found.At place) true inside outside h k = h place
+  at-unit (found.At place) false inside outside h k = k 10
+  at-unit found.Nothing right inside outside h k = k 9
+
+  either-way : (b : Bool) (x y : document.Step) → P x → P y → P (cond b x y)
+  either-way true x y p q = p
+  either-way false x y p q = q
+
+abbrev pub Full : D.Shelf → Type 0
+Full d = length (d .arbiter .asks) ≡ 32
+
+renewed-many : (bus at : ℕ) (now : List ℕ) (n : ℕ) (asks : List ℕ) → length (renewedFrom bus at now n asks) ≡ length asks
+unfolding renewedFrom
+renewed-many bus at now n [] = refl
+renewed-many bus at now n (a ∷ asks) = let h = renewed-many bus at now (suc n) asks in omega arith
+
+took-from : (cells : List D.Cell) (d : D.Shelf) (place q : ℕ) (buffer : List ℕ) → T.takesFrom cells d place q buffer .shelf .arbiter ≡ d .arbiter
+unfolding T.takesFrom
+took-from [] d place q buffer = refl
+took-from (c ∷ cells) d place q buffer = refl
+
+took : (l : L.Leaving) (d : D.Shelf) (place : ℕ) (buffer : List ℕ) → T.takesBy l d place buffer .shelf .arbiter ≡ d .arbiter
+unfolding T.takesBy
+took (leaves.Queue q) d place buffer = took-from (D.queueAt (D.unitAt d place) q) d place q buffer
+took leaves.Empty d place buffer = refl
+
+full-kept : (d : D.Shelf) (e : Event) → Full d → Full (document.happensTo d e .shelf)
+unfolding document.happensTo arrived handedIn
+full-kept d (arrive unit c) full = at-unit (λ s. Full (s .shelf)) (D.findIn (d .units) unit) (eqb (length c) 53) _ _ (λ place. full) (λ number. full)
+full-kept d (frame buffer) full =
+    let asks = page.requests d .asks in
+    either-way (λ s. Full (s .shelf)) (eqb (length buffer) 57) _ _
+    (granted-length (d .arbiter .last) asks .1
+    ∙ renewed-many (d .bus) (d .frame) (page.askingOf (d .granted) (replicate 32 0) (d .units)) 0 (d .arbiter .asks) ∙ full)
+    full
+full-kept d (hear unit f) full = at-unit (λ s. Full (s .shelf)) (D.findIn (d .units) unit) (eqb (length f) 57) _ _ (λ place. full) (λ number. full)
+full-kept d (take unit buffer) full =
+    at-unit (λ s. Full (s .shelf)) (D.findIn (d .units) unit) (eqb (length buffer) 53) _ _
+    (λ place. ap (λ a. length (a .asks)) (took (T.leaving (D.unitAt d place)) d place buffer) ∙ full) (λ number. full)
+full-kept d (count unit) full = at-unit (λ s. Full (s .shelf)) (D.findIn (d .units) unit) (eqb 0 0) _ _ (λ place. full) (λ number. full)
+
+full-stays : (d : D.Shelf) (es : List Event) → Full d → Full (document.becomes d es)
+unfolding document.becomes
+full-stays d [] full = full
+full-stays d (e ∷ es) full = full-stays (document.happensTo d e .shelf) es (full-kept d e full)
+
 -- what follows from being alike holds from a good load on
-pub from-load : (P : D.Shelf → Type 0) → ((card : Card) (w : World) (d : D.Shelf) → WorldAlike card w d → P d) → FromLoad P
+pub from-load : (P : D.Shelf → Type 0) → ((card : Card) (w : World) (d : D.Shelf) → WorldAlike card w d → Full d → P d) → FromLoad P
 from-load P follows card text memory store rows told good es =
     follows card (run card (loaded card text memory store rows) es) (document.becomes (D.opened told) es)
     (run-alike card (loaded card text memory store rows) (D.opened told) (opened-alike card text memory store rows told good) es)
+    (full-stays (D.opened told) es refl)
 
 -- a unit that is found stands in its place, which there is
 placed : (k : ℕ) (ns : List ℕ) (n i : ℕ) → placeFrom k ns n ≡ found.At i → (k ≤ i) × (i < k + length ns) × (getD ns (i - k) 0 ≡ n)

@@ -2,9 +2,11 @@
 use Prim.Native.Nat.{ℕ, _<_, _≤_}
 use mathlib.Core.Path.{_≡_}
 use mathlib.Core.Logic.{_↔_}
+use mathlib.Core.Bool.{true}
 use mathlib.Core.List.{List, _∷_}
+use lib.Dec.{eqb}
 use lib.ListN.{length, getD}
-use Rattle.arbiter.specs.Arbitration.{nobody, cyclic, lastAt, Asks, FirstOf}
+use Rattle.arbiter.specs.Arbitration.{nobody, besides, due, cyclic, lastAt, Asks, FirstOf}
 use Rattle.answer.specs.declared.Answer.the-variants.{Framed}
 use Rattle.document.specs.Events.{frame, answers}
 use Rattle.document.specs.Shelf.{Routed, Shelf, numberOf, unitAt}
@@ -34,6 +36,9 @@ pub record Waits (d : Shelf) (number : ℕ) : Type 0 where
 -- "Then the grant: of the highest priority asking (3 is highest), the first unit in cyclic order after the last unit granted at each of the three
 -- priorities, its own kept for each; before any grant, from unit 0."
 pub record GrantedInTurn (d : Shelf) : Type 0 where
+  pub place : ℕ
+  pub declared : place < length (d .units)
+  pub named : numberOf (unitAt d place) ≡ grantedNow d
   pub highest : (n : ℕ) → Asks (asksOf d) n → getD (asksOf d) n 0 ≤ getD (asksOf d) (grantedNow d) 0
   pub first :
       FirstOf (asksOf d) (getD (asksOf d) (grantedNow d) 0) (cyclic (lastAt (d .arbiter .last) (getD (asksOf d) (grantedNow d) 0))) (grantedNow d)
@@ -55,6 +60,9 @@ pub record Idle (d : Shelf) (buffer : List ℕ) : Type 0 where
   pub units : afterFrame d buffer .units ≡ d .units
 
 pub record GoesOn (d : Shelf) : Type 0 where
+  -- "a unit asks if it has a cell besides one already granted", where its request is renewed in this frame
+  pub asks : (i : ℕ) → i < length (d .units) → due (d .bus) (d .frame) (numberOf (unitAt d i)) ≡ true →
+      1 ≤ besides (length (unitAt d i .inlet)) (eqb (numberOf (unitAt d i)) (d .granted)) → Asks (asksOf d) (numberOf (unitAt d i))
   -- one is granted exactly if one asks, and in its turn
   pub granted : (grantedNow d ≡ nobody → ⊥) ↔ ((n : ℕ) × Asks (asksOf d) n)
   pub in-turn : (grantedNow d ≡ nobody → ⊥) → GrantedInTurn d
