@@ -24,9 +24,9 @@ use Rattle.queueing.proofs.Fates.{wide-iff}
 use Rattle.shelf.specs.declared.Found.the-variants.{At}
 use Rattle.line.specs.declared.Line.{Line}
 use Rattle.line.specs.declared.Line.the-variants.{Bus, Unit as L·Unit, Vp, Drop, Page, Vc, Mc}
-use Rattle.told.specs.Told.{hearsBy, hearsIn}
+use Rattle.told.specs.Told.{only, either, hearsBy, hearsIn}
 use Rattle.told.proofs.Grown.{decide}
-use Rattle.promise.specs.Served.{Serving, by-vp, by-drop, by-vc, served}
+use Rattle.promise.specs.Served.{Serving, by-vp, by-drop, by-vc, serves, served}
 use Rattle.answer.specs.declared.Arrival as A
 use Rattle.answer.specs.declared.Arrival.the-variants as arrival
 use Rattle.answer.specs.declared.Hearing as Q
@@ -38,7 +38,7 @@ use Rattle.document.specs.Shelf.{Unit as D·Unit, numberOf, unitAt}
 use Rattle.document.specs.Arrival.{Way, goes, lost, routed, wayBy, wayFor, wayOf, arrivalBy, arrivalOf, arrived}
 use Rattle.document.specs.Hearing.{addressed, fateIn, hearingOf, handedIn}
 use Rattle.document.specs.Steps.{admitted, happensTo}
-use Rattle.fates.specs.Fates.{headerAt, RightCheck, Zeros, lineFor, Routes, Goes, ArrivalIs, Has, Addressed, SoundWith, Fits, room, limitOf, heldOf, HearingIs, ArrivalFateIff, HearingFateIff, Tells, FateCounted, FateIff}
+use Rattle.fates.specs.Fates.{headerAt, RightCheck, Zeros, lineFor, Routes, Goes, ArrivalIs, Has, LineIs, Addressed, SoundWith, Fits, room, limitOf, heldOf, HearingIs, ArrivalFateIff, HearingFateIff, Tells, FateCounted, FateIff}
 
 -- two tests in one, as facts
 both-true : (a b : Bool) → (a && b) ≡ true → (a ≡ true) × (b ≡ true)
@@ -294,5 +294,63 @@ fate-counted shelf unit place there = (
       },
 )
 
+-- 4. the line that serves a cell is in the table
+module _ (u v w : ℕ) where
+  own : (a b : ℕ) → (eqb u a && eqb v b) ≡ true → (a ≡ u) × (b ≡ v)
+  own a b e = let t = both-true (eqb u a) (eqb v b) e in (sym (eqb-true u a (t .0)), sym (eqb-true v b (t .1)))
+
+  of-only : {X : Type 0} (b : Bool) (x y : X) → only b x ≡ some y → (b ≡ true) × (x ≡ y)
+  of-only true x y e = (refl, cc)
+  of-only false x y e = let z : _≡_ {A = ℕ} 0 1 = cc in absurd (omega arith)
+
+  first-line : (l : Line) (lines : List Line) (s : Serving) → serves l u v w ≡ some s → LineIs (l ∷ lines) u v w (some s)
+  unfolding serves
+  first-line (Bus bus) lines s e = let z : _≡_ {A = ℕ} 0 1 = cc in absurd (omega arith)
+  first-line (L·Unit settings limits) lines s e = let z : _≡_ {A = ℕ} 0 1 = cc in absurd (omega arith)
+  first-line (Page a b top) lines s e = let z : _≡_ {A = ℕ} 0 1 = cc in absurd (omega arith)
+  first-line (Mc a session) lines s e = let z : _≡_ {A = ℕ} 0 1 = cc in absurd (omega arith)
+  first-line (Vp a b target class outvpi) lines s e =
+      let x = of-only (eqb u a && eqb v b) (by-vp target class outvpi) s e in
+      let o = own a b (x .0) in
+      subst (λ y. LineIs (Vp a b target class outvpi ∷ lines) u v w (some y)) (x .1) (inl (λ t. Vp (o .0 t) (o .1 t) target class outvpi))
+  first-line (Drop a b) lines s e =
+      let x = of-only (eqb u a && eqb v b) by-drop s e in
+      let o = own a b (x .0) in
+      subst (λ y. LineIs (Drop a b ∷ lines) u v w (some y)) (x .1) (inl (λ t. Drop (o .0 t) (o .1 t)))
+  first-line (Vc a b c target class outvpi outvci) lines s e =
+      let x = of-only ((eqb u a && eqb v b) && eqb w c) (by-vc target class outvpi outvci) s e in
+      let two = both-true (eqb u a && eqb v b) (eqb w c) (x .0) in
+      let o = own a b (two .0) in
+      let p = sym (eqb-true w c (two .1)) in
+      subst (λ y. LineIs (Vc a b c target class outvpi outvci ∷ lines) u v w (some y)) (x .1) (inl (λ t. Vc (o .0 t) (o .1 t) (p t) target class outvpi outvci))
+
+  -- a line that does not serve it changes nothing
+  other-line : (l : Line) (lines : List Line) (o : Option Serving) → serves l u v w ≡ none → LineIs lines u v w o → LineIs (l ∷ lines) u v w o
+  unfolding serves
+  other-line l lines none e i = (
+    λ target class outvpi.
+        ⊎-elim (λ q. unserved (Vp u v target class outvpi) (by-vp target class outvpi) q (rw (eq-eqb u u refl, eq-eqb v v refl))) (i .0 target class outvpi),
+    ⊎-elim (λ q. unserved (Drop u v) by-drop q (rw (eq-eqb u u refl, eq-eqb v v refl))) (i .1),
+    λ target class outvpi outvci.
+        ⊎-elim
+        (λ q. unserved (Vc u v w target class outvpi outvci) (by-vc target class outvpi outvci) q (rw (eq-eqb u u refl, eq-eqb v v refl, eq-eqb w w refl)))
+        (i .2 target class outvpi outvci),
+  )
+    where
+      unserved : (m : Line) (s : Serving) → l ≡ m → serves m u v w ≡ some s → ⊥
+      unserved m s q some-is = let f = ap (λ x. serves x u v w) (sym q) ∙ e in let z : _≡_ {A = ℕ} 0 1 = cc in omega arith
+  other-line l lines (some by-drop) e i = inr i
+  other-line l lines (some (by-vp target class outvpi)) e i = inr i
+  other-line l lines (some (by-vc target class outvpi outvci)) e i = inr i
+
+  line-serves : (lines : List Line) → LineIs lines u v w (served lines u v w)
+  unfolding served
+  line-serves [] = (λ t c o h. h, λ h. h, λ t c o p h. h)
+  line-serves (l ∷ lines) = go (serves l u v w) refl (line-serves lines)
+    where
+      go : (o : Option Serving) → serves l u v w ≡ o → LineIs lines u v w (served lines u v w) → LineIs (l ∷ lines) u v w (either o (served lines u v w))
+      go none e i = other-line l lines (served lines u v w) e i
+      go (some s) e i = first-line l lines s e
+
 pub fate-iff : FateIff
-fate-iff = (arrival-fate-iff, hearing-fate-iff, fate-counted)
+fate-iff = (arrival-fate-iff, hearing-fate-iff, fate-counted, λ lines u v w. line-serves u v w lines)

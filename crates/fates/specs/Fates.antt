@@ -19,7 +19,7 @@ use Rattle.outlet.specs.Outlets.{capacity}
 use Rattle.queueing.specs.Hearing.{queueOf, limit, busClp, TooWide}
 use Rattle.shelf.specs.declared.Found.the-variants.{At}
 use Rattle.line.specs.declared.Line.{Line}
-use Rattle.line.specs.declared.Line.the-variants.{Mc}
+use Rattle.line.specs.declared.Line.the-variants.{Vp, Drop, Vc, Mc}
 use Rattle.promise.specs.Served.{Serving, by-vp, by-drop, by-vc, served}
 use Rattle.answer.specs.declared.Arrival as A
 use Rattle.answer.specs.declared.Arrival.the-variants as arrival
@@ -54,6 +54,24 @@ Routes (some by-drop) = ⊥
 Routes (some (by-vp target class outvpi)) = Unit {0}
 Routes (some (by-vc target class outvpi outvci)) = Unit {0}
 
+-- these lines have this line
+abbrev pub Has : List Line → Line → Type 0
+Has [] l = ⊥
+Has (m ∷ lines) l = (m ≡ l) ⊎ Has lines l
+
+-- that line is in the table; or the table has no line for the unit and the VPI, none for the VCI there
+abbrev pub LineIs : List Line → ℕ → ℕ → ℕ → Option Serving → Type 0
+LineIs lines u v w none =
+    ((target : T.Target) (class outvpi : ℕ) → Has lines (Vp u v target class outvpi) → ⊥)
+    × (Has lines (Drop u v) → ⊥)
+    × ((target : T.Target) (class outvpi outvci : ℕ) → Has lines (Vc u v w target class outvpi outvci) → ⊥)
+LineIs lines u v w (some by-drop) = Has lines (Drop u v)
+LineIs lines u v w (some (by-vp target class outvpi)) = Has lines (Vp u v target class outvpi)
+LineIs lines u v w (some (by-vc target class outvpi outvci)) = Has lines (Vc u v w target class outvpi outvci)
+
+abbrev pub LineServes : Type 0
+LineServes = (lines : List Line) (u v w : ℕ) → LineIs lines u v w (served lines u v w)
+
 -- "a routed cell"
 pub record Goes (lines : List Line) (u : D·Unit) (c : List ℕ) : Type 0 where
   pub check : RightCheck c
@@ -71,11 +89,6 @@ ArrivalIs lines u c arrival.Misrouted =
     RightCheck c × (Zeros (headerAt u c) → ⊥) × ((u .settings .top < headerAt u c .vpi) ⊎ (lineFor lines u c ≡ none))
 ArrivalIs lines u c arrival.Inletfull = Goes lines u c × (4 ≤ length (u .inlet))
 ArrivalIs lines u c arrival.Queued = Goes lines u c × (length (u .inlet) < 4)
-
--- these lines have this line
-abbrev pub Has : List Line → Line → Type 0
-Has [] l = ⊥
-Has (m ∷ lines) l = (m ≡ l) ⊎ Has lines l
 
 -- "address 8 (unit, session, or 0 for broadcast)", "`mc` unit, session: the unit hears that session", "All declared units hear a broadcast"
 abbrev pub Addressed : List Line → D·Unit → T.Target → Type 0
@@ -140,4 +153,4 @@ FateCounted =
     Tells shelf place (hear unit f) (answers (Heard fate)) (hearingCounts fate))
 
 abbrev pub FateIff : Type 0
-FateIff = ArrivalFateIff × HearingFateIff × FateCounted
+FateIff = ArrivalFateIff × HearingFateIff × FateCounted × LineServes
