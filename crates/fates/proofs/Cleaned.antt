@@ -1,15 +1,14 @@
 -- No sent frame is damaged, and `unheard` counts the sent cells that address no declared unit. Assumes nothing.
-use Prim.Native.Nat.{ℕ, zero, suc, _+_, _<_, _≤_}
+use Prim.Native.Nat.{ℕ, zero, suc, _+_, _<_}
 use native.Mathlib.Omega.{arith}
 use mathlib.Core.Path.{_≡_, refl, sym, ap, subst, _∙_}
-use mathlib.Core.Logic.{_↔_, _≢_, _⊎_, inl, inr, ⊎-elim}
+use mathlib.Core.Logic.{_↔_, _⊎_, ⊎-elim}
 use mathlib.Core.Bool.{Bool, true, false, cond, _&&_, _||_}
 use mathlib.Core.List.{List, [], _∷_, _++_}
 use lib.Dec.{eqb, leb}
-use lib.ListN.{length, length-set, getD, set, take, drop, length-append}
+use lib.ListN.{length, length-set, getD, set}
 use lib.Seq.{take-at}
 use borrow.Author.Tests.{eqb-true, eqb-false}
-use Rattle.octets.specs.Octets.{part, be2, be4}
 use Rattle.routing.specs.Routing.{routing}
 use Rattle.routing.specs.declared.Target as T
 use Rattle.routing.specs.declared.Target.the-variants as target
@@ -27,17 +26,17 @@ use Rattle.shelf.specs.declared.Found.the-variants as found
 use Rattle.answer.specs.declared.Hearing as Q
 use Rattle.answer.specs.declared.Hearing.the-variants as hearing
 use Rattle.document.specs.Events.{frame}
-use Rattle.document.specs.Counters.{Counter, unheard, damaged, placeOf, Entry, entries, times, hearingCounts, sentCounts}
+use Rattle.document.specs.Counters.{Counter, unheard, damaged, placeOf, entries, times, hearingCounts, sentCounts}
 use Rattle.document.specs.Shelf.{Routed, Unit as D·Unit, Shelf, numberOf, held, withInlet, blank, findIn, unitAt}
 use Rattle.document.specs.Hearing.{addressed, fateIn, hearingOf}
-use Rattle.document.specs.Frame.{frameOf, asHeard, isAddressed, someAddressed, heardEntries, sendsFrom, sends, sentIn, framed}
+use Rattle.document.specs.Frame.{asHeard, isAddressed, someAddressed, heardEntries, sendsFrom}
 use Rattle.document.specs.Steps.{happensTo}
 use Rattle.running.specs.Events.{World}
 use Rattle.running.proofs.Changed.{set-or}
 use Rattle.refining.proofs.Alike.{WorldAlike, Sendable, AllSendable}
 use Rattle.refining.proofs.Rows.{occurs, times-append, times-here, times-other}
 use Rattle.fates.specs.Fates.{Has, Addressed}
-use Rattle.fates.specs.Frames.{afterFrame, SendsOldest}
+use Rattle.fates.specs.Frames.{afterFrame}
 use Rattle.fates.specs.Clean.{SomeAddressed, risenAfter, risenBefore, CleanFrame, CleanTableCleanBus}
 use Rattle.fates.proofs.Fated.{either-true, right-true, untrue, addressed-iff, fate-iff}
 use Rattle.fates.proofs.Loads.{from-load, found-at}
@@ -55,6 +54,7 @@ entries-none v cs u c e =
     (λ t. let same = eqb-true v u t in subst (λ n. times (entries v cs) n c ≡ 0) same (times-here v cs c ∙ e))
     (λ t. times-other v cs u c (eqb-false v u t))
 
+-- no hearing counts `unheard`
 no-unheard : (fate : Q.Hearing) → occurs (hearingCounts fate) (placeOf unheard) ≡ 0
 unfolding occurs hearingCounts
 no-unheard hearing.Damaged = refl
@@ -64,6 +64,7 @@ no-unheard hearing.Full = refl
 no-unheard hearing.Clp = refl
 no-unheard hearing.Queued = refl
 
+-- only a damaged one counts `damaged`
 no-damaged : (fate : Q.Hearing) → (fate ≡ hearing.Damaged → ⊥) → occurs (hearingCounts fate) (placeOf damaged) ≡ 0
 unfolding occurs hearingCounts
 no-damaged hearing.Damaged n = absurd (n refl)
@@ -73,6 +74,7 @@ no-damaged hearing.Full n = refl
 no-damaged hearing.Clp n = refl
 no-damaged hearing.Queued n = refl
 
+-- nor does sending
 no-sent-damaged : (b : Bool) → occurs (sentCounts b) (placeOf damaged) ≡ 0
 unfolding occurs sentCounts
 no-sent-damaged true = refl
@@ -109,6 +111,7 @@ module _ (lines : List Line) (r : Routed) where
       pick true false false true = refl
       pick true false false false = refl
 
+  -- so of all the units
   some-iff : (us : List D·Unit) → (someAddressed lines us r ≡ true) ↔ ((j : ℕ) × (j < length us) × Addressed lines (getD us j blank) (r .target))
   unfolding someAddressed
   some-iff [] = (λ e. let z : _≡_ {A = ℕ} 0 1 = cc in absurd (omega arith), λ s. absurd (omega (arith, s .1)))
@@ -144,9 +147,11 @@ module _ (card : Card) (w : World) (d : Shelf) (a : WorldAlike card w d) (buffer
       (λ o. ap numberOf o)
       (set-or (d .units) i (withInlet (unitAt d i) rest) blank j)
 
+  -- whether a declared unit is addressed
   abbrev some-hears : Bool
   some-hears = someAddressed (d .lines) left r
 
+  -- it is, exactly when one of the units as they were is
   hears-iff : (some-hears ≡ true) ↔ SomeAddressed d (r .target)
   hears-iff =
       let l = length-set (d .units) i (withInlet (unitAt d i) rest) in (
@@ -173,22 +178,27 @@ module _ (card : Card) (w : World) (d : Shelf) (a : WorldAlike card w d) (buffer
       let o = heard-none (d .lines) r left n c none in
       omega arith
 
+  -- `unheard` at the sender
   unheard-is : (b : Bool) → some-hears ≡ b → risenAfter d buffer (d .granted) unheard ≡ occurs (sentCounts b) (placeOf unheard) + risenBefore d (d .granted) unheard
   unheard-is b t =
       rises (d .granted) unheard (λ u. no-unheard (hearingOf (d .lines) u (asHeard r)))
       ∙ ap (λ k. k + risenBefore d (d .granted) unheard) (times-here (d .granted) (sentCounts some-hears) unheard ∙ ap (λ x. occurs (sentCounts x) (placeOf unheard)) t)
 
+  -- the cell is one that a line of the table made
   sendable : Sendable r
   sendable = subst AllSendable e (a .shelf .units i (found-at (d .units) (d .granted) i there .0) .sendable) .0
 
+  -- so its frame is heard as that cell
   sounds : heard (happensTo d (frame buffer) .bytes) ≡ sort.Cell (r .target) (r .class) (r .cell .header)
   sounds =
       ap heard (sent-at card w d a buffer whole i there r rest e .bytes)
       ∙ sent-is-heard (r .target) (r .class) 0 (r .cell .header) (r .cell .payload) (sendable .target) (sendable .class) (sendable .header) (sendable .payload)
 
+  -- with its payload
   carries : payload (happensTo d (frame buffer) .bytes) ≡ r .cell .payload
   carries = ap payload (sent-at card w d a buffer whole i there r rest e .bytes) ∙ sealed-payload (routing (r .target) (r .class)) (r .cell .header) (r .cell .payload) (sendable .payload)
 
+  -- all of it, of the frame that is sent
   clean-frame : CleanFrame d buffer
   unfolding occurs sentCounts
   clean-frame =
@@ -206,6 +216,7 @@ module _ (card : Card) (w : World) (d : Shelf) (a : WorldAlike card w d) (buffer
             ∙ ap (λ k. k + risenBefore d n unheard) (times-other (d .granted) (sentCounts some-hears) n unheard (λ q. apart (sym q))) ∙ omega arith;
       }
 
+-- from a good load on there is a sender, and it has a cell
 pub clean-table-clean-bus : CleanTableCleanBus
 clean-table-clean-bus =
     from-load (λ d. (d .granted ≡ nobody → ⊥) → (buffer : List ℕ) → length buffer ≡ 57 → CleanFrame d buffer)

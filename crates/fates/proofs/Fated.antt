@@ -1,5 +1,5 @@
 -- Each fate is met exactly when its fact holds. Assumes nothing.
-use Prim.Native.Nat.{ℕ, _<_, _≤_}
+use Prim.Native.Nat.{ℕ}
 use native.Mathlib.Omega.{arith}
 use mathlib.Core.Path.{_≡_, refl, sym, ap, subst, _∙_}
 use mathlib.Core.Logic.{_↔_, _⊎_, inl, inr, ⊎-elim}
@@ -10,18 +10,15 @@ use lib.Dec.{eqb, leb, ltb}
 use lib.ListN.{length, getD}
 use borrow.Author.Tests.{eqb-true, eqb-false, leb-true, leb-false, ltb-true, ltb-false, eq-eqb, ne-eqb, le-leb, lt-leb, lt-ltb, le-ltb}
 use Rattle.octets.specs.Octets.{four, part}
-use Rattle.header.specs.Fields.{fields}
 use Rattle.header.specs.Check.{check}
 use Rattle.header.specs.declared.Header as H
-use Rattle.header.specs.declared.Link.{Link}
 use Rattle.routing.specs.declared.Target as T
 use Rattle.routing.specs.declared.Target.the-variants as target
 use Rattle.bus.specs.Frame.{heard}
 use Rattle.bus.specs.declared.Heard as B
 use Rattle.bus.specs.declared.Heard.the-variants as frame
-use Rattle.queueing.specs.Hearing.{queueOf, busClp, tooWide, TooWide}
+use Rattle.queueing.specs.Hearing.{busClp, tooWide}
 use Rattle.queueing.proofs.Fates.{wide-iff}
-use Rattle.shelf.specs.declared.Found.the-variants.{At}
 use Rattle.line.specs.declared.Line.{Line}
 use Rattle.line.specs.declared.Line.the-variants.{Bus, Unit as L·Unit, Vp, Drop, Page, Vc, Mc}
 use Rattle.told.specs.Told.{only, either, hearsBy, hearsIn}
@@ -35,20 +32,22 @@ use Rattle.answer.specs.declared.Answer.the-variants.{Arrived, Heard}
 use Rattle.document.specs.Events.{answers}
 use Rattle.document.specs.Counters.{entries, arrivalCounts, hearingCounts}
 use Rattle.document.specs.Shelf.{Unit as D·Unit, numberOf, unitAt}
-use Rattle.document.specs.Arrival.{Way, goes, lost, routed, wayBy, wayFor, wayOf, arrivalBy, arrivalOf, arrived}
+use Rattle.document.specs.Arrival.{goes, lost, wayBy, wayFor, wayOf, arrivalBy, arrivalOf, arrived}
 use Rattle.document.specs.Hearing.{addressed, fateIn, hearingOf, handedIn}
 use Rattle.document.specs.Steps.{admitted, happensTo}
-use Rattle.fates.specs.Fates.{headerAt, RightCheck, Zeros, lineFor, Routes, Goes, ArrivalIs, Has, LineIs, Addressed, SoundWith, Fits, room, limitOf, heldOf, HearingIs, ArrivalFateIff, HearingFateIff, Tells, FateCounted, FateIff}
+use Rattle.fates.specs.Fates.{headerAt, Zeros, lineFor, Routes, Goes, ArrivalIs, Has, LineIs, Addressed, Fits, room, limitOf, heldOf, HearingIs, ArrivalFateIff, HearingFateIff, FateCounted, FateIff}
 
 -- two tests in one, as facts
 both-true : (a b : Bool) → (a && b) ≡ true → (a ≡ true) × (b ≡ true)
 both-true true b e = (refl, e)
 both-true false b e = let z : _≡_ {A = ℕ} 0 1 = cc in absurd (omega arith)
 
+-- one of two tests
 pub either-true : (a b : Bool) → (a || b) ≡ true → (a ≡ true) ⊎ (b ≡ true)
 either-true true b e = inl refl
 either-true false b e = inr e
 
+-- the second of them is enough
 pub right-true : (a b : Bool) → b ≡ true → (a || b) ≡ true
 right-true true b e = refl
 right-true false b e = e
@@ -58,6 +57,7 @@ pub untrue : (b : Bool) → (b ≡ true → ⊥) → b ≡ false
 untrue true f = absurd (f refl)
 untrue false f = refl
 
+-- no test is true and false
 not-both : (b : Bool) → b ≡ true → b ≡ false → ⊥
 not-both b t f = let z : _≡_ {A = ℕ} 0 1 = cc in omega arith
 
@@ -73,6 +73,7 @@ module _ (lines : List Line) (u : D·Unit) (c : List ℕ) where
   abbrev h : H.Header
   h = headerAt u c
 
+  -- the three tests of an arrival
   abbrev right : Bool
   right = eqb (check (four c 0)) (getD c 4 0)
 
@@ -86,6 +87,7 @@ module _ (lines : List Line) (u : D·Unit) (c : List ℕ) where
   abbrev by : Bool → Bool → Bool → Option Serving → A.Arrival
   by r z a o = arrivalBy (cond r (cond z (lost arrival.Ignored) (cond a (lost arrival.Misrouted) (wayBy o h (part c 5 48)))) (lost arrival.Hec)) u
 
+  -- that is how the fate is found
   is-by : arrivalOf lines u c ≡ by right zeros above (lineFor lines u c)
   unfolding wayOf wayFor
   is-by = refl
@@ -109,6 +111,7 @@ module _ (lines : List Line) (u : D·Unit) (c : List ℕ) where
       by (eq-eqb (check (four c 0)) (getD c 4 0) (g .check) t) (untrue zeros (λ e. g .some (zeros-iff h .0 e)) t) (le-ltb (u .settings .top) (h .vpi) (g .top) t) (lineFor lines u c))
       ∙ by-line (lineFor lines u c) (g .line)
 
+  -- a fact makes its fate
   arrival-from : (fate : A.Arrival) → ArrivalIs lines u c fate → arrivalOf lines u c ≡ fate
   unfolding arrivalBy wayBy waits
   arrival-from arrival.Hec f = is-by ∙ (λ t. by (ne-eqb (check (four c 0)) (getD c 4 0) f t) zeros above (lineFor lines u c))
@@ -156,6 +159,7 @@ module _ (lines : List Line) (u : D·Unit) (c : List ℕ) where
       go true false false (some (by-vp target class outvpi)) er ez ea eo = going er ez ea (subst Routes (sym eo) tt)
       go true false false (some (by-vc target class outvpi outvci)) er ez ea eo = going er ez ea (subst Routes (sym eo) tt)
 
+-- each arrival fate exactly when its fact holds
 arrival-fate-iff : ArrivalFateIff
 arrival-fate-iff lines u c fate = (λ e. subst (ArrivalIs lines u c) e (arrival-holds lines u c), arrival-from lines u c fate)
 
@@ -173,6 +177,7 @@ by-mc (Mc a session) n s = (
   λ e. let p : a ≡ n = cc in let q : session ≡ s = cc in rw (eq-eqb a n p, eq-eqb session s q),
 )
 
+-- so in all the lines
 mc-iff : (lines : List Line) (n s : ℕ) → (hearsIn lines n s ≡ true) ↔ Has lines (Mc n s)
 unfolding hearsIn
 mc-iff [] n s = (λ e. let z : _≡_ {A = ℕ} 0 1 = cc in absurd (omega arith), λ e. absurd e)
@@ -181,6 +186,7 @@ mc-iff (l ∷ lines) n s = (
   λ e. ⊎-elim (λ t. rw (by-mc l n s .1 t)) (λ t. right-true (hearsBy l n s) (hearsIn lines n s) (mc-iff lines n s .1 t)) e,
 )
 
+-- addressed, as a fact
 pub addressed-iff : (lines : List Line) (u : D·Unit) (t : T.Target) → (addressed lines u t ≡ true) ↔ Addressed lines u t
 unfolding addressed
 addressed-iff lines u (target.Unit number) = (eqb-true (numberOf u) number, eq-eqb (numberOf u) number)
@@ -201,6 +207,7 @@ module _ (lines : List Line) (u : D·Unit) (t : T.Target) (class header : ℕ) w
   abbrev fated : Bool → Bool → Bool → Bool → Bool → Q.Hearing
   fated mine w f one l = cond mine (cond w hearing.Wide (cond f hearing.Full (cond (one && l) hearing.Clp hearing.Queued))) hearing.Other
 
+  -- that is how the fate is found
   is-fated : hearingOf lines u (frame.Cell t class header) ≡ fated (addressed lines u t) wide full (eqb (busClp header) 1) low
   unfolding hearingOf fateIn
   is-fated = refl
@@ -208,12 +215,14 @@ module _ (lines : List Line) (u : D·Unit) (t : T.Target) (class header : ℕ) w
   abbrev Is : Q.Hearing → Type 0
   Is fate = HearingIs lines u (frame.Cell t class header) fate
 
+  -- two of the tests, of their facts
   not-wide : Fits lines u t header → wide ≡ false
   not-wide f = untrue wide (λ e. f .narrow (wide-iff (u .settings .link) header .0 e))
 
   mine : Addressed lines u t → addressed lines u t ≡ true
   mine a = addressed-iff lines u t .1 a
 
+  -- a fact makes its fate
   cell-from : (fate : Q.Hearing) → Is fate → hearingOf lines u (frame.Cell t class header) ≡ fate
   cell-from hearing.Damaged f = absurd (f tt)
   cell-from hearing.Other f =
@@ -232,6 +241,7 @@ module _ (lines : List Line) (u : D·Unit) (t : T.Target) (class header : ℕ) w
       (λ one. known ∙ (λ x. fated true false false (one x) (lt-leb (limitOf u class) (heldOf u class) (f .2 (eqb-true (busClp header) 1 one)) x)))
       (λ one. known ∙ (λ x. fated true false false (one x) low))
 
+  -- the fate that it is has its fact
   cell-holds : Is (hearingOf lines u (frame.Cell t class header))
   unfolding hearingOf fateIn
   cell-holds = go (addressed lines u t) wide full (eqb (busClp header) 1) low refl refl refl refl refl
@@ -265,12 +275,14 @@ hearing-from lines u frame.Damaged hearing.Full f = absurd f
 hearing-from lines u frame.Damaged hearing.Clp f = absurd f
 hearing-from lines u frame.Damaged hearing.Queued f = absurd f
 
+-- and the fate that it is has its fact
 hearing-holds : (lines : List Line) (u : D·Unit) (h : B.Heard) → HearingIs lines u h (hearingOf lines u h)
 unfolding hearingOf
 hearing-holds lines u frame.Length = λ s. s
 hearing-holds lines u frame.Damaged = λ s. s
 hearing-holds lines u (frame.Cell t class header) = cell-holds lines u t class header
 
+-- each hearing fate exactly when its fact holds
 hearing-fate-iff : HearingFateIff
 hearing-fate-iff lines u h fate = (λ e. subst (HearingIs lines u h) e (hearing-holds lines u h), hearing-from lines u h fate)
 
@@ -299,10 +311,12 @@ module _ (u v w : ℕ) where
   own : (a b : ℕ) → (eqb u a && eqb v b) ≡ true → (a ≡ u) × (b ≡ v)
   own a b e = let t = both-true (eqb u a) (eqb v b) e in (sym (eqb-true u a (t .0)), sym (eqb-true v b (t .1)))
 
+  -- what is given only if a test holds
   of-only : {X : Type 0} (b : Bool) (x y : X) → only b x ≡ some y → (b ≡ true) × (x ≡ y)
   of-only true x y e = (refl, cc)
   of-only false x y e = let z : _≡_ {A = ℕ} 0 1 = cc in absurd (omega arith)
 
+  -- a line that serves it
   first-line : (l : Line) (lines : List Line) (s : Serving) → serves l u v w ≡ some s → LineIs (l ∷ lines) u v w (some s)
   unfolding serves
   first-line (Bus bus) lines s e = let z : _≡_ {A = ℕ} 0 1 = cc in absurd (omega arith)
@@ -343,6 +357,7 @@ module _ (u v w : ℕ) where
   other-line l lines (some (by-vp target class outvpi)) e i = inr i
   other-line l lines (some (by-vc target class outvpi outvci)) e i = inr i
 
+  -- the latest line that serves it, or none does
   line-serves : (lines : List Line) → LineIs lines u v w (served lines u v w)
   unfolding served
   line-serves [] = (λ t c o h. h, λ h. h, λ t c o p h. h)
@@ -352,5 +367,6 @@ module _ (u v w : ℕ) where
       go none e i = other-line l lines (served lines u v w) e i
       go (some s) e i = first-line l lines s e
 
+-- all four
 pub fate-iff : FateIff
 fate-iff = (arrival-fate-iff, hearing-fate-iff, fate-counted, λ lines u v w. line-serves u v w lines)

@@ -2,8 +2,8 @@
 use Prim.Native.Nat.{ℕ, zero, suc, _+_, _<_, _≤_}
 use native.Mathlib.Omega.{arith}
 use mathlib.Core.Path.{_≡_, refl, sym, ap, subst, _∙_}
-use mathlib.Core.Logic.{_≢_, _⊎_, ⊎-elim}
-use mathlib.Core.Bool.{Bool, true, false, cond}
+use mathlib.Core.Logic.{_⊎_, ⊎-elim}
+use mathlib.Core.Bool.{true, cond}
 use mathlib.Core.List.{List, [], _∷_}
 use lib.Dec.{eqb}
 use lib.ListN.{length, length-set, getD, set, replicate, List·getD-map}
@@ -32,7 +32,6 @@ use Rattle.refining.proofs.Alike.{WorldAlike, onBus}
 use Rattle.refining.proofs.Rows.{Different}
 use Rattle.refining.proofs.Steps.{once}
 use Rattle.refining.proofs.Finds.{length-map, find-alike, declared-is}
-use Rattle.fates.specs.Held.{unitAfter}
 use Rattle.fates.specs.Frames.{asksOf, grantedNow, afterFrame, Waits, GrantedInTurn, SendsOldest, Idle, GoesOn, FramesGoOn}
 use Rattle.fates.proofs.Loads.{Full, from-load, then-alike, found-at, four-queues}
 use Rattle.fates.proofs.Holding.{hears-all}
@@ -50,6 +49,7 @@ module _ (g : ℕ) where
   asked-other now (u ∷ us) n f =
       asked-other (set now (D.numberOf u) (asksNow g u)) us n (λ j h. f (suc j) (omega arith)) ∙ getD-set-other now (D.numberOf u) n (asksNow g u) 0 (λ e. f 0 (omega arith) (sym e))
 
+  -- so each unit finds its own
   asked-at : (now : List ℕ) (us : List D.Unit) (i : ℕ) → i < length us → Different us → D.numberOf (getD us i D.blank) < length now →
       getD (askingOf g now us) (D.numberOf (getD us i D.blank)) 0 ≡ asksNow g (getD us i D.blank)
   unfolding askingOf
@@ -73,6 +73,7 @@ module _ (card : Card) (w : World) (d : D.Shelf) (a : WorldAlike card w d) where
       ap (λ u. u .inlet .count) (declared-is card (w .shelf) (w .memory) (w .store) d (a .shelf) i h)
       ∙ sym (length-cells (w .store) i 123 4 (unitAt (w .shelf) i .inlet)) ∙ ap length (a .shelf .units i h .inlet) ∙ length-map onBus (D.unitAt d i .inlet)
 
+  -- a unit's number is below 32
   below-32 : (i : ℕ) → i < length (d .units) → D.numberOf (D.unitAt d i) < 32
   below-32 i h =
       let low = facts .units i (omega (arith, h, a .shelf .many)) .below in
@@ -110,6 +111,7 @@ module _ (card : Card) (w : World) (d : D.Shelf) (a : WorldAlike card w d) where
           let n = at .1 in
           absurd (omega (arith, below-32 i (at .0)))
 
+  -- the unit with the open grant is declared, and has a cell
   waits : (d .granted ≡ nobody → ⊥) → Waits d (d .granted)
   waits some =
       let o = open-grant some in
@@ -130,10 +132,12 @@ module _ (card : Card) (w : World) (d : D.Shelf) (a : WorldAlike card w d) where
     unfolding sends
     sent-is = ap (λ f. sends f d buffer) there ∙ ap (λ l. sendsFrom l d i buffer) e
 
+    -- its bytes
     pub sent-bytes : happensTo d (frame buffer) .bytes ≡ frameOf r
     unfolding sendsFrom
     sent-bytes = ap (λ s. s .bytes) (let-in d buffer whole) ∙ ap (λ s. s .bytes) sent-is
 
+    -- all of it
     abbrev pub sent-at : SendsOldest d buffer
     sent-at =
         record {
@@ -152,10 +156,12 @@ module _ (card : Card) (w : World) (d : D.Shelf) (a : WorldAlike card w d) where
           gone = hears-all d (four-queues card w d a) buffer i r rest whole there e i (found-at (d .units) (d .granted) i there .0) .2 refl;
         }
 
+  -- the unit granted in the frame before sends its oldest cell
   sends-oldest : (d .granted ≡ nobody → ⊥) → (buffer : List ℕ) → length buffer ≡ 57 → SendsOldest d buffer
   sends-oldest some buffer whole =
       let o = open-grant some in let c = has-cell (o .0) (o .1) in sent-at buffer whole (o .0) (o .1) (c .0) (c .1) (c .2)
 
+  -- nobody was granted: the frame is idle
   idles : d .granted ≡ nobody → (buffer : List ℕ) → length buffer ≡ 57 → Idle d buffer
   unfolding sends
   idles n buffer whole =
@@ -183,6 +189,7 @@ module _ (card : Card) (w : World) (d : D.Shelf) (a : WorldAlike card w d) where
       ∙ ap (λ k. cond (due (d .bus) (d .frame) k) (getD now k 0) (getD (d .arbiter .asks) n 0)) (sym z)
       ∙ ap (λ x. cond (due (d .bus) (d .frame) n) x (getD (d .arbiter .asks) n 0)) (asked-at (d .granted) (replicate 32 0) (d .units) i h (once card w d a) low)
 
+  -- a unit with a cell besides a granted one asks, if it is its turn
   asks-now : Full d → (i : ℕ) → i < length (d .units) → due (d .bus) (d .frame) (D.numberOf (D.unitAt d i)) ≡ true →
       1 ≤ besides (length (D.unitAt d i .inlet)) (eqb (D.numberOf (D.unitAt d i)) (d .granted)) → Asks (asksOf d) (D.numberOf (D.unitAt d i))
   unfolding asking
@@ -204,6 +211,7 @@ module _ (card : Card) (w : World) (d : D.Shelf) (a : WorldAlike card w d) where
       subst (Waits (afterFrame d buffer)) e
       (waits card (happens card w (frame buffer) .world) (afterFrame d buffer) (then-alike card w d a (frame buffer)) (λ n. some (sym e ∙ n)))
 
+  -- who is granted is declared, asks at the highest priority, and is the first in turn
   in-turn : (grantedNow d ≡ nobody → ⊥) → GrantedInTurn d
   in-turn some =
       let v = still-waits some (replicate 57 0) refl in
@@ -220,6 +228,7 @@ module _ (card : Card) (w : World) (d : D.Shelf) (a : WorldAlike card w d) where
         first = granted-first (d .arbiter .last) (asksOf d) some;
       }
 
+-- all of it, where both shelves are alike
 goes-on : (card : Card) (w : World) (d : D.Shelf) → WorldAlike card w d → Full d → GoesOn d
 goes-on card w d a full =
     record {
@@ -232,5 +241,6 @@ goes-on card w d a full =
       opens = opened card w d a;
     }
 
+-- so from a good load on
 pub frames-go-on : FramesGoOn
 frames-go-on = from-load GoesOn goes-on

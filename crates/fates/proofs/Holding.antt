@@ -1,8 +1,8 @@
 -- A cell that is said to be queued is held. Assumes nothing.
-use Prim.Native.Nat.{ℕ, _+_, _<_, _≤_}
+use Prim.Native.Nat.{ℕ, _+_, _<_}
 use native.Mathlib.Omega.{arith}
 use mathlib.Core.Path.{_≡_, refl, sym, ap, subst, _∙_}
-use mathlib.Core.Logic.{_↔_, _≢_, _⊎_, inl, inr, ⊎-elim}
+use mathlib.Core.Logic.{_↔_, _≢_}
 use mathlib.Core.Bool.{Bool, true, false, cond, _&&_}
 use mathlib.Core.List.{List, [], _∷_, _++_, map}
 use mathlib.Core.Option.{Option, none, some}
@@ -13,7 +13,6 @@ use borrow.Author.Tests.{eqb-true, eqb-false, eq-eqb}
 use Rattle.octets.specs.Octets.{four, part}
 use Rattle.octets.proofs.Parts.{getD-any}
 use Rattle.header.specs.Check.{check}
-use Rattle.header.specs.declared.Header as H
 use Rattle.routing.specs.declared.Target as T
 use Rattle.routing.specs.declared.Target.the-variants as target
 use Rattle.bus.specs.Frame.{heard, payload}
@@ -21,7 +20,6 @@ use Rattle.bus.specs.declared.Heard as B
 use Rattle.bus.specs.declared.Heard.the-variants as sort
 use Rattle.queueing.specs.Hearing.{queueOf}
 use Rattle.queueing.proofs.Fates.{queue-lt}
-use Rattle.card.specs.declared.Card.{Card}
 use Rattle.shelf.specs.declared.Found.the-variants as found
 use Rattle.line.specs.declared.Line.{Line}
 use Rattle.told.proofs.Grown.{decide}
@@ -30,16 +28,14 @@ use Rattle.answer.specs.declared.Arrival as A
 use Rattle.answer.specs.declared.Arrival.the-variants as arrival
 use Rattle.answer.specs.declared.Hearing as Q
 use Rattle.answer.specs.declared.Hearing.the-variants as hearing
-use Rattle.document.specs.Events.{Event, arrive, frame, hear}
-use Rattle.document.specs.Shelf.{Cell, Routed, Unit as D·Unit, Shelf, queueAt, withInlet, withQueue, blank, findIn, unitAt}
-use Rattle.document.specs.Arrival.{Way, goes, lost, routed, wayBy, wayFor, wayOf, arrivalBy, inletBy, arrivalOf, arrived}
+use Rattle.document.specs.Events.{arrive, frame, hear}
+use Rattle.document.specs.Shelf.{Cell, Routed, Unit as D·Unit, Shelf, queueAt, withInlet, blank, findIn, unitAt}
+use Rattle.document.specs.Arrival.{Way, goes, lost, routed, wayBy, wayFor, wayOf, arrivalBy, inletBy, arrived}
 use Rattle.document.specs.Hearing.{addressed, fateIn, hearingOf, keeping, hearingUnit, handedIn}
-use Rattle.document.specs.Frame.{asHeard, allHear, sendsFrom, sends, sentIn, framed}
+use Rattle.document.specs.Frame.{asHeard, allHear, sendsFrom, sends}
 use Rattle.document.specs.Steps.{admitted, happensTo}
-use Rattle.running.specs.Events.{World}
-use Rattle.refining.proofs.Alike.{WorldAlike}
 use Rattle.refining.proofs.Finds.{length-map}
-use Rattle.fates.specs.Fates.{headerAt, lineFor, SoundWith}
+use Rattle.fates.specs.Fates.{headerAt, lineFor}
 use Rattle.fates.specs.Held.{RoutedBy, ArrivalHeld, CopyHeld, unitAfter, Holds, HeldMeansHeld}
 use Rattle.fates.proofs.Loads.{from-load, found-at, four-queues}
 
@@ -52,6 +48,7 @@ module _ (lines : List Line) (u : D·Unit) (c : List ℕ) where
   abbrev payloadOf : List ℕ
   payloadOf = part c 5 48
 
+  -- the routed cell that its line makes
   abbrev Made : Routed → Type 0
   Made r = RoutedBy (lineFor lines u c) (headerAt u c) payloadOf r
 
@@ -60,6 +57,7 @@ module _ (lines : List Line) (u : D·Unit) (c : List ℕ) where
     on : (r : Routed) → Made r → Ends (goes r)
     off : (fate : A.Arrival) → (fate ≡ arrival.Queued → ⊥) → Ends (lost fate)
 
+  -- by the line
   by-line : (o : Option Serving) → lineFor lines u c ≡ o → Ends (wayBy o (headerAt u c) payloadOf)
   unfolding wayBy
   by-line none e = off arrival.Misrouted (λ q. let z : _≡_ {A = ℕ} 0 1 = cc in omega arith)
@@ -67,6 +65,7 @@ module _ (lines : List Line) (u : D·Unit) (c : List ℕ) where
   by-line (some (by-vp target class outvpi)) e = on _ (subst (λ o. RoutedBy o (headerAt u c) payloadOf (routed target class outvpi (headerAt u c .vci) (headerAt u c) payloadOf)) (sym e) refl)
   by-line (some (by-vc target class outvpi outvci)) e = on _ (subst (λ o. RoutedBy o (headerAt u c) payloadOf (routed target class outvpi outvci (headerAt u c) payloadOf)) (sym e) refl)
 
+  -- by the tests
   ends : Ends (wayOf lines (u .settings) c)
   unfolding wayOf wayFor
   ends = pick (eqb (check (four c 0)) (getD c 4 0)) (eqb (headerAt u c .vpi) 0 && eqb (headerAt u c .vci) 0) (ltb (u .settings .top) (headerAt u c .vpi))
@@ -82,12 +81,15 @@ module _ (lines : List Line) (u : D·Unit) (c : List ℕ) where
   Held fate inlet =
       ((fate ≡ arrival.Queued) ↔ ((r : Routed) × Made r × (inlet ≡ u .inlet ++ (r ∷ [])))) × ((fate ≡ arrival.Queued → ⊥) → inlet ≡ u .inlet)
 
+  -- the inlet is as it was
   kept : (fate : A.Arrival) → (fate ≡ arrival.Queued → ⊥) → Held fate (u .inlet)
   kept fate n = ((λ q. absurd (n q), λ g. absurd (longer (u .inlet) (g .0) (g .2))), λ q. refl)
 
+  -- it has one more
   grown : (r : Routed) → Made r → Held arrival.Queued (u .inlet ++ (r ∷ []))
   grown r m = ((λ q. (r, m, refl), λ g. refl), λ n. absurd (n refl))
 
+  -- either way
   by-way : (way : Way) → Ends way → Held (arrivalBy way u) (inletBy way u)
   unfolding arrivalBy inletBy
   by-way way (off fate n) = kept fate n
@@ -97,6 +99,7 @@ module _ (lines : List Line) (u : D·Unit) (c : List ℕ) where
       pick true = kept arrival.Inletfull (λ q. let z : _≡_ {A = ℕ} 0 1 = cc in omega arith)
       pick false = grown r m
 
+  -- an arrival
   arrival-held : ArrivalHeld lines u c (withInlet u (inletBy (wayOf lines (u .settings) c) u))
   arrival-held = let b = by-way (wayOf lines (u .settings) c) ends in record { queued = b .0; lost = b .1; queues = refl }
 
@@ -108,9 +111,11 @@ module _ (u : D·Unit) (wide : length (u .queues) ≡ 4) (q : ℕ) (few : q < 4)
       ((fate ≡ hearing.Queued) ↔ (queueAt v q ≡ queueAt u q ++ (x ∷ [])))
       × ((fate ≡ hearing.Queued → ⊥) → v .queues ≡ u .queues) × ((p : ℕ) → p ≢ q → queueAt v p ≡ queueAt u p) × (v .inlet ≡ u .inlet)
 
+  -- the queues are as they were
   as-it-was : (fate : Q.Hearing) → (fate ≡ hearing.Queued → ⊥) → HeldIn fate u
   as-it-was fate n = ((λ e. absurd (n e), λ e. absurd (longer (queueAt u q) x e)), λ e. refl, λ p e. refl, refl)
 
+  -- each fate
   by-fate : (fate : Q.Hearing) → HeldIn fate (keeping fate u q x)
   unfolding keeping
   by-fate hearing.Damaged = as-it-was hearing.Damaged (λ e. let z : _≡_ {A = ℕ} 0 1 = cc in omega arith)
@@ -148,6 +153,7 @@ inlet-apart lines u waiting (target.Unit number) = refl
 inlet-apart lines u waiting (target.Session session) = refl
 inlet-apart lines u waiting target.All = refl
 
+-- so a copy is held in the same way whatever waits there
 copy-apart : (lines : List Line) (u : D·Unit) → length (u .queues) ≡ 4 → (waiting : List Routed) (r : Routed) →
     CopyHeld lines u (asHeard r) (r .cell .payload) (hearingUnit lines (withInlet u waiting) (asHeard r) (r .cell .payload))
     × (hearingUnit lines (withInlet u waiting) (asHeard r) (r .cell .payload) .inlet ≡ waiting)
@@ -177,6 +183,7 @@ module _ (d : Shelf) (fours : (j : ℕ) → length (unitAt d j .queues) ≡ 4) w
         λ j apart. getD-set-other (d .units) place j v blank apart,
       )
 
+  -- a frame handed in
   hears-one : (unit place : ℕ) (f : List ℕ) → findIn (d .units) unit ≡ found.At place → length f ≡ 57 →
       CopyHeld (d .lines) (unitAt d place) (heard f) (payload f) (unitAfter d (hear unit f) place)
       × (unitAfter d (hear unit f) place .inlet ≡ unitAt d place .inlet)
@@ -195,6 +202,7 @@ module _ (d : Shelf) (fours : (j : ℕ) → length (unitAt d j .queues) ≡ 4) w
     abbrev left : List D·Unit
     left = set (d .units) place (withInlet (unitAt d place) rest)
 
+    -- each unit when it has heard
     after-is : (j : ℕ) → j < length (d .units) → getD (allHear (d .lines) left r) j blank ≡ hearingUnit (d .lines) (getD left j blank) (asHeard r) (r .cell .payload)
     after-is j h =
         let f : D·Unit → D·Unit = λ u. hearingUnit (d .lines) u (asHeard r) (r .cell .payload) in
@@ -202,6 +210,7 @@ module _ (d : Shelf) (fours : (j : ℕ) → length (unitAt d j .queues) ≡ 4) w
         let m = length-set (d .units) place (withInlet (unitAt d place) rest) in
         getD-any (map f left) j blank (f blank) (omega arith) ∙ List·getD-map f left j blank
 
+  -- a frame on the bus
   pub hears-all : (buffer : List ℕ) (place : ℕ) (r : Routed) (rest : List Routed) → length buffer ≡ 57 → findIn (d .units) (d .granted) ≡ found.At place →
       unitAt d place .inlet ≡ r ∷ rest → (j : ℕ) → j < length (d .units) →
       CopyHeld (d .lines) (unitAt d j) (asHeard r) (r .cell .payload) (unitAfter d (frame buffer) j)
@@ -231,6 +240,7 @@ module _ (d : Shelf) (fours : (j : ℕ) → length (unitAt d j .queues) ≡ 4) w
           let i = ap (λ x. x .inlet) e ∙ b .1 in
           (subst (CopyHeld (d .lines) (unitAt d j) (asHeard r) (r .cell .payload)) (sym e) (b .0), λ n. i ∙ other n, λ y. i ∙ own y)
 
+-- from a good load on each unit has four queues
 pub held-means-held : HeldMeansHeld
 held-means-held =
     from-load Holds

@@ -1,12 +1,12 @@
 -- An event at a unit leaves everything else alone. Assumes nothing.
-use Prim.Native.Nat.{ℕ, _+_, _<_, _≤_}
+use Prim.Native.Nat.{ℕ, _+_, _≤_}
 use native.Mathlib.Omega.{arith}
 use mathlib.Core.Path.{_≡_, refl, sym, ap, subst, _∙_}
 use mathlib.Core.Logic.{_≢_, _⊎_, ⊎-elim}
 use mathlib.Core.Bool.{Bool, true, false, cond}
 use mathlib.Core.Option.{some}
 use mathlib.Core.List.{List, _++_}
-use lib.Dec.{eqb, leb}
+use lib.Dec.{eqb}
 use lib.ListN.{length, length-append, length-take, length-drop, length-set, getD, take, drop}
 use lib.Seq.{getD-set-other, getD-take, getD-drop}
 use borrow.Author.Tests.{eqb-true, leb-false}
@@ -15,28 +15,25 @@ use Rattle.octets.proofs.Parts.{part-before, part-after, length-splice}
 use Rattle.card.specs.declared.Card.{Card}
 use Rattle.bus.specs.Frame.{cell, heard}
 use Rattle.store.specs.Places.{partOf, slotAt, putAt, inletSlot, outletSlot}
-use Rattle.store.specs.Rings.{tail, pushed, popped}
-use Rattle.store.proofs.Slots.{by-lt, slot-inside}
+use Rattle.store.specs.Rings.{tail, pushed}
+use Rattle.store.proofs.Slots.{by-lt}
 use Rattle.outlet.specs.Outlets.{queue, capacity}
 use Rattle.shelf.specs.Shelves.{declared, blank, findIn}
-use Rattle.shelf.specs.declared.Found as F
 use Rattle.shelf.specs.declared.Found.the-variants as found
 use Rattle.shelf.specs.declared.Unit as U
 use Rattle.shelf.specs.declared.Shelf.{Shelf}
-use Rattle.soundness.specs.State.{soundOf}
 use Rattle.queueing.specs.Taking.{leaving}
 use Rattle.queueing.specs.declared.Leaving as L
 use Rattle.queueing.specs.declared.Leaving.the-variants as leaves
 use Rattle.answer.specs.Answers.{row, refused, arrivalRises, hearingRises, #taken}
-use Rattle.answer.specs.declared.Done.{Done}
 use Rattle.answer.specs.declared.Arrival.the-variants.{Inletfull, Queued}
 use Rattle.counters.specs.Counting.{settled, settledTo, zero}
 use Rattle.counters.proofs.Settling.{settled-ahead, settled-behind, length-settled}
 use Rattle.counters.specs.declared.Counters as C
-use Rattle.admit.specs.Admission.{atUnit, admitted, decided, unitAt, withUnit, withInlet, Housed}
+use Rattle.admit.specs.Admission.{admitted, decided, unitAt, withUnit, withInlet, Housed}
 use Rattle.admit.specs.declared.Admitted as A
 use Rattle.admit.specs.declared.Admitted.the-variants.{At, Refused}
-use Rattle.admit.proofs.Laws.{LetIn, at-let-in, let-in-housed}
+use Rattle.admit.proofs.Laws.{at-let-in, let-in-housed}
 use Rattle.arriving.specs.Arriving as arriving
 use Rattle.arriving.specs.declared.Way.{Way}
 use Rattle.arriving.specs.declared.Way.the-variants.{Bus, Lost}
@@ -47,7 +44,7 @@ use Rattle.hearing.specs.declared.Plan as P
 use Rattle.hearing.specs.declared.Plan.the-variants as plans
 use Rattle.hearing.proofs.Plans.{plan-queue, outlet-inside}
 use Rattle.taking.specs.Takes as taking
-use Rattle.document.specs.Events.{Event, arrive, frame, hear, take as takes, count}
+use Rattle.document.specs.Events.{arrive, frame, hear, take as takes, count}
 use Rattle.running.specs.Events.{World, ended, happens}
 use Rattle.fates.specs.Isolation.{named, Outside, OnlyAt, Isolation}
 
@@ -104,6 +101,7 @@ module _ (w : World) (i n : ℕ) (store : List ℕ) (within : Within i (w .store
         frame = refl;
       }
 
+  -- only the row has
   only-row : OnlyAt i w (with-shelf (w .shelf))
   only-row =
       record {
@@ -149,6 +147,7 @@ module _ (card : Card) (w : World) (unit : ℕ) (right : Bool) (out : A.Admitted
   abbrev way : A.Admitted
   way = admitted card (w .shelf) (length (w .store)) (length (w .rows)) unit right
 
+  -- let in at its place
   at-place : ((number : ℕ) → out (Refused number) ≡ w) →
       ((i : ℕ) → Housed i (unitAt (w .shelf) i) (length (w .store)) → right ≡ true → OnlyAt i w (out (At i))) →
       (place : ℕ) → findIn (declared (w .shelf)) unit ≡ found.At place → OnlyAt place w (out way)
@@ -163,6 +162,7 @@ module _ (card : Card) (w : World) (unit : ℕ) (right : Bool) (out : A.Admitted
           subst (λ p. OnlyAt p w (out (At i))) same
           (let-in i (let-in-housed card (w .shelf) (length (w .store)) (length (w .rows)) unit right i l .0) (l .fits))
 
+  -- not declared
   nowhere : ((number : ℕ) → out (Refused number) ≡ w) → findIn (declared (w .shelf)) unit ≡ found.Nothing → out way ≡ w
   nowhere refusal missing = go way refl
     where
@@ -173,6 +173,7 @@ module _ (card : Card) (w : World) (unit : ℕ) (right : Bool) (out : A.Admitted
           let z : _≡_ {A = ℕ} 0 1 = cc in
           absurd (omega arith)
 
+  -- both
   both : ((number : ℕ) → out (Refused number) ≡ w) →
       ((i : ℕ) → Housed i (unitAt (w .shelf) i) (length (w .store)) → right ≡ true → OnlyAt i w (out (At i))) →
       (n : ℕ) → some unit ≡ some n → Alone w n (out way)
@@ -230,6 +231,7 @@ module _ (w : World) (i : ℕ) (housed : Housed i (unitAt (w .shelf) i) (length 
   taken (leaves.Queue q) buffer = only-unit w i #taken (w .store) (as-was i (w .store)) (taking.without u q)
   taken leaves.Empty buffer = only-none w i
 
+-- each event that names a unit
 pub isolation : Isolation
 unfolding named happens decided settledTo
 isolation card w (arrive unit c) n e =

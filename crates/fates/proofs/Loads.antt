@@ -33,6 +33,7 @@ use Rattle.refining.proofs.Opens.{opened-alike}
 use Rattle.refining.proofs.Steps.{StepAlike, arrive-step, frame-step, hear-step, take-step, count-step}
 use Rattle.fates.specs.Loaded.{FromLoad}
 
+-- every event does on both the same
 step-alike : (card : Card) (w : World) (d : D.Shelf) → WorldAlike card w d → (e : Event) → StepAlike card w d (happens card w e) (document.happensTo d e)
 step-alike card w d a (arrive unit c) = arrive-step card w d a unit c
 step-alike card w d a (frame buffer) = frame-step card w d a buffer
@@ -59,18 +60,22 @@ module _ (P : document.Step → Type 0) where
   at-unit (found.At place) false inside outside h k = k 10
   at-unit found.Nothing right inside outside h k = k 9
 
+  -- a frame is let in or refused
   either-way : (b : Bool) (x y : document.Step) → P x → P y → P (cond b x y)
   either-way true x y p q = p
   either-way false x y p q = q
 
+-- a shelf with 32 requests
 abbrev pub Full : D.Shelf → Type 0
 Full d = length (d .arbiter .asks) ≡ 32
 
+-- renewing them keeps them 32
 renewed-many : (bus at : ℕ) (now : List ℕ) (n : ℕ) (asks : List ℕ) → length (renewedFrom bus at now n asks) ≡ length asks
 unfolding renewedFrom
 renewed-many bus at now n [] = refl
 renewed-many bus at now n (a ∷ asks) = let h = renewed-many bus at now (suc n) asks in omega arith
 
+-- a take leaves the arbiter alone
 took-from : (cells : List D.Cell) (d : D.Shelf) (place q : ℕ) (buffer : List ℕ) → T.takesFrom cells d place q buffer .shelf .arbiter ≡ d .arbiter
 unfolding T.takesFrom
 took-from [] d place q buffer = refl
@@ -81,6 +86,7 @@ unfolding T.takesBy
 took (leaves.Queue q) d place buffer = took-from (D.queueAt (D.unitAt d place) q) d place q buffer
 took leaves.Empty d place buffer = refl
 
+-- every event keeps them
 full-kept : (d : D.Shelf) (e : Event) → Full d → Full (document.happensTo d e .shelf)
 unfolding document.happensTo arrived handedIn
 full-kept d (arrive unit c) full = at-unit (λ s. Full (s .shelf)) (D.findIn (d .units) unit) (eqb (length c) 53) _ _ (λ place. full) (λ number. full)
@@ -96,6 +102,7 @@ full-kept d (take unit buffer) full =
     (λ place. ap (λ a. length (a .asks)) (took (T.leaving (D.unitAt d place)) d place buffer) ∙ full) (λ number. full)
 full-kept d (count unit) full = at-unit (λ s. Full (s .shelf)) (D.findIn (d .units) unit) (eqb 0 0) _ _ (λ place. full) (λ number. full)
 
+-- over every sequence
 full-stays : (d : D.Shelf) (es : List Event) → Full d → Full (document.becomes d es)
 unfolding document.becomes
 full-stays d [] full = full
@@ -124,6 +131,7 @@ placed k (m ∷ ns) n i e =
     let less : i - k ≡ suc (i - suc k) = omega arith in
     (omega arith, omega arith, ap (λ j. getD (m ∷ ns) j 0) less ∙ p .2))
 
+-- the same of the units
 pub found-at : (us : List D.Unit) (n i : ℕ) → D.findIn us n ≡ found.At i → (i < length us) × (D.numberOf (getD us i D.blank) ≡ n)
 found-at us n i e =
     let p = placed 0 (map D.numberOf us) n i e in
