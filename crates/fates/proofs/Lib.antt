@@ -1,5 +1,6 @@
 pub mod Isolated
 pub mod Fated
+pub mod Damages
 pub mod Loads
 pub mod Holding
 pub mod Going

@@ -102,11 +102,12 @@ SoundWith frame.Length P = ⊥
 SoundWith frame.Damaged P = ⊥
 SoundWith (frame.Cell target class header) P = P target class header
 
--- addressed, and not too wide: "queue at capacity", or room in the queue
+-- addressed, and not "VPI above 255 at a UNI unit"
 pub record Fits (lines : List Line) (u : D·Unit) (target : T.Target) (header : ℕ) : Type 0 where
   pub addressed : Addressed lines u target
   pub narrow : TooWide (u .settings .link) header → ⊥
 
+-- the queue of a class: its capacity, its limit and how many cells it holds
 abbrev pub room : D·Unit → ℕ → ℕ
 room u class = capacity (u .limits) (queueOf (u .limits) class)
 
@@ -139,7 +140,7 @@ ArrivalFateIff = (lines : List Line) (u : D·Unit) (c : List ℕ) (fate : A.Arri
 abbrev pub HearingFateIff : Type 0
 HearingFateIff = (lines : List Line) (u : D·Unit) (h : B.Heard) (fate : Q.Hearing) → (hearingOf lines u h ≡ fate) ↔ HearingIs lines u h fate
 
--- a declared unit's event says that fate, and "exactly that fate's counters rise": these lines and no others are new in the history
+-- a declared unit's event says that fate, and exactly that fate's counters rise: these lines and no others are new in the history
 pub record Tells (shelf : Shelf) (place : ℕ) (e : Event) (said : Said) (counted : List Counter) : Type 0 where
   pub says : happensTo shelf e .said ≡ said
   pub counts : happensTo shelf e .shelf .history ≡ entries (numberOf (unitAt shelf place)) counted ++ shelf .history
