@@ -156,7 +156,7 @@ fn feed(
     let mut so_far = held;
     let mut from: usize = 0;
     while from < part.len() {
-        let end = line::field_end(part, from, b'\n');
+        let end = text::field_end(part, from, b'\n');
         so_far = keep(line, so_far, &part[from..end]);
         if end < part.len() {
             from = end + 1;

@@ -1,17 +1,15 @@
 -- The laws of the console's tables: past their ends, and a line by its word and its count of fields. Assumes nothing.
 use mathlib.Core.Path.{_≡_, refl, sym, ap, _∙_}
 use mathlib.Core.List.{List}
-use Prim.Native.Nat.{ℕ, _≤_, _<_}
+use Prim.Native.Nat.{ℕ, _≤_}
 use native.Mathlib.Omega.{arith}
 use lib.Dec.{eqb}
 use lib.ListN.{length, getD, List·getD-eq-default}
-use borrow.Author.Tests.{eq-eqb, ne-eqb, lt-ltb, le-ltb}
-use Rattle.line.specs.Text.{fieldsOf, fieldOf}
-use Rattle.fields.specs.Fields.{placeIn}
-use Rattle.command.specs.declared.Reading.{Reading}
-use Rattle.command.specs.declared.Reading.the-variants.{Bad}
-use Rattle.command.specs.Names.{settable}
-use Rattle.command.specs.Commands.{counts, lines, spoken, stateIn, stateLine}
+use borrow.Author.Tests.{eq-eqb, ne-eqb}
+use Rattle.text.specs.Text.{fieldsOf}
+use Rattle.lent.specs.declared.Reading.{Reading}
+use Rattle.lent.specs.declared.Reading.the-variants.{Bad}
+use Rattle.command.specs.Commands.{counts, lines, spoken}
 
 -- no command past the last, and no line of one
 pub past-counts : (k : ℕ) → 11 ≤ k → 0 ≡ getD counts k 0
@@ -26,16 +24,6 @@ from-6 k n0 n1 n2 n3 n4 n5 = omega arith
 
 pub from-11 : (k : ℕ) → 6 ≤ k → (k ≡ 6 → ⊥) → (k ≡ 7 → ⊥) → (k ≡ 8 → ⊥) → (k ≡ 9 → ⊥) → (k ≡ 10 → ⊥) → 11 ≤ k
 from-11 k h n6 n7 n8 n9 n10 = omega arith
-
--- a field of the shelf, and none
-module _ (fs : List (List ℕ)) (f : ℕ) (e : f ≡ placeIn settable (fieldOf 2 fs)) where
-  pub a-field : f < 21 → stateIn f fs ≡ stateLine fs
-  unfolding stateLine
-  a-field h = simp (sym e, lt-ltb _ _ h)
-
-  pub no-field : 21 ≤ f → Bad ≡ stateLine fs
-  unfolding stateLine
-  no-field h = simp (sym e, le-ltb _ _ h)
 
 -- as many fields as the command has, or not
 module _ (k : ℕ) (text : List ℕ) (m n : ℕ) (e : m ≡ length (fieldsOf text)) (d : n ≡ getD counts k 0) where

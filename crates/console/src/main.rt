@@ -1,11 +1,11 @@
 // The console: one command a line on standard input, one answer a line on standard output (docs/CONSOLE.md).
 use answer::Answer;
 use card::Card;
-use command::Bank;
-use command::Command;
-use command::Reading;
 use counters::Counters;
 use entry::Counted;
+use lent::Bank;
+use lent::Command;
+use lent::Reading;
 use owned::After;
 use shelf::Shelf;
 ghost use mathlib.Core.Path.{_≡_};
@@ -174,8 +174,8 @@ fn unhexed(line: &[u8], from: usize, text: &mut [u8]) -> usize
     let f = least(from, line.len());
     let hex = &line[f..];
     if hex.len() / 2 <= text.len() {
-        if words::is_hex(hex) {
-            words::unhex(hex, text, 0);
+        if hex::is_hex(hex) {
+            hex::unhex(hex, text, 0);
             return within(hex.len() / 2, text);
         }
     }
@@ -362,8 +362,8 @@ fn say_poke(
     let e = least(n, b.len());
     if to <= e {
         if hex.len() / 2 <= e - to {
-            if words::is_hex(hex) {
-                words::unhex(hex, b, to);
+            if hex::is_hex(hex) {
+                hex::unhex(hex, b, to);
                 return words::put(out, at, b"poke\tok");
             }
         }
@@ -393,8 +393,43 @@ fn say_shelf(w: World, out: &mut [u8], at: usize) -> usize
     laid::shelf(out, at, shelf)
 }
 
-// An event, or what changes the world alone.
+// What changes the world alone, or an event, or what is told.
 fn act(
+    w: World,
+    memory: &mut [u8],
+    store: &mut [u8],
+    text: &mut [u8],
+    line: &[u8],
+    command: Command,
+    out: &mut [u8],
+    at: usize,
+) -> Step
+    requires { ⌜ at + 20000 ≤ length (now out) ⌝ }
+{
+    match command {
+        Command::Card(card) => moved(with_card(w, card), words::put(out, at, b"card\tok")),
+        Command::Lend { bank, length, byte } => moved(
+            with_bank(w, memory, store, bank, length as usize, byte),
+            words::put(out, at, b"lend\tok"),
+        ),
+        Command::LendRows { count, value } => moved(
+            with_rows(w, count as usize, value),
+            words::put(out, at, b"lend\tok"),
+        ),
+        Command::State {
+            field,
+            place,
+            value,
+        } => moved(
+            with_field(w, field, place, value),
+            words::put(out, at, b"state\tok"),
+        ),
+        _ => call(w, memory, store, text, line, command, out, at),
+    }
+}
+
+// An event that is handed bytes.
+fn call(
     w: World,
     memory: &mut [u8],
     store: &mut [u8],
@@ -409,15 +444,6 @@ fn act(
     let m = within(w.memory, memory);
     let s = within(w.store, store);
     match command {
-        Command::Card(card) => moved(with_card(w, card), words::put(out, at, b"card\tok")),
-        Command::Lend { bank, length, byte } => moved(
-            with_bank(w, memory, store, bank, length as usize, byte),
-            words::put(out, at, b"lend\tok"),
-        ),
-        Command::LendRows { count, value } => moved(
-            with_rows(w, count as usize, value),
-            words::put(out, at, b"lend\tok"),
-        ),
         Command::Load(from) => {
             let n = unhexed(line, from, text);
             say_load(w, &mut memory[..m], &store[..s], &text[..n], out, at)
@@ -430,18 +456,28 @@ fn act(
             let n = unhexed(line, from, text);
             say_hear(w, &mut store[..s], unit, &text[..n], out, at)
         }
+        _ => hand_out(w, memory, store, line, command, out, at),
+    }
+}
+
+// An event that hands bytes out.
+fn hand_out(
+    w: World,
+    memory: &mut [u8],
+    store: &mut [u8],
+    line: &[u8],
+    command: Command,
+    out: &mut [u8],
+    at: usize,
+) -> Step
+    requires { ⌜ at + 20000 ≤ length (now out) ⌝ }
+{
+    let s = within(w.store, store);
+    match command {
         Command::Frame(length) => say_frame(w, &mut store[..s], length as usize, out, at),
         Command::Take { unit, length } => {
             say_take(w, &store[..s], unit, length as usize, out, at)
         }
-        Command::State {
-            field,
-            place,
-            value,
-        } => moved(
-            with_field(w, field, place, value),
-            words::put(out, at, b"state\tok"),
-        ),
         _ => tell(w, memory, store, line, command, out, at),
     }
 }
@@ -534,7 +570,7 @@ fn answer_lines(
     let mut from: usize = 0;
     let mut at: usize = 0;
     loop {
-        let e = line::field_end(input, from, NEWLINE);
+        let e = text::field_end(input, from, NEWLINE);
         if input.len() <= e {
             return Batch {
                 world: w,

@@ -14,6 +14,7 @@ use denote.Array.{Array, array-vals, array-tells, array-lawful, array-makes}
 use denote.RattleType.{RattleType}
 use denote.Struct.Laws as LL
 use Rattle.counters.specs.declared.Counters.{Counters}
+use Rattle.counters.proofs.Settling.{Fitting}
 use Rattle.counters.proofs.Counters as T
 use Rattle.counters.proofs.Counters.Laws as T′
 
@@ -36,6 +37,26 @@ module _ {M : Type 1} (𝓤 : URA M) (H : Heap 𝓤) (A : Atoms 𝓤) (W : Given
 
   pub makes : Makes 𝓤 H A T.the-row Ok
   makes = LL.makes T.the-type T′.the-plain 𝓤 H A
+
+-- each of its counters is one of 32 bits
+pub fitting : (c : Counters) → Ok c (vals c) → Fitting c
+fitting c ok =
+    let are = LL.owed T.the-type T′.the-laws c (vals c) ok in
+    record {
+      arrived = are .0 .1;
+      hec = are .1 .0 .1;
+      ignored = are .1 .1 .0 .1;
+      misrouted = are .1 .1 .1 .0 .1;
+      inletfull = are .1 .1 .1 .1 .0 .1;
+      sent = are .1 .1 .1 .1 .1 .0 .1;
+      unheard = are .1 .1 .1 .1 .1 .1 .0 .1;
+      damaged = are .1 .1 .1 .1 .1 .1 .1 .0 .1;
+      queued = are .1 .1 .1 .1 .1 .1 .1 .1 .0 .1;
+      full = are .1 .1 .1 .1 .1 .1 .1 .1 .1 .0 .1;
+      clp = are .1 .1 .1 .1 .1 .1 .1 .1 .1 .1 .0 .1;
+      wide = are .1 .1 .1 .1 .1 .1 .1 .1 .1 .1 .1 .0 .1;
+      taken = are .1 .1 .1 .1 .1 .1 .1 .1 .1 .1 .1 .1 .0 .1;
+    }
 
 -- the byte offset of a row fits a usize
 pub offset-fits : (n l : ℕ) → n < l → l * 52 < 2 ^ 63 → n * 52 < 2 ^ 64

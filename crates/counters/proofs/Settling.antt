@@ -5,15 +5,15 @@ use native.Mathlib.Nat.{le-antisymm, eq-or-lt-of-le}
 use native.Mathlib.Omega.{arith}
 use mathlib.Core.Path.{_≡_, refl, sym, _∙_, ap}
 use mathlib.Core.Logic.{_⊎_, ⊎-elim}
-use mathlib.Core.Bool.{Bool, true, false, cond}
+use mathlib.Core.Bool.{Bool, true, false, not, _||_, cond, false≢true}
 use mathlib.Core.List.{List}
-use lib.Dec.{leb}
+use lib.Dec.{leb, eqb}
 use lib.ListN.{length, getD, set, length-set}
 use lib.Seq.{getD-set-same, getD-set-other}
-use borrow.Author.Tests.{le-leb, lt-leb, leb-true}
+use borrow.Author.Tests.{le-leb, lt-leb, leb-true, eqb-true, not-false}
 use Rattle.answer.specs.declared.Rises.{Rises}
 use Rattle.counters.specs.declared.Counters.{Counters}
-use Rattle.counters.specs.Counting.{value, zero, raised, rowAfter, settledTo, settled}
+use Rattle.counters.specs.Counting.{value, zero, raised, rowAfter, touches, settledTo, settled}
 
 -- each counter rises by its own bit, and no other
 pub raised-value : (c : Counters) (n k : ℕ) → k < 13 → value (raised c n) k ≡ (value c k + n / 2 ^ k % 2) % 2 ^ 32
@@ -37,6 +37,56 @@ raised-value c n (suc (suc (suc (suc (suc (suc (suc (suc (suc (suc (suc (suc (su
 chosen : (P : List Counters → Type 0) (b : Bool) (x y : List Counters) → (b ≡ true → P x) → (b ≡ false → P y) → P (cond b x y)
 chosen P true x y p q = p refl
 chosen P false x y p q = q refl
+
+-- each counter is one of so many
+pub record Fitting (c : Counters) : Type 0 where
+  pub arrived : c .arrived < 2 ^ 32
+  pub hec : c .hec < 2 ^ 32
+  pub ignored : c .ignored < 2 ^ 32
+  pub misrouted : c .misrouted < 2 ^ 32
+  pub inletfull : c .inletfull < 2 ^ 32
+  pub sent : c .sent < 2 ^ 32
+  pub unheard : c .unheard < 2 ^ 32
+  pub damaged : c .damaged < 2 ^ 32
+  pub queued : c .queued < 2 ^ 32
+  pub full : c .full < 2 ^ 32
+  pub clp : c .clp < 2 ^ 32
+  pub wide : c .wide < 2 ^ 32
+  pub taken : c .taken < 2 ^ 32
+
+same : (x : ℕ) → x < 2 ^ 32 → (x + 0) % 2 ^ 32 ≡ x
+same x h = omega arith
+
+-- by the empty set none rises
+pub raised-none : (c : Counters) → Fitting c → raised c 0 ≡ c
+unfolding raised
+raised-none c f =
+    λ i. record {
+      arrived = same (c .arrived) (f .arrived) i;
+      hec = same (c .hec) (f .hec) i;
+      ignored = same (c .ignored) (f .ignored) i;
+      misrouted = same (c .misrouted) (f .misrouted) i;
+      inletfull = same (c .inletfull) (f .inletfull) i;
+      sent = same (c .sent) (f .sent) i;
+      unheard = same (c .unheard) (f .unheard) i;
+      damaged = same (c .damaged) (f .damaged) i;
+      queued = same (c .queued) (f .queued) i;
+      full = same (c .full) (f .full) i;
+      clp = same (c .clp) (f .clp) i;
+      wide = same (c .wide) (f .wide) i;
+      taken = same (c .taken) (f .taken) i;
+    }
+
+neither : (a b : Bool) → (a || b) ≡ false → (a ≡ false) × (b ≡ false)
+neither true b h = absurd (false≢true (sym h))
+neither false b h = (refl, h)
+
+-- so a row that nothing touches stays
+pub untouched : (c : Counters) (rises : Rises) (i : ℕ) → Fitting c → touches rises i ≡ false → rowAfter c rises i ≡ c
+unfolding touches rowAfter
+untouched c rises i f h =
+    let none-of : (rises .anew ≡ false) × (not (eqb (getD (rises .each) i 0) 0) ≡ false) = neither (rises .anew) (not (eqb (getD (rises .each) i 0) 0)) h in
+    rw (none-of .0, eqb-true (getD (rises .each) i 0) 0 (not-false (eqb (getD (rises .each) i 0) 0) (none-of .1))) (raised-none c f)
 
 module _ (rows : List Counters) (rises : Rises) where
   -- the rows once the places before i are done

@@ -1,8 +1,8 @@
 -- The thirteen counters of a unit, and what an event does to the rows of them. Assumes nothing.
 use Prim.Native.Nat.{ℕ, zero as none, suc, _+_, _/_, _%_, _^_}
-use mathlib.Core.Bool.{cond}
+use mathlib.Core.Bool.{Bool, _||_, not, cond}
 use mathlib.Core.List.{List, [], _∷_}
-use lib.Dec.{leb}
+use lib.Dec.{leb, eqb}
 use lib.ListN.{getD, set}
 use Rattle.answer.specs.Answers.{#arrived, #hec, #ignored, #misrouted, #inletfull, #sent, #unheard, #damaged, #queued, #full, #clp, #wide, #taken}
 use Rattle.answer.specs.declared.Rises.{Rises}
@@ -60,6 +60,10 @@ raised c n =
 -- the row at place i: "A good load zeroes its rows", another event raises what it counts
 unfoldable pub rowAfter : Counters → Rises → ℕ → Counters
 rowAfter c rises i = cond (rises .anew) zero (raised c (getD (rises .each) i 0))
+
+-- whether a row has anything to become: it starts anew, or some counter rises
+unfoldable pub touches : Rises → ℕ → Bool
+touches rises i = rises .anew || not (eqb (getD (rises .each) i 0) 0)
 
 -- the rows before place n, from the first that changes, are done; the others are as they were
 unfoldable pub settledTo : List Counters → Rises → ℕ → List Counters

@@ -5,7 +5,7 @@ use answer::Rises;
 ghost use mathlib.Core.Path.{_≡_};
 ghost use Prim.Native.Nat.{_<_, _≤_};
 ghost use lib.ListN.{length, getD};
-ghost use Rattle.counters.specs.Counting.{zero as zeros, tick as ticked, raised as raisedBy, rowAfter, settled};
+ghost use Rattle.counters.specs.Counting.{zero as zeros, tick as ticked, raised as raisedBy, rowAfter, touches, settled};
 
 pub struct Counters {
     pub arrived: u32,
@@ -28,7 +28,10 @@ fn tick(bit: u16, counters: u16, value: u32) -> u32
     requires { ⌜ 0 < bit ⌝ }
     ensures { λ r. ⌜ r ≡ ticked bit counters value ⌝ }
 {
-    std::num::wrapping_add_u32(value, (counters / bit % 2) as u32)
+    if counters / bit % 2 == 1 {
+        return std::num::wrapping_add_u32(value, 1);
+    }
+    value
 }
 
 impl Counters {
@@ -110,20 +113,29 @@ pub fn last(rises: Rises) -> usize
     rises.to
 }
 
-// The only function that writes counters.
-pub fn settle(rows: &mut [Counters], done: Done) -> Reply
-    requires { ⌜ (done .rises .to ≤ 32) × (done .rises .to ≤ length (now rows)) ⌝ }
-    ensures { λ r. ⌜ (r ≡ done .reply) × (now (rows .exit) ≡ settled (now (rows .entry)) (done .rises)) ⌝ }
+// Whether the row at place i starts anew or has a counter raised; else it stays as it is.
+pub fn touched(rises: Rises, i: usize) -> bool
+    requires { ⌜ i < 32 ⌝ }
+    ensures { λ r. ⌜ r ≡ touches rises i ⌝ }
 {
-    let rises = rises_of(done);
+    let anew = rises.anew;
+    anew | (rises.each[i] != 0)
+}
+
+// The only function that writes counters. It is given no more than the rises: a shelf beside them would be copied through it.
+pub fn settle(rows: &mut [Counters], rises: Rises)
+    requires { ⌜ (rises .to ≤ 32) × (rises .to ≤ length (now rows)) ⌝ }
+    ensures { λ _. ⌜ now (rows .exit) ≡ settled (now (rows .entry)) rises ⌝ }
+{
     let n = last(rises);
     let mut i = first(rises);
     while i < n {
         let c = rows[i];
-        rows[i] = row_after(c, rises, i);
+        if touched(rises, i) {
+            rows[i] = row_after(c, rises, i);
+        }
         i += 1;
     }
-    reply_of(done)
 }
 
 // The row at a place; zeros where there is none.

@@ -21,13 +21,13 @@ use Rattle.document.specs.Hearing.{addressed, fateIn, hearingOf, keeping
 use Rattle.document.specs.Frame.{askingOf, isQueued, isAddressed, copies, someAddressed, heardEntries, sendsFrom, sends}
 use Rattle.document.specs.Take.{congested, takesFrom, takesBy}
 use Rattle.document.specs.Steps.{admitted, happensTo, gives}
-use mathlib.Core.List.{[], _∷_, _++_}
+use mathlib.Core.List.{[], _∷_}
 use Rattle.answer.specs.declared.Hearing.the-variants as hearing
 use Rattle.answer.specs.declared.Answer.the-variants.{Framed}
 use Rattle.arbiter.specs.Arbitration.{nobody}
 use Rattle.document.specs.Events.{frame, answers}
 use Rattle.document.specs.Examples.{lent}
-use Rattle.document.specs.Cases.{table, says, hears, arrivals, arrivals-say, refusals, refusals-say, frames, frames-say, heard as handed, heard-say, filled, to, pts, wide, turns, turns-say, late}
+use Rattle.document.specs.Cases.{table, says, hears, arrivals, arrivals-say, refusals, refusals-say, frames, frames-say, heard as handed, heard-say, discards, discards-say, filled, to, pts, wide, turns, turns-say, late}
 
 pub arrivals-hold : says (opened table) arrivals ≡ arrivals-say
 unfolding bits number minus divide remainder residue fields topOf word header-check routing-check upper routing address cell exclusiveOr sealed heard capacity queueOf limit tooWide lowest marked outgoing asking due renewedFrom run cyclic next someAsks highest first granted placeFrom hearsBy hearsIn serves served lineCell times arrivalCounts hearingCounts sentCounts unitsOf busOf wayBy wayFor wayOf arrivalBy inletBy arrived addressed fateIn hearingOf keeping hearingUnit handedIn askingOf isQueued isAddressed copies someAddressed heardEntries sendsFrom sends congested takesFrom takesBy admitted happensTo gives table wide says pts
@@ -44,6 +44,10 @@ frames-hold = refl
 pub heard-holds : says (opened table) handed ≡ heard-say
 unfolding bits number minus divide remainder residue fields topOf word header-check routing-check upper routing address cell exclusiveOr sealed heard capacity queueOf limit tooWide lowest marked outgoing asking due renewedFrom run cyclic next someAsks highest first granted placeFrom hearsBy hearsIn serves served lineCell times arrivalCounts hearingCounts sentCounts unitsOf busOf wayBy wayFor wayOf arrivalBy inletBy arrived addressed fateIn hearingOf keeping hearingUnit handedIn askingOf isQueued isAddressed copies someAddressed heardEntries sendsFrom sends congested takesFrom takesBy admitted happensTo gives table wide says pts
 heard-holds = refl
+
+pub discards-hold : says (opened table) discards ≡ discards-say
+unfolding bits number minus divide remainder residue fields topOf word header-check routing-check upper routing address cell exclusiveOr sealed heard capacity queueOf limit tooWide lowest marked outgoing asking due renewedFrom run cyclic next someAsks highest first granted placeFrom hearsBy hearsIn serves served lineCell times arrivalCounts hearingCounts sentCounts unitsOf busOf wayBy wayFor wayOf arrivalBy inletBy arrived addressed fateIn hearingOf keeping hearingUnit handedIn askingOf isQueued isAddressed copies someAddressed heardEntries sendsFrom sends congested takesFrom takesBy admitted happensTo gives table wide says pts
+discards-hold = refl
 
 -- mode one, limit 2, unit 0: below the limit, at it, and with CLP 0; cells 123 and 124
 pub one-holds : says (filled 0 0 1 (opened table)) (to 0 1 1 ∷ to 0 2 1 ∷ to 0 3 0 ∷ []) ≡ hears (hearing.Queued ∷ hearing.Clp ∷ hearing.Queued ∷ [])

@@ -1,10 +1,10 @@
 -- What no event changes: the lines, and the settings and limits of the units. Assumes nothing.
 use Prim.Native.Nat.{ℕ}
-use mathlib.Core.Path.{_≡_, refl, sym, ap, _∙_}
+use mathlib.Core.Path.{_≡_, refl, _∙_}
 use mathlib.Core.Bool.{Bool, true, false, cond}
 use mathlib.Core.List.{List, [], _∷_, map}
 use lib.Dec.{eqb}
-use lib.ListN.{length, getD, set}
+use lib.ListN.{length, set}
 use lib.Seq.{map-set-same}
 use Rattle.bus.specs.Frame.{heard, payload}
 use Rattle.bus.specs.declared.Heard as B
@@ -22,7 +22,7 @@ use Rattle.document.specs.Events.{Event, arrive, frame, hear, take, coun
 use Rattle.document.specs.Shelf.{Cell, Routed, Unit, Shelf, withInlet, withQueue, blank, unitAt, findIn}
 use Rattle.document.specs.Arrival.{arrived}
 use Rattle.document.specs.Hearing.{hearingOf, keeping, hearingUnit, handedIn}
-use Rattle.document.specs.Frame.{asHeard, allHear, sendsFrom, sends, sentIn}
+use Rattle.document.specs.Frame.{asHeard, allHear, sendsFrom, sends}
 use Rattle.document.specs.Take.{takesFrom, takesBy, leaving}
 use Rattle.document.specs.Steps.{Step, admitted, happensTo, becomes}
 

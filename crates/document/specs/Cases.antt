@@ -1,15 +1,14 @@
 -- Cases of document 01 on the document's shelf, to be computed: scripts of events, and what each says. Assumes nothing.
 use Prim.Native.Nat.{ℕ, _+_, _*_}
-use mathlib.Core.Bool.{Bool, true, false}
+use mathlib.Core.Bool.{true, false}
 use mathlib.Core.List.{List, [], _∷_, _++_, map}
-use lib.ListN.{replicate, getD, set}
+use lib.ListN.{replicate, set}
 use Rattle.octets.specs.Octets.{be4, four}
 use Rattle.header.specs.Fields.{fields, word}
 use Rattle.header.specs.Check.{check}
 use Rattle.header.specs.declared.Link.{Link}
 use Rattle.header.specs.declared.Link.the-variants.{Uni, Nni}
 use Rattle.routing.specs.Routing.{routing, check as routingCheck}
-use Rattle.routing.specs.declared.Target.{Target}
 use Rattle.routing.specs.declared.Target.the-variants as target
 use Rattle.bus.specs.Frame.{cell, sealed}
 use Rattle.arbiter.specs.Arbitration.{nobody}
@@ -20,9 +19,9 @@ use Rattle.answer.specs.declared.Arrival as A
 use Rattle.answer.specs.declared.Arrival.the-variants as arrival
 use Rattle.answer.specs.declared.Hearing as H
 use Rattle.answer.specs.declared.Hearing.the-variants as hearing
-use Rattle.answer.specs.declared.Answer.the-variants.{Refused, Arrived, Framed, Heard, Taken, Empty}
-use Rattle.document.specs.Events.{Event, arrive, frame, hear, take, count, Said, answers, counts, Back}
-use Rattle.document.specs.Shelf.{Cell, Unit, Shelf, opened, unitAt, withQueue, after}
+use Rattle.answer.specs.declared.Answer.the-variants.{Refused, Arrived, Framed, Heard}
+use Rattle.document.specs.Events.{Event, arrive, frame, hear, take, count, Said, answers}
+use Rattle.document.specs.Shelf.{Unit, Shelf, unitAt, withQueue, after}
 use Rattle.document.specs.Steps.{gives}
 use Rattle.document.specs.Examples.{one, four as limits, uni, lent}
 
@@ -136,6 +135,13 @@ filled place q n d = after d place (withQueue (unitAt d place) q (replicate n (r
 
 abbrev pub to : ℕ → ℕ → ℕ → Event
 to unit class header = hear unit (sound (routing (target.Unit unit) class) header)
+
+-- with no cell in any queue before: in mode one the third with CLP 1, in mode four the third of class 0
+abbrev pub discards : List Event
+discards = to 0 1 0 ∷ to 0 1 0 ∷ to 0 1 1 ∷ to 3 0 0 ∷ to 3 0 0 ∷ to 3 0 0 ∷ []
+
+abbrev pub discards-say : List Said
+discards-say = hears (hearing.Queued ∷ hearing.Queued ∷ hearing.Clp ∷ hearing.Queued ∷ hearing.Queued ∷ hearing.Full ∷ [])
 
 -- F. 004's figures 15 and 16: PT of the cells that leave; in figure 16 a class 0 cell leaves before them, marked too
 unfoldable pub pts : Shelf → ℕ → ℕ → List ℕ

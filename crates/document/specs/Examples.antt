@@ -10,11 +10,10 @@ use Rattle.outlet.specs.declared.Limits.{Limits}
 use Rattle.shelf.specs.declared.Settings.{Settings}
 use Rattle.arbiter.specs.Arbitration.{nobody}
 use Rattle.line.specs.declared.Line.{Line}
-use Rattle.line.specs.declared.Line.the-variants.{Bus, Unit as L·Unit, Vp, Drop, Page, Vc, Mc}
+use Rattle.line.specs.declared.Line.the-variants.{Bus, Unit as L·Unit, Page, Vc}
 use Rattle.answer.specs.declared.Arrival.the-variants as arrival
 use Rattle.answer.specs.declared.Answer.the-variants.{Arrived, Framed, Taken, Empty}
-use Rattle.counters.specs.declared.Counters as C
-use Rattle.document.specs.Events.{Event, arrive, frame, hear, take, count, Said, answers, counts, Back}
+use Rattle.document.specs.Events.{Event, arrive, frame, take, count, Said, answers, counts, Back}
 
 abbrev pub back : Said → List ℕ → Back
 back said bytes = record { said = said; bytes = bytes }

@@ -1,6 +1,6 @@
 -- The document's shelf: the table as its lines, inlets and outlets as lists of cells, requests and grants by unit number. Assumes nothing.
 use Prim.Native.Nat.{ℕ}
-use mathlib.Core.Bool.{Bool, false, cond}
+use mathlib.Core.Bool.{false}
 use mathlib.Core.List.{List, [], _∷_, _++_, map}
 use lib.ListN.{length, getD, set}
 use Rattle.header.specs.declared.Link.the-variants.{Uni}

@@ -31,11 +31,14 @@ use Rattle.card.specs.declared.Card.{Card}
 use Rattle.shelf.specs.declared.Shelf.{Shelf}
 use Rattle.answer.specs.declared.Done.{Done}
 use Rattle.answer.specs.declared.Reply.{Reply}
+use Rattle.answer.specs.declared.Rises.{Rises}
 use Rattle.counters.proofs.Counters as T
 use Rattle.counters.proofs.Row as R
 use Rattle.answer.proofs.Done as D
 use Rattle.answer.proofs.Done.Laws as D′
 use Rattle.answer.proofs.Reply as N
+use Rattle.answer.proofs.Rises as Rs
+use Rattle.answer.proofs.Rises.Laws as Rs′
 use Rattle.answer.proofs.Reply.Laws as N′
 use Rattle.card.proofs.Card as C
 use Rattle.card.proofs.Card.Laws as C′
@@ -259,6 +262,9 @@ module _ {M : Type 1} {𝓤 : URA M} {H : Heap 𝓤} {A : Atoms 𝓤} (W : Given
 
   pub done-typed : (x : Done) (v : Val) → Is D.the-row x (v ∷ []) → Typed D′.mir v
   done-typed x v ok = LL.lawful D.the-type D′.the-laws 𝓤 H A W .typed x (v ∷ []) ok .0
+
+  pub rises-typed : (x : Rises) (v : Val) → Is Rs.the-row x (v ∷ []) → Typed Rs′.mir v
+  rises-typed x v ok = LL.lawful Rs.the-type Rs′.the-laws 𝓤 H A W .typed x (v ∷ []) ok .0
 
   pub reply-typed : (x : Reply) (v : Val) → Is N.the-row x (v ∷ []) → Typed N′.mir v
   reply-typed x v ok = LL.lawful N.the-type N′.the-laws 𝓤 H A W .typed x (v ∷ []) ok .0

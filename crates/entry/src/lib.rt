@@ -31,7 +31,9 @@ pub fn arrive(
 {
     let n = rows.len();
     let done = arriving::arrive(card, shelf, memory, store, n, unit, cell);
-    counters::settle(rows, done)
+    let rises = counters::rises_of(done);
+    counters::settle(rows, rises);
+    counters::reply_of(done)
 }
 
 // A frame on the bus.
@@ -49,7 +51,9 @@ pub fn frame(
 {
     let n = rows.len();
     let done = framing::frame(card, shelf, store, n, buffer);
-    counters::settle(rows, done)
+    let rises = counters::rises_of(done);
+    counters::settle(rows, rises);
+    counters::reply_of(done)
 }
 
 // The oldest cell is taken from a unit.
@@ -67,7 +71,9 @@ pub fn take(
 {
     let n = rows.len();
     let done = taking::take(card, shelf, store, n, unit, buffer);
-    counters::settle(rows, done)
+    let rises = counters::rises_of(done);
+    counters::settle(rows, rises);
+    counters::reply_of(done)
 }
 
 // A frame is handed in to a unit.
@@ -85,7 +91,9 @@ pub fn hear(
 {
     let n = rows.len();
     let done = hearing::hear(card, shelf, store, n, unit, frame);
-    counters::settle(rows, done)
+    let rises = counters::rises_of(done);
+    counters::settle(rows, rises);
+    counters::reply_of(done)
 }
 
 // A route table is loaded.
@@ -102,7 +110,9 @@ pub fn load(
 {
     let n = rows.len();
     let done = loading::load(card, text, memory, store, n);
-    counters::settle(rows, done)
+    let rises = counters::rises_of(done);
+    counters::settle(rows, rises);
+    counters::reply_of(done)
 }
 
 // What a count answers: the counters of the unit, or the number of the refusal.

@@ -8,10 +8,10 @@ use lib.Dec.{eqb}
 use lib.ListN.{length, drop, drop-of-length-le, length-append}
 use borrow.Author.Tests.{eqb-true}
 use Rattle.octets.specs.Octets.{splice}
-use Rattle.line.proofs.Numbers.{first, second}
-use Rattle.words.specs.Hex.{isHex, unhex}
-use Rattle.words.proofs.HexLaws.{length-unhex}
-use Rattle.words.proofs.Splices.{splice-on}
+use Rattle.text.proofs.Numbers.{first, second}
+use Rattle.hex.specs.Hex.{isHex, unhex}
+use Rattle.hex.proofs.HexLaws.{length-unhex}
+use Rattle.hex.proofs.Splices.{splice-on}
 use Rattle.event.specs.Events.{hexes, headOf}
 
 -- what n hex digits are

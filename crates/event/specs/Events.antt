@@ -5,8 +5,8 @@ use mathlib.Core.List.{List, _++_}
 use lib.Dec.{eqb}
 use lib.ListN.{length, getD}
 use Rattle.octets.specs.Octets.{four}
-use Rattle.line.specs.Text.{fieldsOf, fieldOf, same}
-use Rattle.words.specs.Hex.{isHex, unhex}
+use Rattle.text.specs.Text.{fieldsOf, fieldOf, same}
+use Rattle.hex.specs.Hex.{isHex, unhex}
 use Rattle.words.specs.Decimals.{numberOf}
 use Rattle.words.specs.declared.Numeral as Num
 use Rattle.words.specs.declared.Numeral.the-variants.{Is, Above, None}

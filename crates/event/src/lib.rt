@@ -3,7 +3,7 @@ use words::Numeral;
 ghost use mathlib.Core.Path.{_≡_};
 ghost use mathlib.Core.Bool.{true};
 ghost use lib.ListN.{length};
-ghost use Rattle.line.specs.Text.{fieldsOf, fieldOf};
+ghost use Rattle.text.specs.Text.{fieldsOf, fieldOf};
 ghost use Rattle.event.specs.Events.{unitOf, on, hexes as hexesOf, headOf, arriveOf, eventOf};
 
 pub enum Event {
@@ -45,7 +45,7 @@ fn hexes(s: &[u8], n: usize) -> bool
     if s.len() != n {
         return false;
     }
-    words::is_hex(s)
+    hex::is_hex(s)
 }
 
 // The header, its check and the payload byte.
@@ -54,8 +54,8 @@ fn head(header: &[u8], byte: &[u8]) -> [u8; 6]
     ensures { λ r. ⌜ r ≡ headOf (now (header .entry)) (now (byte .entry)) ⌝ }
 {
     let mut bytes = [0u8; 6];
-    words::unhex(header, &mut bytes, 0);
-    words::unhex(byte, &mut bytes, 5);
+    hex::unhex(header, &mut bytes, 0);
+    hex::unhex(byte, &mut bytes, 5);
     bytes
 }
 
@@ -103,19 +103,19 @@ fn count_event(unit: &[u8]) -> Event
 pub fn read(text: &[u8]) -> Event
     ensures { λ r. ⌜ r ≡ eventOf (now (text .entry)) ⌝ }
 {
-    let n = line::count(text);
-    let word = line::field(text, 1);
-    if line::is(word, b"arrive") {
+    let n = text::count(text);
+    let word = text::field(text, 1);
+    if text::is(word, b"arrive") {
         if n != 4 {
             return Event::Bad;
         }
         return arrive_event(
-            line::field(text, 2),
-            line::field(text, 3),
-            line::field(text, 4),
+            text::field(text, 2),
+            text::field(text, 3),
+            text::field(text, 4),
         );
     }
-    if line::is(word, b"frame") {
+    if text::is(word, b"frame") {
         if n != 1 {
             return Event::Bad;
         }
@@ -124,11 +124,11 @@ pub fn read(text: &[u8]) -> Event
     if n != 2 {
         return Event::Bad;
     }
-    if line::is(word, b"take") {
-        return take_event(line::field(text, 2));
+    if text::is(word, b"take") {
+        return take_event(text::field(text, 2));
     }
-    if line::is(word, b"count") {
-        return count_event(line::field(text, 2));
+    if text::is(word, b"count") {
+        return count_event(text::field(text, 2));
     }
     Event::Bad
 }

@@ -148,6 +148,7 @@ module _ (card : Card) (w : World) (d : D.Shelf) (a : WorldAlike card w d) where
                 named = found-at (d .units) (d .granted) i there .1;
                 cell = grant-held i (found-at (d .units) (d .granted) i there .0) (found-at (d .units) (d .granted) i there .1);
               };
+          found = there;
           oldest = r;
           others = rest;
           waiting = e;

@@ -7,9 +7,10 @@ use mathlib.Core.List.{List, _∷_}
 use lib.Dec.{eqb}
 use lib.ListN.{length, getD}
 use Rattle.arbiter.specs.Arbitration.{nobody, besides, due, cyclic, lastAt, Asks, FirstOf}
+use Rattle.shelf.specs.declared.Found.the-variants.{At}
 use Rattle.answer.specs.declared.Answer.the-variants.{Framed}
 use Rattle.document.specs.Events.{frame, answers}
-use Rattle.document.specs.Shelf.{Routed, Shelf, numberOf, unitAt}
+use Rattle.document.specs.Shelf.{Routed, Shelf, numberOf, findIn, unitAt}
 use Rattle.document.specs.Frame.{requests, frameOf, sentIn, granting}
 use Rattle.document.specs.Steps.{happensTo}
 use Rattle.fates.specs.Held.{unitAfter}
@@ -46,6 +47,7 @@ pub record GrantedInTurn (d : Shelf) : Type 0 where
 -- "Then the unit granted in the frame before sends its oldest cell.": the frame is that cell's, and the cell has left the inlet
 pub record SendsOldest (d : Shelf) (buffer : List ℕ) : Type 0 where
   pub sender : Waits d (d .granted)
+  pub found : findIn (d .units) (d .granted) ≡ At (sender .place)
   pub oldest : Routed
   pub others : List Routed
   pub waiting : unitAt d (sender .place) .inlet ≡ oldest ∷ others

@@ -8,14 +8,14 @@ use native.Mathlib.Omega.{arith}
 use lib.Dec.{eqb, leb}
 use lib.ListN.{length, getD, take, drop}
 use borrow.Author.Tests.{eq-eqb, ne-eqb, le-leb, lt-leb, leb-true}
-use Rattle.line.specs.Text.{at, push, split, fieldsOf, fieldOf, same}
-use Rattle.line.proofs.Split.{split-first, split-more, split-last}
+use Rattle.text.specs.Text.{at, push, split, fieldsOf, fieldOf, same}
+use Rattle.text.proofs.Split.{split-first, split-more, split-last}
 use Rattle.octets.specs.Octets.{splice}
-use Rattle.line.specs.Digits.{decimalOf, value}
+use Rattle.text.specs.Digits.{decimalOf, value}
 use Rattle.words.specs.Decimals.{numberOf}
 use Rattle.words.specs.declared.Numeral.{Numeral}
 use Rattle.words.specs.declared.Numeral.the-variants as numeral
-use Rattle.words.specs.Hex.{isHex, unhex}
+use Rattle.hex.specs.Hex.{isHex, unhex}
 use Rattle.fields.specs.declared.Num.the-variants.{Is}
 use Rattle.fields.specs.declared.Octet.the-variants.{Byte, NoByte}
 use Rattle.fields.specs.declared.Span.the-variants.{From, NoSpan}

@@ -4,8 +4,8 @@ use mathlib.Core.Bool.{_&&_, cond}
 use mathlib.Core.List.{List, [], _∷_}
 use lib.Dec.{eqb, leb}
 use lib.ListN.{length, getD}
-use Rattle.line.specs.Text.{fieldsOf, fieldOf, same}
-use Rattle.words.specs.Hex.{isHex, unhex}
+use Rattle.text.specs.Text.{fieldsOf, fieldOf, same}
+use Rattle.hex.specs.Hex.{isHex, unhex}
 use Rattle.words.specs.Decimals.{numberOf}
 use Rattle.words.specs.declared.Numeral.{Numeral}
 use Rattle.words.specs.declared.Numeral.the-variants as numeral

@@ -1,7 +1,7 @@
 // What a field of a console line says: a word by its place among names, a number, a unit, a byte, bytes in hex (docs/CONSOLE.md).
 use words::Numeral;
 ghost use mathlib.Core.Path.{_≡_};
-ghost use Rattle.line.specs.Text.{fieldsOf};
+ghost use Rattle.text.specs.Text.{fieldsOf};
 ghost use Rattle.fields.specs.Fields.{placeIn, numberIn, unitIn, byteIn, spanIn};
 
 // A number in its range, or none.
@@ -31,8 +31,8 @@ pub fn find(names: &[u8], w: &[u8]) -> usize
     let mut from: usize = 0;
     let mut k: usize = 0;
     loop {
-        let e = line::field_end(names, from, TAB);
-        if line::is(&names[from..e], w) {
+        let e = text::field_end(names, from, TAB);
+        if text::is(&names[from..e], w) {
             return k;
         }
         k += 1;
@@ -47,7 +47,7 @@ pub fn find(names: &[u8], w: &[u8]) -> usize
 pub fn number_at(s: &[u8], f: u8, most: u64) -> Num
     ensures { λ r. ⌜ r ≡ numberIn (fieldsOf (now (s .entry))) f most ⌝ }
 {
-    match words::number(line::field(s, f), most) {
+    match words::number(text::field(s, f), most) {
         Numeral::Is(n) => Num::Is(n),
         Numeral::Above => Num::NoNum,
         Numeral::None => Num::NoNum,
@@ -58,7 +58,7 @@ pub fn number_at(s: &[u8], f: u8, most: u64) -> Num
 pub fn unit_at(s: &[u8], f: u8) -> Octet
     ensures { λ r. ⌜ r ≡ unitIn (fieldsOf (now (s .entry))) f ⌝ }
 {
-    match words::number(line::field(s, f), 255) {
+    match words::number(text::field(s, f), 255) {
         Numeral::Is(n) => Octet::Byte(n as u8),
         Numeral::Above => Octet::Byte(255),
         Numeral::None => Octet::NoByte,
@@ -69,13 +69,13 @@ pub fn unit_at(s: &[u8], f: u8) -> Octet
 pub fn byte_at(s: &[u8], f: u8) -> Octet
     ensures { λ r. ⌜ r ≡ byteIn (fieldsOf (now (s .entry))) f ⌝ }
 {
-    let h = line::field(s, f);
+    let h = text::field(s, f);
     if h.len() != 2 {
         return Octet::NoByte;
     }
-    if words::is_hex(h) {
+    if hex::is_hex(h) {
         let mut byte = [0u8; 1];
-        words::unhex(h, &mut byte, 0);
+        hex::unhex(h, &mut byte, 0);
         return Octet::Byte(byte[0]);
     }
     Octet::NoByte
@@ -85,11 +85,11 @@ pub fn byte_at(s: &[u8], f: u8) -> Octet
 pub fn span_at(s: &[u8], f: u8, most: usize) -> Span
     ensures { λ r. ⌜ r ≡ spanIn (now (s .entry)) f most ⌝ }
 {
-    let h = line::field(s, f);
+    let h = text::field(s, f);
     if most < h.len() / 2 {
         return Span::NoSpan;
     }
-    if words::is_hex(h) {
+    if hex::is_hex(h) {
         return Span::From(s.len() - h.len());
     }
     Span::NoSpan

@@ -1,11 +1,12 @@
 -- A unit sends; a frame ends. Assumes nothing.
 use Prim.Native.Nat.{ℕ, _+_, _%_, _^_, _≤_, _<_, min}
+use native.Mathlib.Nat.{zero-add}
 use native.Mathlib.Omega.{arith}
 use mathlib.Core.Path.{_≡_, refl, sym, ap, subst, _∙_}
 use mathlib.Core.Bool.{Bool, true, false}
-use mathlib.Core.List.{List, [], _∷_, _++_}
+use mathlib.Core.List.{List, [], _∷_, _++_, append-nil}
 use lib.Bits.{bitOr}
-use lib.ListN.{length, getD, set, take, length-take, length-set, length-append}
+use lib.ListN.{length, getD, set, take, length-take, length-set, length-append, drop-of-length-le}
 use lib.Seq.{getD-set-same, getD-set-other}
 use borrow.Author.Tests.{eq-eqb, ne-eqb}
 use Rattle.arbiter.specs.declared.Granted.{Granted}
@@ -15,7 +16,7 @@ use Rattle.bus.specs.declared.Heard as H
 use Rattle.outlet.specs.Outlets.{RingFits}
 use Rattle.outlet.specs.declared.Ring.{Ring}
 use Rattle.store.specs.Rings.{popped}
-use Rattle.octets.specs.Octets.{part}
+use Rattle.octets.specs.Octets.{splice, part}
 use Rattle.store.specs.Places.{slotAt, inletSlot, cellAt}
 use Rattle.store.proofs.Rounds.{popped-fits}
 use Rattle.store.proofs.Slots.{slot-inside}
@@ -40,6 +41,10 @@ head-inside place bytes u h =
 pub sealed-length : (cell : List ℕ) → length cell ≡ 56 → length (sealed cell) ≡ 57
 unfolding sealed
 sealed-length cell e = length-append cell (parity cell ∷ []) ∙ ap (λ n. n + 1) e
+
+-- 56 bytes laid over 56 others
+pub spliced-whole : (b v : List ℕ) → length v ≡ length b → splice b 0 v ≡ v
+spliced-whole b v e = rw zero-add (ap (λ x. v ++ x) (drop-of-length-le b {i = length v} (omega (arith, e))) ∙ append-nil v)
 
 -- a unit without its oldest cell is housed as before, and so are the others
 module _ (shelf : Shelf) (place bytes : ℕ) (u : U.Unit) (same : u ≡ unitAt shelf place) (ring : Ring) (out : ring ≡ popped (u .inlet) 4) where

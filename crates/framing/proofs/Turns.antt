@@ -6,7 +6,7 @@ use mathlib.Core.Path.{_≡_, refl, sym, ap, _∙_}
 use mathlib.Core.Bool.{Bool, _||_}
 use mathlib.Core.List.{List, [], _∷_}
 use lib.ListN.{length, getD, set, drop, drop-of-length-le}
-use lib.Seq.{drop-cons}
+use lib.Seq.{drop-cons, set-getD}
 use Rattle.bus.specs.declared.Heard as H
 use Rattle.store.specs.Places.{Cell}
 use Rattle.shelf.specs.Shelves.{declared, numberOf}
@@ -47,22 +47,34 @@ module _ (shelf : Shelf) (long : length (shelf .units) ≡ 32) (i : ℕ) where
     asked granted now after e = ap (askingOf granted now) one-left ∙ ap (λ x. askingOf granted x (drop (i + 1) (declared shelf))) (sym e)
 
     module _ (h : H.Heard) (k : Copy) (e : k ≡ copyOf (getD (shelf .units) i nowhere) h) where
-      pub turned : (now : Shelf) (each : List ℕ) (copies : ℕ) (addressed : Bool) (r q : ℕ) (b : Bool) →
+      pub turned : (now next : Shelf) → next ≡ withUnit now i (k .unit) → (each : List ℕ) (copies : ℕ) (addressed : Bool) (r q : ℕ) (b : Bool) →
           r ≡ hearingRises (k .fate) → q ≡ queuedOne (k .fate) → b ≡ isAddressed (k .fate) →
           heardFrom h i (drop i (declared shelf)) (listening now each copies addressed)
-          ≡ heardFrom h (i + 1) (drop (i + 1) (declared shelf)) (listening (withUnit now i (k .unit)) (set each i r) (copies + q) (addressed || b))
+          ≡ heardFrom h (i + 1) (drop (i + 1) (declared shelf)) (listening next (set each i r) (copies + q) (addressed || b))
       unfolding heardFrom
-      turned now each copies addressed r q b er eq eb =
+      turned now next en each copies addressed r q b er eq eb =
           let left = drop (i + 1) (declared shelf) in
           ap (λ l. heardFrom h i l (listening now each copies addressed)) one-left
           ∙ (λ t. heardFrom h (sym (add-one i) t) left (after i (sym e t) (listening now each copies addressed)))
-          ∙ (λ t. heardFrom h (i + 1) left (listening (withUnit now i (k .unit)) (set each i (sym er t)) (copies + sym eq t) (addressed || sym eb t)))
+          ∙ (λ t. heardFrom h (i + 1) left (listening (sym en t) (set each i (sym er t)) (copies + sym eq t) (addressed || sym eb t)))
 
     pub stored : (h : H.Heard) (store now : List ℕ) (cell : Cell) → now ≡ storeOf (getD (shelf .units) i nowhere) h i store cell →
         storeFrom h i (drop i (declared shelf)) store cell ≡ storeFrom h (i + 1) (drop (i + 1) (declared shelf)) now cell
     unfolding storeFrom
     stored h store now cell e =
         ap (λ l. storeFrom h i l store cell) one-left ∙ (λ t. storeFrom h (sym (add-one i) t) (drop (i + 1) (declared shelf)) (sym e t) cell)
+
+-- a shelf is itself with the same unit put back
+pub unturned : (s : Shelf) (i : ℕ) → s ≡ withUnit s i (getD (s .units) i nowhere)
+unturned s i t =
+    record {
+      bus = s .bus;
+      count = s .count;
+      units = sym (set-getD (s .units) i nowhere) t;
+      arbiter = s .arbiter;
+      granted = s .granted;
+      frame = s .frame;
+    }
 
 -- no unit is left, and all is said
 pub heard-none : (h : H.Heard) (place : ℕ) (us : List U.Unit) (l : Listened) → us ≡ [] → heardFrom h place us l ≡ l

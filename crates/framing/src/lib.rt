@@ -6,6 +6,7 @@ use answer::Rises;
 use arbiter::Arbiter;
 use bus::Heard;
 use card::Card;
+use hearing::Plan;
 use shelf::Found;
 use shelf::Shelf;
 use shelf::Unit;
@@ -97,11 +98,11 @@ fn silence(shelf: Shelf) -> Listened
     }
 }
 
-// Every declared unit hears a frame of this cell.
-fn hear_all(mut shelf: Shelf, heard: Heard, cell: &[u8], store: &mut [u8]) -> Listened
-    requires { ⌜ (length (now cell) ≡ 56) × AllHoused shelf (length (now store)) ⌝ }
+// Every declared unit hears a frame of this cell. The cell goes by value, so that it is copied in words; a unit is put back only where it changed.
+fn hear_all(mut shelf: Shelf, heard: Heard, cell: [u8; 56], store: &mut [u8]) -> Listened
+    requires { ⌜ AllHoused shelf (length (now store)) ⌝ }
     ensures { λ r. ⌜ r ≡ heardByAll shelf heard ⌝ }
-    ensures kept { λ _. ⌜ now (store .exit) ≡ heardStore shelf heard (now (store .entry)) (now (cell .entry)) ⌝ }
+    ensures kept { λ _. ⌜ now (store .exit) ≡ heardStore shelf heard (now (store .entry)) cell ⌝ }
 {
     let end = shelf::held(shelf.count);
     let mut each = [0; 32];
@@ -110,10 +111,13 @@ fn hear_all(mut shelf: Shelf, heard: Heard, cell: &[u8], store: &mut [u8]) -> Li
     let mut i: usize = 0;
     while i < end {
         let unit = shelf.units[i];
-        let copy = hearing::hear_copy(unit, i, heard, cell, store);
-        let after = copy.unit;
-        let fate = copy.fate;
-        shelf.units[i] = after;
+        let plan = hearing::plan_of(unit, heard);
+        if let Plan::Queue(queue) = plan {
+            let outlet = unit.outlet;
+            store::put_cell(store, hearing::slot_of(outlet, i, queue), &cell);
+            shelf.units[i] = hearing::queued_up(unit, queue);
+        }
+        let fate = hearing::fate_by(plan);
         each[i] = answer::hearing_rises(fate);
         copies = copies + queued_one(fate);
         addressed = addressed | is_addressed(fate);
@@ -152,7 +156,9 @@ fn send(mut shelf: Shelf, place: usize, store: &mut [u8], buffer: &mut [u8]) -> 
     );
     unit.inlet = store::popped(inlet, Unit::INLET);
     shelf.units[place] = unit;
-    let mut listened = hear_all(shelf, bus::hear(buffer), &buffer[..56], store);
+    let mut cell = [0; 56];
+    octets::copy(&buffer[..56], &mut cell, 0);
+    let mut listened = hear_all(shelf, bus::hear(buffer), cell, store);
     let mut each = listened.each;
     each[place] = each[place] | sent_rises(listened.addressed);
     listened.each = each;

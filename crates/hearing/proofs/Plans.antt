@@ -7,22 +7,21 @@ use mathlib.Core.List.{List}
 use lib.Dec.{ltb}
 use lib.ListN.{length, take, length-take}
 use Rattle.outlet.specs.Outlets.{capacity, queue}
-use Rattle.outlet.specs.declared.Ring.{Ring}
 use Rattle.bus.specs.declared.Heard as H
 use Rattle.bus.specs.declared.Heard.the-variants as frame
 use Rattle.queueing.specs.Hearing.{queueOf, fate}
 use Rattle.queueing.specs.declared.Fate as F
 use Rattle.queueing.specs.declared.Fate.the-variants as fates
 use Rattle.queueing.proofs.Fates.{queue-lt}
-use Rattle.store.specs.Rings.{back, tail, pushed}
+use Rattle.store.specs.Rings.{back, tail}
 use Rattle.store.specs.Places.{Cell, slotAt, outletSlot, putAt}
 use Rattle.store.proofs.Rounds.{back-lt}
 use Rattle.store.proofs.Slots.{by-lt, start-inside, slot-inside}
 use Rattle.shelf.specs.declared.Unit as U
 use Rattle.answer.specs.declared.Hearing as A
 use Rattle.answer.specs.declared.Hearing.the-variants.{Other, Queued}
-use Rattle.admit.specs.Admission.{withQueue, Housed}
-use Rattle.hearing.specs.Hearings.{addressed, planFor, planOf, fateBy, copyWith, copyBy, storeBy}
+use Rattle.admit.specs.Admission.{Housed}
+use Rattle.hearing.specs.Hearings.{addressed, planFor, planOf, fateBy, queuedUp, copyWith, copyBy, storeBy}
 use Rattle.hearing.specs.declared.Plan.{Plan}
 use Rattle.hearing.specs.declared.Plan.the-variants.{Queue, Lost}
 
@@ -78,9 +77,9 @@ module _ (u : U.Unit) (p : Plan) (place : ℕ) (store : List ℕ) (cell : Cell) 
   unfolding storeBy
   lost-store fate e = rw e
 
-  pub queued-copy : (q : ℕ) → p ≡ Queue q → (ring : Ring) → ring ≡ pushed (queue (u .outlet) q) → copyWith (withQueue u q ring) Queued ≡ copyBy p u
+  pub queued-copy : (q : ℕ) → p ≡ Queue q → (after : U.Unit) → after ≡ queuedUp u q → copyWith after Queued ≡ copyBy p u
   unfolding copyBy
-  queued-copy q e ring r = rw e (λ i. copyWith (withQueue u q (r i)) Queued)
+  queued-copy q e after r = rw e (λ i. copyWith (r i) Queued)
 
   pub queued-store : (q : ℕ) → p ≡ Queue q →
       putAt store place (outletSlot (u .outlet .limits) q (tail (queue (u .outlet) q) (capacity (u .outlet .limits) q))) cell ≡ storeBy p u place store cell

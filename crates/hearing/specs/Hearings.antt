@@ -11,11 +11,12 @@ use Rattle.bus.specs.declared.Heard as H
 use Rattle.bus.specs.declared.Heard.the-variants as frame
 use Rattle.card.specs.declared.Card.{Card}
 use Rattle.outlet.specs.Outlets.{capacity, queue}
+use Rattle.outlet.specs.declared.Outlet.{Outlet}
 use Rattle.queueing.specs.Hearing.{queueOf, fate}
 use Rattle.queueing.specs.declared.Fate as F
 use Rattle.queueing.specs.declared.Fate.the-variants as fates
 use Rattle.store.specs.Rings.{tail, pushed}
-use Rattle.store.specs.Places.{Cell, outletSlot, putAt}
+use Rattle.store.specs.Places.{Cell, slotAt, outletSlot, putAt}
 use Rattle.shelf.specs.Sessions.{hears}
 use Rattle.shelf.specs.Shelves.{numberOf}
 use Rattle.shelf.specs.declared.Unit as U
@@ -61,6 +62,13 @@ fateBy (Lost fate) = fate
 -- a unit and a fate
 abbrev pub copyWith : U.Unit → A.Hearing → Copy
 copyWith u fate = record { unit = u; fate = fate }
+
+-- where in the store the next cell of a queue goes, and the unit with one more there
+abbrev pub slotOf : Outlet → ℕ → ℕ → ℕ
+slotOf o place q = slotAt place (outletSlot (o .limits) q (tail (queue o q) (capacity (o .limits) q)))
+
+abbrev pub queuedUp : U.Unit → ℕ → U.Unit
+queuedUp u q = withQueue u q (pushed (queue (u .outlet) q))
 
 -- the unit afterwards and the fate; a queued copy is behind the others in its queue
 unfoldable pub copyBy : Plan → U.Unit → Copy

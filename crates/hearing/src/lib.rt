@@ -6,6 +6,7 @@ use answer::Hearing;
 use answer::Rises;
 use bus::Heard;
 use card::Card;
+use outlet::Outlet;
 use queueing::Fate;
 use routing::Target;
 use shelf::Shelf;
@@ -14,7 +15,7 @@ ghost use mathlib.Core.Path.{_≡_};
 ghost use Prim.Native.Nat.{_<_, _≤_};
 ghost use lib.ListN.{length};
 ghost use Rattle.admit.specs.Admission.{unitAt, Housed};
-ghost use Rattle.hearing.specs.Hearings.{addressed as addressedTo, planFor, planOf, fateBy, copyOf, storeOf, doneAt, storeAt, hearDone, hearStore};
+ghost use Rattle.hearing.specs.Hearings.{addressed as addressedTo, planFor, planOf, fateBy, slotOf, queuedUp, copyOf, storeOf, doneAt, storeAt, hearDone, hearStore};
 
 // A copy is queued in this queue, or lost with this fate.
 pub enum Plan {
@@ -53,7 +54,7 @@ fn plan_for(fate: Fate, queue: u8) -> Plan
 }
 
 // What becomes of a heard frame at a unit. What is no frame is damaged.
-fn plan_of(unit: Unit, heard: Heard) -> Plan
+pub fn plan_of(unit: Unit, heard: Heard) -> Plan
     ensures { λ r. ⌜ r ≡ planOf unit heard ⌝ }
 {
     match heard {
@@ -80,7 +81,7 @@ fn plan_of(unit: Unit, heard: Heard) -> Plan
 }
 
 // The fate that a plan comes to.
-fn fate_by(plan: Plan) -> Hearing
+pub fn fate_by(plan: Plan) -> Hearing
     ensures { λ r. ⌜ r ≡ fateBy plan ⌝ }
 {
     match plan {
@@ -89,8 +90,35 @@ fn fate_by(plan: Plan) -> Hearing
     }
 }
 
+// Where in the store the next cell of an outlet's queue goes, at the unit in a place.
+pub fn slot_of(outlet: Outlet, place: usize, queue: u8) -> usize
+    requires { ⌜ (queue < 4) × (place < 32) ⌝ }
+    ensures { λ r. ⌜ r ≡ slotOf outlet place queue ⌝ }
+{
+    let limits = outlet.limits;
+    let queues = outlet.queues;
+    let ring = queues[queue as usize];
+    let tail = store::tail(ring, outlet::capacity(limits, queue));
+    store::outlet_at(place, limits, queue, tail)
+}
+
+// The unit with one more cell in a queue of its outlet.
+pub fn queued_up(mut unit: Unit, queue: u8) -> Unit
+    requires { ⌜ queue < 4 ⌝ }
+    ensures { λ r. ⌜ r ≡ queuedUp unit queue ⌝ }
+{
+    let mut outlet = unit.outlet;
+    let mut queues = outlet.queues;
+    let q = queue as usize;
+    let ring = queues[q];
+    queues[q] = store::pushed(ring);
+    outlet.queues = queues;
+    unit.outlet = outlet;
+    unit
+}
+
 // The unit in a place hears a frame of this cell. A queued copy goes behind the others in its queue.
-pub fn hear_copy(mut unit: Unit, place: usize, heard: Heard, cell: &[u8], store: &mut [u8]) -> Copy
+fn hear_copy(unit: Unit, place: usize, heard: Heard, cell: &[u8], store: &mut [u8]) -> Copy
     requires { ⌜ (length (now cell) ≡ 56) × Housed place unit (length (now store)) ⌝ }
     ensures { λ r. ⌜ r ≡ copyOf unit heard ⌝ }
     ensures kept { λ _. ⌜ now (store .exit) ≡ storeOf unit heard place (now (store .entry)) (now (cell .entry)) ⌝ }
@@ -102,18 +130,11 @@ pub fn hear_copy(mut unit: Unit, place: usize, heard: Heard, cell: &[u8], store:
             fate: fate_by(plan),
         };
     };
-    let mut outlet = unit.outlet;
-    let limits = outlet.limits;
-    let mut queues = outlet.queues;
-    let q = queue as usize;
-    let ring = queues[q];
-    let tail = store::tail(ring, outlet::capacity(limits, queue));
-    store::put_cell(store, store::outlet_at(place, limits, queue, tail), cell);
-    queues[q] = store::pushed(ring);
-    outlet.queues = queues;
-    unit.outlet = outlet;
+    let outlet = unit.outlet;
+    store::put_cell(store, slot_of(outlet, place, queue), cell);
+    let after = queued_up(unit, queue);
     Copy {
-        unit,
+        unit: after,
         fate: Hearing::Queued,
     }
 }

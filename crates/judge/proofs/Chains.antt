@@ -2,8 +2,6 @@
 use mathlib.Core.Path.{_≡_, refl}
 use mathlib.Core.Bool.{Bool, true, false, not}
 use Prim.Native.Nat.{ℕ, _+_, _*_, _<_, _≤_}
-use native.Mathlib.Omega.{arith}
-use lib.ListN.{length}
 use borrow.Author.Tests.{not-true, not-false, le-leb, lt-leb, lt-ltb, le-ltb}
 use Rattle.header.specs.declared.Link.{Link}
 use Rattle.routing.specs.declared.Target.{Target}
@@ -17,15 +15,16 @@ use Rattle.shelf.specs.declared.Unit as U
 use Rattle.shelf.specs.declared.Shelf.{Shelf}
 use Rattle.shelf.specs.declared.Found.{Found}
 use Rattle.shelf.specs.declared.Found.the-variants.{At, Nothing}
-use Rattle.shelf.proofs.Finding.{declared-length, find-at}
 use Rattle.line.specs.declared.Line.{Line}
 use Rattle.line.specs.declared.Line.the-variants.{Bus, Unit as L·Unit, Vp, Drop, Page, Vc, Mc}
-use Rattle.judge.specs.declared.Owner.{Owner}
-use Rattle.judge.specs.declared.Paged.{Paged}
-use Rattle.judge.specs.declared.Verdict.{Verdict}
-use Rattle.judge.specs.declared.Verdict.the-variants.{Fine, Order, Twice, Wide}
-use Rattle.judge.specs.Judge.{asked, roomFor, offBus, taken, pageIn, judgeBus, judgeUnit, judgeVp, judgeDrop, judgePage, judgeVc}
-use Rattle.judge.specs.Standing.{ownerAt, ownerOf, ownedBy, spot, second, isAt, judgeFirst, judgeAt}
+use Rattle.verdict.specs.declared.Owner.{Owner}
+use Rattle.verdict.specs.declared.Paged.{Paged}
+use Rattle.verdict.specs.declared.Verdict.{Verdict}
+use Rattle.verdict.specs.declared.Verdict.the-variants.{Fine, Order, Twice, Wide}
+use Rattle.verdict.specs.Verdicts.{asked, roomFor, offBus, taken, pageIn}
+use Rattle.judge.specs.Judge.{judgeBus, judgeUnit, judgeVp, judgeDrop, judgePage, judgeVc}
+use Rattle.verdict.specs.Owners.{ownerAt, ownerOf, ownedBy, spot}
+use Rattle.judge.specs.Standing.{second, isAt, judgeFirst, judgeAt}
 
 -- by the owner
 pub nobody : (o : Owner) (f : U.Unit → Verdict) → not (o .known) ≡ true → Order 2 ≡ ownedBy o f
@@ -138,13 +137,6 @@ at-first card room stands shelf used (Drop u v) = refl
 at-first card room stands shelf used (Page u v top) = refl
 at-first card room stands shelf used (Vc u v w target class outvpi outvci) = refl
 at-first card room stands shelf used (Mc u session) = refl
-
--- where an owner is found
-pub found-in : (shelf : Shelf) (number i : ℕ) → length (shelf .units) ≡ 32 → findIn (declared shelf) number ≡ At i → i < 32
-found-in shelf number i l e =
-    let f = find-at number (declared shelf) i .0 e in
-    let n = declared-length shelf l in
-    omega (arith, f .inside, n)
 
 known-at : (shelf : Shelf) (f : Found) → ownerAt shelf f .known ≡ isAt f
 known-at shelf (At i) = refl

@@ -1,14 +1,13 @@
 -- What stands in the shelf and in a memory that a line is judged by. Assumes nothing.
 use Prim.Native.Nat.{ℕ, _+_, _*_}
 use mathlib.Core.Bool.{Bool, true, false, cond}
-use lib.ListN.{getD}
 use Rattle.routing.specs.declared.Target.{Target}
 use Rattle.card.specs.declared.Card.{Card}
 use Rattle.card.specs.declared.Ask.the-variants.{Bus as A·Bus}
 use Rattle.record.specs.Record.{size}
 use Rattle.record.specs.declared.Got.{Got}
 use Rattle.record.specs.declared.Got.the-variants.{Nothing as Got·Nothing}
-use Rattle.shelf.specs.Shelves.{blank, declared, findIn}
+use Rattle.shelf.specs.Shelves.{declared, findIn}
 use Rattle.shelf.specs.Sessions.{hears}
 use Rattle.shelf.specs.declared.Unit as U
 use Rattle.shelf.specs.declared.Shelf.{Shelf}
@@ -16,27 +15,15 @@ use Rattle.shelf.specs.declared.Found.{Found}
 use Rattle.shelf.specs.declared.Found.the-variants.{At, Nothing}
 use Rattle.line.specs.declared.Line.{Line}
 use Rattle.line.specs.declared.Line.the-variants.{Bus, Unit as L·Unit, Vp, Drop, Page, Vc, Mc}
-use Rattle.judge.specs.declared.Owner.{Owner}
-use Rattle.judge.specs.declared.Paged.{Paged}
-use Rattle.judge.specs.declared.Verdict.{Verdict}
-use Rattle.judge.specs.declared.Verdict.the-variants.{Fine, Order}
-use Rattle.judge.specs.Judge.{asked, pageIn, judgeBus, judgeUnit, judgeVp, judgeDrop, judgePage, judgeVc, judgeMc}
+use Rattle.verdict.specs.declared.Owner.{Owner}
+use Rattle.verdict.specs.declared.Paged.{Paged}
+use Rattle.verdict.specs.declared.Verdict.{Verdict}
+use Rattle.verdict.specs.declared.Verdict.the-variants.{Fine, Order}
+use Rattle.verdict.specs.Verdicts.{asked, pageIn}
+use Rattle.verdict.specs.Owners.{ownerOf, ownedBy, spot}
+use Rattle.judge.specs.Judge.{judgeBus, judgeUnit, judgeVp, judgeDrop, judgePage, judgeVc, judgeMc}
 
--- the declared unit with this number, where there is one
-abbrev pub ownerAt : Shelf → Found → Owner
-ownerAt shelf (At i) = record { known = true; unit = getD (shelf .units) i blank }
-ownerAt shelf Nothing = record { known = false; unit = getD (shelf .units) 0 blank }
-
-unfoldable pub ownerOf : Shelf → ℕ → Owner
-ownerOf shelf u = ownerAt shelf (findIn (declared shelf) u)
-
-unfoldable pub ownedBy : Owner → (U.Unit → Verdict) → Verdict
-ownedBy o rest = cond (o .known) (rest (o .unit)) (Order 2)
-
--- the place of a unit's record for a VPI, and of the VCI's record in the page that stands there
-abbrev pub spot : U.Unit → ℕ → ℕ
-spot unit vpi = unit .place + size * vpi
-
+-- the place of the VCI's record in the page that stands at a VPI
 abbrev pub second : (ℕ → Got) → Paged → ℕ → Got
 second stands page vci = cond (page .known) (stands (page .place + size * vci)) Got·Nothing
 

@@ -2,122 +2,17 @@
 use card::Ask;
 use card::Card;
 use line::Line;
-use line::Wrong;
-use record::Got;
-use record::Record;
 use routing::Target;
-use shelf::Found;
 use shelf::Settings;
 use shelf::Shelf;
-use shelf::Unit;
+use verdict::Owner;
+use verdict::Verdict;
 ghost use mathlib.Core.Path.{_≡_};
-ghost use Prim.Native.Nat.{_*_, _+_, _≤_};
-ghost use Rattle.record.specs.Record.{size, recordAt};
+ghost use Rattle.record.specs.Record.{recordAt};
 ghost use Rattle.shelf.specs.Sessions.{hears};
-ghost use Rattle.judge.specs.Judge.{asked, roomFor, offBus as offBusIs, taken as takenIs, pageIn, judgeUnit, judgeVp, judgeDrop, judgePage, judgeMc, numberOf, isFine};
-ghost use Rattle.judge.specs.Standing.{ownerOf, ownedBy, spot as spotOf, judgeVcAt, judgeFirst, judgeAt};
-
-// What is wrong with a line, in the order in which it is tried; Order and Twice carry the field, counted from the word as 1.
-pub enum Verdict {
-    Fine,
-    Form(Wrong),
-    Order(u8),
-    Twice(u8),
-    Wide,
-    Room,
-}
-
-// The declared unit with a number; where none has it, any unit.
-pub struct Owner {
-    pub known: bool,
-    pub unit: Unit,
-}
-
-// A page's top VCI and the place of its records, where it is one.
-pub struct Paged {
-    pub known: bool,
-    pub top: u16,
-    pub place: u32,
-}
-
-// Wide, unless the card can hold what a line asks for.
-fn asks(card: Card, ask: Ask) -> Verdict
-    ensures { λ r. ⌜ r ≡ asked card ask Verdict.Fine ⌝ }
-{
-    if card::holds(card, ask) {
-        Verdict::Fine
-    } else {
-        Verdict::Wide
-    }
-}
-
-// Room, unless there is room for so many records more.
-fn room_for(room: usize, used: u32, records: usize) -> Verdict
-    requires { ⌜ records ≤ 65536 ⌝ }
-    ensures { λ r. ⌜ r ≡ roomFor room used records ⌝ }
-{
-    if (used as usize) + record::SIZE * records <= room {
-        Verdict::Fine
-    } else {
-        Verdict::Room
-    }
-}
-
-// Whether a target is a unit that the bus does not have.
-fn off_bus(bus: u8, target: Target) -> bool
-    ensures { λ r. ⌜ r ≡ offBusIs bus target ⌝ }
-{
-    match target {
-        Target::Unit(unit) => bus <= unit,
-        Target::Session(_) => false,
-        Target::All => false,
-    }
-}
-
-// Whether something stands at a place already.
-fn taken(got: Got) -> bool
-    ensures { λ r. ⌜ r ≡ takenIs got ⌝ }
-{
-    let Got::Is(r) = got else {
-        return true;
-    };
-    match r {
-        Record::Empty => false,
-        Record::Drop => true,
-        Record::Route {
-            header: _,
-            vpi: _,
-            vci: _,
-        } => true,
-        Record::Page { top: _, place: _ } => true,
-    }
-}
-
-// The declared unit with a number.
-pub fn find_owner(shelf: Shelf, number: u8) -> Owner
-    ensures { λ r. ⌜ r ≡ ownerOf shelf number ⌝ }
-{
-    let Found::At(i) = shelf::find(shelf, number) else {
-        let unit = shelf.units[0];
-        return Owner { known: false, unit };
-    };
-    let unit = shelf.units[i];
-    Owner { known: true, unit }
-}
-
-// The place of a unit's record for a VPI.
-pub fn spot(unit: Unit, vpi: u16) -> usize
-    ensures { λ r. ⌜ r ≡ spotOf unit vpi ⌝ }
-{
-    (unit.place as usize) + record::SIZE * (vpi as usize)
-}
-
-// The place of a page's record for a VCI.
-pub fn vci_spot(page: Paged, vci: u16) -> usize
-    ensures { λ r. ⌜ r ≡ page .place + size * vci ⌝ }
-{
-    (page.place as usize) + record::SIZE * (vci as usize)
-}
+ghost use Rattle.verdict.specs.Owners.{ownedBy, spot as spotOf};
+ghost use Rattle.judge.specs.Judge.{judgeUnit, judgeVp, judgeDrop, judgePage, judgeMc};
+ghost use Rattle.judge.specs.Standing.{judgeVcAt, judgeFirst, judgeAt};
 
 // A `unit` line: below the bus number, declared once, on a link that the card has, with room for its records.
 fn judge_unit(
@@ -138,7 +33,7 @@ fn judge_unit(
     }
     let link = settings.link;
     if card::holds(card, Ask::On(link)) {
-        return room_for(room, used, (settings.top as usize) + 1);
+        return verdict::room_for(room, used, (settings.top as usize) + 1);
     }
     Verdict::Wide
 }
@@ -162,13 +57,13 @@ fn judge_vp(
     if unit.settings.top < vpi {
         return Verdict::Order(3);
     }
-    if off_bus(bus, target) {
+    if verdict::off_bus(bus, target) {
         return Verdict::Order(4);
     }
-    if taken(record::get(card, memory, spot(unit, vpi))) {
+    if verdict::taken(record::get(card, memory, verdict::spot(unit, vpi))) {
         return Verdict::Twice(3);
     }
-    asks(card, Ask::Out(outvpi))
+    verdict::asks(card, Ask::Out(outvpi))
 }
 
 // A `drop` line: at a VPI of a declared unit where nothing stands yet.
@@ -182,7 +77,7 @@ fn judge_drop(card: Card, memory: &[u8], o: Owner, vpi: u16) -> Verdict
     if unit.settings.top < vpi {
         return Verdict::Order(3);
     }
-    if taken(record::get(card, memory, spot(unit, vpi))) {
+    if verdict::taken(record::get(card, memory, verdict::spot(unit, vpi))) {
         return Verdict::Twice(3);
     }
     Verdict::Fine
@@ -207,38 +102,10 @@ fn judge_page(
     if unit.settings.top < vpi {
         return Verdict::Order(3);
     }
-    if taken(record::get(card, memory, spot(unit, vpi))) {
+    if verdict::taken(record::get(card, memory, verdict::spot(unit, vpi))) {
         return Verdict::Twice(3);
     }
-    room_for(room, used, (top as usize) + 1)
-}
-
-// The page that a record is, where it is one.
-pub fn page_in(got: Got) -> Paged
-    ensures { λ r. ⌜ r ≡ pageIn got ⌝ }
-{
-    let none = Paged {
-        known: false,
-        top: 0,
-        place: 0,
-    };
-    let Got::Is(r) = got else {
-        return none;
-    };
-    match r {
-        Record::Empty => none,
-        Record::Drop => none,
-        Record::Route {
-            header: _,
-            vpi: _,
-            vci: _,
-        } => none,
-        Record::Page { top, place } => Paged {
-            known: true,
-            top,
-            place,
-        },
-    }
+    verdict::room_for(room, used, (top as usize) + 1)
 }
 
 // A `vc` line: at a VCI of a page, to a unit of the bus, where nothing stands yet, to a VPI that the card can hold.
@@ -261,20 +128,20 @@ fn judge_vc(
     if unit.settings.top < vpi {
         return Verdict::Order(3);
     }
-    let page = page_in(record::get(card, memory, spot(unit, vpi)));
+    let page = verdict::page_in(record::get(card, memory, verdict::spot(unit, vpi)));
     if !page.known {
         return Verdict::Order(3);
     }
     if page.top < vci {
         return Verdict::Order(4);
     }
-    if off_bus(bus, target) {
+    if verdict::off_bus(bus, target) {
         return Verdict::Order(5);
     }
-    if taken(record::get(card, memory, vci_spot(page, vci))) {
+    if verdict::taken(record::get(card, memory, verdict::vci_spot(page, vci))) {
         return Verdict::Twice(4);
     }
-    asks(card, Ask::Out(outvpi))
+    verdict::asks(card, Ask::Out(outvpi))
 }
 
 // An `mc` line: of a declared unit that does not hear the session yet.
@@ -297,7 +164,7 @@ fn judge_first(card: Card, line: Line) -> Verdict
     ensures { λ r. ⌜ r ≡ judgeFirst card line ⌝ }
 {
     match line {
-        Line::Bus(bus) => asks(card, Ask::Bus(bus)),
+        Line::Bus(bus) => verdict::asks(card, Ask::Bus(bus)),
         Line::Unit {
             settings: _,
             limits: _,
@@ -352,7 +219,7 @@ pub fn judge(
             settings,
             limits: _,
         } => {
-            let o = find_owner(shelf, settings.number);
+            let o = verdict::find_owner(shelf, settings.number);
             judge_unit(card, shelf.bus, o.known, room, used, settings)
         }
         Line::Vp {
@@ -365,14 +232,22 @@ pub fn judge(
             card,
             memory,
             shelf.bus,
-            find_owner(shelf, unit),
+            verdict::find_owner(shelf, unit),
             vpi,
             target,
             outvpi,
         ),
-        Line::Drop { unit, vpi } => judge_drop(card, memory, find_owner(shelf, unit), vpi),
+        Line::Drop { unit, vpi } => judge_drop(card, memory, verdict::find_owner(shelf, unit), vpi),
         Line::Page { unit, vpi, top } => {
-            judge_page(card, memory, room, used, find_owner(shelf, unit), vpi, top)
+            judge_page(
+                card,
+                memory,
+                room,
+                used,
+                verdict::find_owner(shelf, unit),
+                vpi,
+                top,
+            )
         }
         Line::Vc {
             unit,
@@ -386,40 +261,12 @@ pub fn judge(
             card,
             memory,
             shelf.bus,
-            find_owner(shelf, unit),
+            verdict::find_owner(shelf, unit),
             vpi,
             vci,
             target,
             outvpi,
         ),
-        Line::Mc { unit, session } => judge_mc(find_owner(shelf, unit), session),
-    }
-}
-
-// Whether a line is fine.
-pub fn is_fine(verdict: Verdict) -> bool
-    ensures { λ r. ⌜ r ≡ isFine verdict ⌝ }
-{
-    match verdict {
-        Verdict::Fine => true,
-        Verdict::Form(_) => false,
-        Verdict::Order(_) => false,
-        Verdict::Twice(_) => false,
-        Verdict::Wide => false,
-        Verdict::Room => false,
-    }
-}
-
-// Document 01's number of a verdict.
-pub fn number(verdict: Verdict) -> u8
-    ensures { λ r. ⌜ r ≡ numberOf verdict ⌝ }
-{
-    match verdict {
-        Verdict::Fine => 0,
-        Verdict::Form(_) => 2,
-        Verdict::Order(_) => 3,
-        Verdict::Twice(_) => 4,
-        Verdict::Wide => 5,
-        Verdict::Room => 6,
+        Line::Mc { unit, session } => judge_mc(verdict::find_owner(shelf, unit), session),
     }
 }

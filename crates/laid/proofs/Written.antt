@@ -6,8 +6,8 @@ use native.Mathlib.Numerals.{add-one}
 use lib.ListN.{length, getD, take}
 use lib.Seq.{take-suc}
 use Rattle.octets.specs.Octets.{cat}
-use Rattle.words.specs.Writing.{Wrote}
-use Rattle.words.proofs.Splices.{nothing, then, cat-snoc}
+use Rattle.hex.specs.Writing.{Wrote}
+use Rattle.hex.proofs.Splices.{nothing, then, cat-snoc}
 use Rattle.shelf.specs.declared.Unit as U
 use Rattle.laid.specs.Laid.{unitText}
 

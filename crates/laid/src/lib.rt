@@ -9,7 +9,7 @@ use shelf::Unit;
 ghost use mathlib.Core.Path.{_≡_};
 ghost use Prim.Native.Nat.{_+_, _*_, _≤_};
 ghost use lib.ListN.{length};
-ghost use Rattle.words.specs.Writing.{Wrote};
+ghost use Rattle.hex.specs.Writing.{Wrote};
 ghost use Rattle.words.specs.Decimals.{numberFields};
 ghost use Rattle.laid.specs.Laid.{linkNumber, modeNumber, markNumber, settingsNumbers, limitsNumbers, queuesNumbers, inletNumbers, unitText, firstText, frontText, shelfText};
 

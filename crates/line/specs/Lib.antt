@@ -1,5 +1,2 @@
-pub mod Text
-pub mod Words
-pub mod Digits
 pub mod Lines
 pub mod Ranges

@@ -1,98 +1,36 @@
 -- What each line says: "Text, one record a line, fields parted by one tab, each line ended by a newline." Assumes nothing.
-use Prim.Native.Nat.{ℕ, _-_}
+use Prim.Native.Nat.{ℕ}
 use mathlib.Core.Bool.{Bool, cond}
 use mathlib.Core.List.{List}
 use lib.ListN.{length}
 use lib.Dec.{eqb}
-use Rattle.header.specs.Fields.{highest}
-use Rattle.header.specs.declared.Link.{Link}
-use Rattle.header.specs.declared.Link.the-variants.{Uni, Nni}
 use Rattle.routing.specs.declared.Target.{Target}
-use Rattle.outlet.specs.declared.Mode.{Mode}
-use Rattle.outlet.specs.declared.Mode.the-variants.{One, Four}
 use Rattle.outlet.specs.declared.Limits.{Limits}
 use Rattle.shelf.specs.declared.Settings.{Settings}
 use Rattle.line.specs.declared.Line.the-variants.{Bus, Unit as U·, Vp, Drop, Page, Vc, Mc}
-use Rattle.line.specs.declared.Wrong.the-variants.{Newline, Word as Unspoken, Fields, Range}
+use Rattle.ranged.specs.declared.Wrong.the-variants.{Newline, Word as Unspoken, Fields, Range}
 use Rattle.line.specs.declared.Reading.{Reading}
 use Rattle.line.specs.declared.Reading.the-variants.{Good, Bad}
 use Rattle.line.specs.declared.Kind.{Kind}
 use Rattle.line.specs.declared.Kind.the-variants.{Bus as K·Bus, Unit as K·Unit, Vp as K·Vp, Drop as K·Drop, Page as K·Page, Vc as K·Vc, Mc as K·Mc}
 use Rattle.line.specs.declared.Word.{Word}
 use Rattle.line.specs.declared.Word.the-variants.{Known, Unknown}
-use Rattle.line.specs.declared.Num.{Num}
-use Rattle.line.specs.declared.Aim.{Aim}
 use Rattle.line.specs.declared.Key.{Key}
 use Rattle.line.specs.declared.Key.the-variants.{On, NoKey}
 use Rattle.line.specs.declared.Way.{Way}
 use Rattle.line.specs.declared.Way.the-variants.{To, NoWay}
-use Rattle.line.specs.declared.Front.{Front}
-use Rattle.line.specs.declared.Front.the-variants.{Set, NoFront}
-use Rattle.line.specs.declared.Back.{Back}
-use Rattle.line.specs.declared.Back.the-variants.{Held, NoBack}
-use Rattle.line.specs.Words.{wBus, wUnit, wVp, wDrop, wPage, wVc, wMc, wUni, wNni, wOne, wFour}
-use Rattle.line.specs.Text.{fieldsOf, fieldOf, same}
-use Rattle.line.specs.Digits.{ranged, num, aimOf, aim}
-
--- the number in field f, from lo to hi; and the target in field f
-abbrev pub numberIn : List (List ℕ) → ℕ → ℕ → ℕ → Num
-numberIn fs f lo hi = ranged f lo hi (fieldOf f fs)
-
-abbrev pub aimIn : List (List ℕ) → ℕ → Aim
-aimIn fs f = aimOf f (fieldOf f fs)
+use Rattle.unitline.specs.declared.Front.{Front}
+use Rattle.unitline.specs.declared.Front.the-variants.{Set, NoFront}
+use Rattle.unitline.specs.declared.Back.{Back}
+use Rattle.unitline.specs.declared.Back.the-variants.{Held, NoBack}
+use Rattle.ranged.specs.Words.{wBus, wUnit, wVp, wDrop, wPage, wVc, wMc}
+use Rattle.text.specs.Text.{fieldsOf, fieldOf, same}
+use Rattle.ranged.specs.Ranged.{num, aim, numberIn, aimIn}
+use Rattle.unitline.specs.Units.{settingsOf, limitsOf}
 
 -- Each kind of line, "leftmost fault first". "`bus` 16 or 32."
 unfoldable pub busLine : List (List ℕ) → Reading
 busLine fs = num (numberIn fs 2 16 32) Bad λ n. cond (eqb n 16) (Good (Bus n)) (cond (eqb n 32) (Good (Bus n)) (Bad (Range 2)))
-
--- "`unit` number, `uni` or `nni`, top VPI, priority 1 to 3, mode, CBR length, CBR limit, VBR limit, mark 0 or 1."
--- "Top VPI is at most 255 for uni, 4,095 for nni."
--- its settings after the link
-unfoldable pub settingsOn : List (List ℕ) → ℕ → Link → Front
-settingsOn fs number link =
-    num (numberIn fs 4 0 (highest link)) NoFront λ top.
-    num (numberIn fs 5 1 3) NoFront λ priority.
-    Set (record { number = number; link = link; top = top; priority = priority })
-
--- its settings
-unfoldable pub settingsOf : List (List ℕ) → Front
-settingsOf fs =
-    num (numberIn fs 2 0 31) NoFront λ number.
-    cond (same (fieldOf 3 fs) wUni) (settingsOn fs number Uni)
-    (cond (same (fieldOf 3 fs) wNni) (settingsOn fs number Nni) (NoFront (Range 3)))
-
--- "Mode `one`: CBR length and limit 0, VBR limit 1 to 123. Mode `four`: CBR length 1 to 88, CBR limit 1 to that length, VBR limit 1 to
--- 89 less that length."
-abbrev pub least : Mode → ℕ
-least One = 0
-least Four = 1
-
-abbrev pub mostLength : Mode → ℕ
-mostLength One = 0
-mostLength Four = 88
-
-abbrev pub mostLimit : Mode → ℕ → ℕ
-mostLimit One length = 0
-mostLimit Four length = length
-
-abbrev pub mostVbr : Mode → ℕ → ℕ
-mostVbr One length = 123
-mostVbr Four length = 89 - length
-
--- its limits after the mode
-unfoldable pub limitsIn : List (List ℕ) → Mode → Back
-limitsIn fs mode =
-    num (numberIn fs 7 (least mode) (mostLength mode)) NoBack λ cbrlength.
-    num (numberIn fs 8 (least mode) (mostLimit mode cbrlength)) NoBack λ cbrlimit.
-    num (numberIn fs 9 1 (mostVbr mode cbrlength)) NoBack λ vbrlimit.
-    num (numberIn fs 10 0 1) NoBack λ mark.
-    Held (record { mode = mode; cbrlength = cbrlength; cbrlimit = cbrlimit; vbrlimit = vbrlimit; mark = eqb mark 1 })
-
--- its limits: the mode is `one` or `four`
-unfoldable pub limitsOf : List (List ℕ) → Back
-limitsOf fs =
-    cond (same (fieldOf 6 fs) wOne) (limitsIn fs One)
-    (cond (same (fieldOf 6 fs) wFour) (limitsIn fs Four) (NoBack (Range 6)))
 
 -- the line of its settings and its limits
 abbrev pub front : Front → (Settings → Reading) → Reading
@@ -173,16 +111,19 @@ countOf K·Page = 4
 countOf K·Vc = 8
 countOf K·Mc = 3
 
--- the kind that a line's word names
+-- the kind that a line's word names; the code asks for the last four by themselves, which is quicker to prove
+abbrev pub wordAfter : List ℕ → Word
+wordAfter w =
+    cond (same w wDrop) (Known K·Drop)
+    (cond (same w wPage) (Known K·Page)
+    (cond (same w wVc) (Known K·Vc)
+    (cond (same w wMc) (Known K·Mc) Unknown)))
+
 unfoldable pub wordOf : List ℕ → Word
 wordOf w =
     cond (same w wBus) (Known K·Bus)
     (cond (same w wUnit) (Known K·Unit)
-    (cond (same w wVp) (Known K·Vp)
-    (cond (same w wDrop) (Known K·Drop)
-    (cond (same w wPage) (Known K·Page)
-    (cond (same w wVc) (Known K·Vc)
-    (cond (same w wMc) (Known K·Mc) Unknown))))))
+    (cond (same w wVp) (Known K·Vp) (wordAfter w)))
 
 -- "tried as Newline, Word, Fields, then 23 or 24 by field"
 unfoldable pub spoken : Word → List (List ℕ) → Reading

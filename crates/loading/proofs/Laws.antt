@@ -13,7 +13,7 @@ use Rattle.table.specs.declared.Loading.{Loading}
 use Rattle.table.specs.Load.{ranOf, tooLittle, refusal, loadingOf, isLong, load}
 use Rattle.told.specs.Told.{total, shelfOf}
 use Rattle.told.specs.Lines.{Ran, done, stopped}
-use Rattle.judge.specs.Judge.{numberOf}
+use Rattle.verdict.specs.Verdicts.{numberOf}
 
 chosen : (P : Loading → Type 0) (b : Bool) {x y : Loading} → (b ≡ true → P x) → (b ≡ false → P y) → P (cond b x y)
 chosen P true px py = px refl

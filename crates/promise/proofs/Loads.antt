@@ -28,7 +28,7 @@ use Rattle.soundness.proofs.Facts.{link-iff, sound-iff, fresh-sound}
 use Rattle.line.specs.Ranges.{Given as LineGiven, InRange as LineIn}
 use Rattle.line.specs.declared.Line.{Line}
 use Rattle.line.specs.declared.Line.the-variants.{Bus, Unit as L·Unit, Vp, Drop, Page, Vc, Mc}
-use Rattle.judge.specs.declared.Verdict.the-variants.{Fine}
+use Rattle.verdict.specs.declared.Verdict.the-variants.{Fine}
 use Rattle.told.specs.Told.{total, declare, hearing, joinAt, shelfBy, shelfOf}
 use Rattle.told.specs.Lines.{judge, Good}
 use Rattle.told.proofs.Fits.{fine-unit}

@@ -12,8 +12,8 @@ use Rattle.card.specs.declared.Card.{Card}
 use Rattle.record.specs.Record.{size, usable, cleared}
 use Rattle.line.specs.declared.Line.{Line}
 use Rattle.shelf.specs.declared.Shelf.{Shelf}
-use Rattle.judge.specs.declared.Verdict.{Verdict}
-use Rattle.judge.specs.Judge.{numberOf}
+use Rattle.verdict.specs.declared.Verdict.{Verdict}
+use Rattle.verdict.specs.Verdicts.{numberOf}
 use Rattle.told.specs.Told.{total, shelfOf, memoryOf}
 use Rattle.told.specs.Lines.{Ran, done, stopped}
 use Rattle.told.proofs.Grown.{decide}

@@ -8,17 +8,17 @@ use native.Mathlib.Omega.{arith}
 use lib.Dec.{eqb}
 use lib.ListN.{length}
 use Rattle.card.specs.declared.Card.{Card}
-use Rattle.line.specs.Text.{split}
+use Rattle.text.specs.Text.{split}
 use Rattle.line.specs.Lines.{readingOf}
 use Rattle.line.specs.declared.Line.{Line}
-use Rattle.line.specs.declared.Wrong.{Wrong}
+use Rattle.ranged.specs.declared.Wrong.{Wrong}
 use Rattle.line.specs.declared.Reading.{Reading}
 use Rattle.line.specs.declared.Reading.the-variants.{Good as Read, Bad}
 use Rattle.line.specs.Ranges.{InRange}
 use Rattle.line.proofs.Ranges.{read-in-range}
-use Rattle.judge.specs.declared.Verdict.{Verdict}
-use Rattle.judge.specs.declared.Verdict.the-variants.{Fine}
-use Rattle.judge.specs.Judge.{isFine}
+use Rattle.verdict.specs.declared.Verdict.{Verdict}
+use Rattle.verdict.specs.declared.Verdict.the-variants.{Fine}
+use Rattle.verdict.specs.Verdicts.{isFine}
 use Rattle.told.specs.Lines.{judge, Good, Ran, done, stopped, verdictOn, run}
 use Rattle.told.proofs.Grown.{decide}
 use Rattle.told.proofs.Memory.{AllRanged}

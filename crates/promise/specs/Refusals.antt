@@ -8,14 +8,14 @@ use lib.Dec.{eqb}
 use lib.ListN.{length}
 use Rattle.card.specs.declared.Card.{Card}
 use Rattle.record.specs.Record.{usable}
-use Rattle.line.specs.Text.{split}
+use Rattle.text.specs.Text.{split}
 use Rattle.line.specs.declared.Line.{Line}
-use Rattle.line.specs.declared.Wrong.the-variants.{Newline}
+use Rattle.ranged.specs.declared.Wrong.the-variants.{Newline}
 use Rattle.line.specs.declared.Reading.{Reading}
 use Rattle.line.specs.declared.Reading.the-variants.{Good as Read, Bad}
-use Rattle.judge.specs.declared.Verdict.{Verdict}
-use Rattle.judge.specs.declared.Verdict.the-variants.{Fine}
-use Rattle.judge.specs.Judge.{numberOf}
+use Rattle.verdict.specs.declared.Verdict.{Verdict}
+use Rattle.verdict.specs.declared.Verdict.the-variants.{Fine}
+use Rattle.verdict.specs.Verdicts.{numberOf}
 use Rattle.told.specs.Told.{shelfOf}
 use Rattle.told.specs.Lines.{verdictOn, Good}
 use Rattle.table.specs.Load.{readingsOf}

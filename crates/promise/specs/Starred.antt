@@ -13,7 +13,7 @@ use Rattle.routing.specs.declared.Target.{Target}
 use Rattle.routing.specs.declared.Target.the-variants.{Unit as unit, Session as session}
 use Rattle.card.specs.declared.Card.{Card}
 use Rattle.card.specs.declared.Card.the-variants.{Narrow}
-use Rattle.line.specs.Words.{wBus, wUnit, wVp, wUni, wOne, wB}
+use Rattle.ranged.specs.Words.{wBus, wUnit, wVp, wUni, wOne, wB}
 use Rattle.table.specs.declared.Outcome.{Outcome}
 use Rattle.table.specs.declared.Outcome.the-variants.{Loaded, Refused}
 use Rattle.table.specs.Load.{load}

@@ -1,29 +1,25 @@
 -- An arrival. Assumes nothing.
-use Prim.Native.Nat.{ℕ, _+_, _<_, _≤_, _%_, _/_, _^_}
+use Prim.Native.Nat.{ℕ, _<_, _≤_, _^_}
 use native.Mathlib.Omega.{arith}
-use mathlib.Core.Path.{_≡_, refl, sym, ap, ap₂, subst, _∙_}
-use mathlib.Core.Logic.{_≢_}
-use mathlib.Core.Bool.{Bool, true, false, cond, _&&_}
+use mathlib.Core.Path.{_≡_, refl, sym, ap, subst, _∙_}
+use mathlib.Core.Bool.{_&&_}
 use mathlib.Core.List.{List, [], _∷_, _++_, map, map-append}
 use mathlib.Core.Option.{Option, none, some}
 use lib.Dec.{eqb, leb, ltb}
-use lib.ListN.{length, length-append, length-take, length-drop, take, drop, getD, set}
+use lib.ListN.{length, length-append, length-take, length-drop, drop, getD, set}
 use lib.Seq.{set-getD}
-use borrow.Author.Tests.{eqb-true, eqb-false, le-ltb, leb-true, leb-false}
+use borrow.Author.Tests.{le-ltb, leb-false}
 use Rattle.octets.specs.Octets.{four, part, be2, be4}
-use Rattle.header.specs.Fields.{fields, topOf, word}
+use Rattle.header.specs.Fields.{fields, word}
 use Rattle.header.specs.declared.Header as H
 use Rattle.header.specs.declared.Link.the-variants.{Nni}
 use Rattle.header.proofs.Laws.{top-lt}
 use Rattle.routing.specs.Routing.{routing}
 use Rattle.card.specs.declared.Card.{Card}
 use Rattle.bus.specs.Frame.{cell}
-use Rattle.record.specs.Record.{recordAt}
-use Rattle.lookup.specs.Lookup.{soundHeader, goesBy, translated}
-use Rattle.lookup.specs.declared.Looked as L
-use Rattle.lookup.specs.declared.Looked.the-variants as looked
+use Rattle.lookup.specs.Lookup.{soundHeader, goesBy}
 use Rattle.outlet.specs.Outlets.{queue}
-use Rattle.store.specs.Places.{putAt, inletSlot, inletCells}
+use Rattle.store.specs.Places.{putAt, inletSlot}
 use Rattle.store.specs.Rings.{tail, pushed}
 use Rattle.store.proofs.Rounds.{tail-lt}
 use Rattle.store.proofs.Queues.{length-cells, inlet-pushed, outlet-above}
@@ -38,9 +34,7 @@ use Rattle.promise.specs.Served.{Serving, by-vp, by-drop, by-vc, serves, served
 use Rattle.promise.proofs.Runs.{AllInRange}
 use Rattle.answer.specs.Answers.{arrivalRises, row}
 use Rattle.answer.specs.declared.Answer.the-variants as answer
-use Rattle.answer.specs.declared.Arrival as A
-use Rattle.answer.specs.declared.Arrival.the-variants.{Hec, Ignored, Misrouted, Inletfull, Queued}
-use Rattle.admit.specs.Admission.{unitAt, withUnit, withInlet, Housed}
+use Rattle.admit.specs.Admission.{unitAt, withInlet, Housed}
 use Rattle.arriving.specs.Arriving as arriving
 use Rattle.arriving.specs.declared.Way.{Way}
 use Rattle.arriving.specs.declared.Way.the-variants.{Bus, Lost}

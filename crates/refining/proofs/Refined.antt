@@ -8,7 +8,7 @@ use Rattle.card.specs.declared.Card.{Card}
 use Rattle.card.specs.declared.Card.the-variants.{Narrow, Wide}
 use Rattle.record.specs.Record.{most, usable}
 use Rattle.line.specs.declared.Line.{Line}
-use Rattle.counters.specs.Counting.{value, zero}
+use Rattle.counters.specs.Counting.{zero}
 use Rattle.counters.specs.declared.Counters as C
 use Rattle.told.specs.Told.{shelfOf}
 use Rattle.told.specs.Lines.{Good}
@@ -20,17 +20,17 @@ use Rattle.loading.specs.Loads.{answerOf}
 use Rattle.promise.specs.Refusals.{Accepts}
 use Rattle.promise.proofs.Refusals.{accepted}
 use Rattle.promise.proofs.Cards.{narrow-accepts, narrow-refuses-iff}
-use Rattle.document.specs.Events.{Event, arrive, frame, hear, take, count, Back}
-use Rattle.document.specs.Counters.{Counter, placeOf, counterOf}
+use Rattle.document.specs.Events.{Event, arrive, frame, hear, take, count}
+use Rattle.document.specs.Counters.{counterOf}
 use Rattle.document.specs.Shelf as D
 use Rattle.document.specs.Steps as document
 use Rattle.document.proofs.Fixed.{givenOf, given-stays}
 use Rattle.running.specs.Events.{World, happens}
 use Rattle.running.specs.Keeping.{run, loaded}
 use Rattle.running.proofs.Kept.{soundness-kept}
-use Rattle.refining.specs.Refines.{gives, Refines, Counted, CountersAreHistory}
+use Rattle.refining.specs.Refines.{gives, Refines, CountersAreHistory}
 use Rattle.refining.specs.Cards.{Equal, TooWide, SameCard}
-use Rattle.refining.proofs.Alike.{Alike, WorldAlike}
+use Rattle.refining.proofs.Alike.{WorldAlike}
 use Rattle.refining.proofs.Opens.{opened-alike, opened-rows}
 use Rattle.refining.proofs.Steps.{StepAlike, arrive-step, frame-step, hear-step, take-step, count-step}
 

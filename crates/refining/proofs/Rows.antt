@@ -18,7 +18,6 @@ use Rattle.answer.specs.declared.Hearing as H
 use Rattle.answer.specs.declared.Hearing.the-variants as hearing
 use Rattle.bus.specs.declared.Heard as B
 use Rattle.bus.specs.declared.Heard.the-variants as frame
-use Rattle.shelf.specs.declared.Found.the-variants.{At, Nothing}
 use Rattle.line.specs.declared.Line.{Line}
 use Rattle.counters.specs.Counting.{value, zero, raised, rowAfter, settled}
 use Rattle.counters.specs.declared.Counters as C
@@ -28,7 +27,7 @@ use Rattle.told.proofs.Grown.{decide}
 use Rattle.document.specs.Counters.{Counter, arrived, hec, ignored, misrouted, inletfull, sent, unheard, damaged, queued, full, clp, wide, taken, placeOf, Entry, entries, matches, times, counterOf, arrivalCounts, hearingCounts, sentCounts}
 use Rattle.document.specs.Shelf as D
 use Rattle.document.specs.Hearing.{hearingOf, keeping, hearingUnit}
-use Rattle.document.specs.Frame.{asHeard, allHear, someAddressed, heardEntries, idle, sends, sendsFrom, sentIn, framed}
+use Rattle.document.specs.Frame.{asHeard, allHear, someAddressed, heardEntries}
 use Rattle.refining.proofs.Alike.{RowAlike}
 
 -- A. how often something stands in a history

@@ -13,12 +13,12 @@ use Rattle.shelf.specs.Shelves as S
 use Rattle.shelf.specs.declared.Found as F
 use Rattle.shelf.specs.declared.Found.the-variants as found
 use Rattle.shelf.specs.declared.Shelf.{Shelf}
-use Rattle.soundness.specs.State.{soundOf, Sound}
+use Rattle.soundness.specs.State.{Sound}
 use Rattle.soundness.proofs.Facts.{sound-iff}
 use Rattle.queueing.specs.Taking.{leaving}
 use Rattle.queueing.specs.declared.Leaving as L
 use Rattle.queueing.specs.declared.Leaving.the-variants as leaves
-use Rattle.answer.specs.Answers.{refused, row, none, arrivalRises, hearingRises, #taken}
+use Rattle.answer.specs.Answers.{refused, row, arrivalRises, hearingRises, #taken}
 use Rattle.answer.specs.declared.Hearing as H
 use Rattle.bus.specs.Frame.{heard, payload}
 use Rattle.hearing.specs.Hearings as hearing
@@ -35,15 +35,14 @@ use Rattle.arriving.specs.Arriving as arriving
 use Rattle.taking.specs.Takes as taking
 use Rattle.entry.specs.Counts.{countOf, counted}
 use Rattle.entry.specs.declared.Counted.the-variants as Counted
-use Rattle.document.specs.Events.{Event, arrive, frame, hear, take, count, Said, answers, counts}
-use Rattle.document.specs.Counters.{Counter, placeOf, counterOf, countersOf, entries, arrivalCounts, hearingCounts}
+use Rattle.document.specs.Events.{arrive, frame, hear, take, count, answers, counts}
+use Rattle.document.specs.Counters.{Counter, placeOf, counterOf, countersOf, arrivalCounts, hearingCounts}
 use Rattle.document.specs.Shelf as D
 use Rattle.document.specs.Arrival as P
 use Rattle.document.specs.Frame as page
 use Rattle.document.specs.Take as T
 use Rattle.document.specs.Steps as document
 use Rattle.running.specs.Events.{World, Outcome, ended, countSaid, happens}
-use Rattle.running.specs.Keeping.{soundIn}
 use Rattle.refining.proofs.Alike.{Alike, RowAlike, WorldAlike}
 use Rattle.document.proofs.Fixed.{givenOf, sent-kept}
 use Rattle.told.proofs.Grown.{decide}

@@ -2,45 +2,39 @@
 use Prim.Native.Nat.{ℕ, zero, suc, _+_, _<_, _≤_}
 use native.Mathlib.Omega.{arith}
 use mathlib.Core.Path.{_≡_, refl, sym, ap, ap₂, subst, _∙_}
-use mathlib.Core.Logic.{_≢_}
-use mathlib.Core.Bool.{Bool, true, false, cond, _&&_, _||_}
+use mathlib.Core.Bool.{cond, _&&_, _||_}
 use mathlib.Core.List.{List, [], _∷_, map}
 use lib.Dec.{eqb, leb, ltb}
 use lib.ListN.{length, length-set, getD, set}
 use lib.Seq.{getD-set-same, getD-set-other}
 use borrow.Author.Tests.{eqb-true, eqb-false}
 use Rattle.octets.specs.Octets.{four, part}
-use Rattle.header.specs.declared.Link.{Link}
 use Rattle.card.specs.declared.Card.{Card}
 use Rattle.outlet.specs.Outlets.{queue, capacity, empty}
 use Rattle.outlet.specs.declared.Mode.{Mode}
 use Rattle.outlet.specs.declared.Mode.the-variants.{One, Four}
-use Rattle.outlet.specs.declared.Limits.{Limits}
 use Rattle.outlet.specs.declared.Ring.{Ring}
-use Rattle.outlet.specs.declared.Outlet.{Outlet}
 use Rattle.queueing.specs.Hearing.{limit, held, atLimit}
-use Rattle.queueing.specs.Taking.{lowest, leaving, queues, marks, outgoing, LeavingOf}
+use Rattle.queueing.specs.Taking.{lowest, leaving, queues, marks, outgoing}
 use Rattle.queueing.specs.declared.Leaving as L
 use Rattle.queueing.specs.declared.Leaving.the-variants as leaves
-use Rattle.queueing.proofs.Leaves.{leaving-iff, leaving-in, marks-in}
-use Rattle.store.specs.Places.{Cell, cellAt, outletSlot, start, outletCells}
+use Rattle.queueing.proofs.Leaves.{leaving-iff}
+use Rattle.store.specs.Places.{Cell, start, outletCells}
 use Rattle.store.specs.Rings.{popped}
 use Rattle.store.proofs.Queues.{length-cells, outlet-popped}
-use Rattle.shelf.specs.Shelves as S
 use Rattle.shelf.specs.declared.Unit as U
 use Rattle.shelf.specs.declared.Shelf.{Shelf}
 use Rattle.told.proofs.Grown.{decide}
 use Rattle.answer.specs.Answers.{#taken}
-use Rattle.answer.specs.declared.Answer as A
-use Rattle.answer.specs.declared.Answer.the-variants.{Taken, Empty}
-use Rattle.admit.specs.Admission.{unitAt, withUnit, withQueue}
+use Rattle.answer.specs.declared.Answer.the-variants.{Empty}
+use Rattle.admit.specs.Admission.{unitAt, withQueue}
 use Rattle.taking.specs.Takes as taking
 use Rattle.document.specs.Counters.{entries, taken}
 use Rattle.document.specs.Shelf as D
 use Rattle.document.specs.Take as T
 use Rattle.counters.specs.Counting.{settledTo, settled}
 use Rattle.counters.specs.declared.Counters as C
-use Rattle.refining.proofs.Alike.{UnitAlike, Known, Alike, RowAlike, offBus}
+use Rattle.refining.proofs.Alike.{UnitAlike, Alike, RowAlike, offBus}
 use Rattle.refining.proofs.Finds.{length-map}
 use Rattle.refining.proofs.Changes.{changed}
 use Rattle.refining.proofs.Rows.{Different, row-alike, agree-taken}

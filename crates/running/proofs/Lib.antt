@@ -5,3 +5,4 @@ pub mod Asking
 pub mod Sent
 pub mod Framed
 pub mod Kept
+pub mod Contracts

@@ -1,3 +1,4 @@
 pub mod Events
 pub mod Refusing
 pub mod Keeping
+pub mod Contracts

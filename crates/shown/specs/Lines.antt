@@ -6,7 +6,7 @@ use lib.Dec.{eqb}
 use lib.ListN.{take}
 use Rattle.octets.specs.Octets.{be4, cat}
 use Rattle.words.specs.Decimals.{numberField, numberFields}
-use Rattle.words.specs.Hex.{hexOf}
+use Rattle.hex.specs.Hex.{hexOf}
 use Rattle.answer.specs.declared.Answer as A
 use Rattle.answer.specs.declared.Answer.the-variants.{Loaded, Unloaded, Refused, Arrived, Framed, Heard, Taken, Empty}
 use Rattle.answer.specs.Answers.{arrivalWord, hearingWord}

@@ -1,18 +1,13 @@
 // The answer lines of the console up to their newline, written into a buffer from a place on; each function says where it ends (docs/CONSOLE.md).
 use answer::Answer;
-use answer::Arrival;
-use answer::Hearing;
 use counters::Counters;
-ghost use mathlib.Core.Path.{_≡_};
 ghost use mathlib.Core.List.{_++_, _∷_};
 ghost use Prim.Native.Nat.{_+_, _*_, _≤_};
 ghost use lib.ListN.{length};
-ghost use Rattle.words.specs.Writing.{Wrote};
+ghost use Rattle.hex.specs.Writing.{Wrote};
 ghost use Rattle.words.specs.Decimals.{numberField};
-ghost use Rattle.words.specs.Hex.{hexOf};
-ghost use Rattle.answer.specs.Answers.{arrivalWord, hearingWord};
-ghost use Rattle.counters.specs.Counting.{listed as listedOf};
-ghost use Rattle.shown.specs.Lines.{unitField, frameText, saidText, countText, sumText, rowsText};
+ghost use Rattle.hex.specs.Hex.{hexOf};
+ghost use Rattle.shown.specs.Lines.{frameText, saidText, countText, sumText, rowsText};
 
 // A text and a number.
 fn say(out: &mut [u8], at: usize, text: &[u8], n: u64) -> usize
@@ -23,51 +18,13 @@ fn say(out: &mut [u8], at: usize, text: &[u8], n: u64) -> usize
     words::put_number(out, next, n)
 }
 
-// A unit's number, or `-` for nobody.
-fn put_unit(out: &mut [u8], at: usize, n: u8) -> usize
-    requires { ⌜ at + 21 ≤ length (now out) ⌝ }
-    ensures { λ r. ⌜ Wrote (now (out .entry)) at (unitField n) r (now (out .exit)) × (r ≤ at + 21) ⌝ }
-{
-    if n == 255 {
-        return words::put(out, at, b"\t-");
-    }
-    words::put_number(out, at, n as u64)
-}
-
-fn put_arrival(out: &mut [u8], at: usize, fate: Arrival) -> usize
-    requires { ⌜ at + 21 ≤ length (now out) ⌝ }
-    ensures { λ r. ⌜ Wrote (now (out .entry)) at (9 ∷ arrivalWord fate) r (now (out .exit)) × (r ≤ at + 21) ⌝ }
-{
-    match fate {
-        Arrival::Hec => words::put(out, at, b"\thec"),
-        Arrival::Ignored => words::put(out, at, b"\tignored"),
-        Arrival::Misrouted => words::put(out, at, b"\tmisrouted"),
-        Arrival::Inletfull => words::put(out, at, b"\tinletfull"),
-        Arrival::Queued => words::put(out, at, b"\tqueued"),
-    }
-}
-
-fn put_hearing(out: &mut [u8], at: usize, fate: Hearing) -> usize
-    requires { ⌜ at + 21 ≤ length (now out) ⌝ }
-    ensures { λ r. ⌜ Wrote (now (out .entry)) at (9 ∷ hearingWord fate) r (now (out .exit)) × (r ≤ at + 21) ⌝ }
-{
-    match fate {
-        Hearing::Damaged => words::put(out, at, b"\tdamaged"),
-        Hearing::Other => words::put(out, at, b"\tother"),
-        Hearing::Wide => words::put(out, at, b"\twide"),
-        Hearing::Full => words::put(out, at, b"\tfull"),
-        Hearing::Clp => words::put(out, at, b"\tclp"),
-        Hearing::Queued => words::put(out, at, b"\tqueued"),
-    }
-}
-
 fn put_frame(out: &mut [u8], at: usize, number: u16, sender: u8, granted: u8, copies: u8) -> usize
     requires { ⌜ at + 89 ≤ length (now out) ⌝ }
     ensures { λ r. ⌜ Wrote (now (out .entry)) at (frameText number sender granted copies) r (now (out .exit)) × (r ≤ at + 89) ⌝ }
 {
     let numbered = say(out, at, b"frame", number as u64);
-    let sent = put_unit(out, numbered, sender);
-    let all = put_unit(out, sent, granted);
+    let sent = phrases::put_who(out, numbered, sender);
+    let all = phrases::put_who(out, sent, granted);
     words::put_number(out, all, copies as u64)
 }
 
@@ -88,7 +45,7 @@ pub fn said(out: &mut [u8], at: usize, word: &[u8], unit: u8, answer: Answer) ->
         }
         Answer::Arrived(fate) => {
             let next = say(out, at, b"arrive", unit as u64);
-            put_arrival(out, next, fate)
+            phrases::put_arrival(out, next, fate)
         }
         Answer::Framed {
             number,
@@ -98,7 +55,7 @@ pub fn said(out: &mut [u8], at: usize, word: &[u8], unit: u8, answer: Answer) ->
         } => put_frame(out, at, number, sender, granted, copies),
         Answer::Heard(fate) => {
             let next = say(out, at, b"hear", unit as u64);
-            put_hearing(out, next, fate)
+            phrases::put_hearing(out, next, fate)
         }
         Answer::Taken => {
             let next = say(out, at, b"take", unit as u64);
@@ -117,28 +74,7 @@ pub fn put_bytes(out: &mut [u8], at: usize, bytes: &[u8]) -> usize
     ensures { λ r. ⌜ Wrote (now (out .entry)) at (9 ∷ hexOf (now (bytes .entry))) r (now (out .exit)) × (r ≤ at + 1 + 2 * length (now (bytes .entry))) ⌝ }
 {
     let next = words::put(out, at, b"\t");
-    words::put_hex(out, next, bytes)
-}
-
-// The thirteen counters in 01's order.
-fn listed(c: Counters) -> [u64; 13]
-    ensures { λ r. ⌜ r ≡ listedOf c ⌝ }
-{
-    [
-        c.arrived as u64,
-        c.hec as u64,
-        c.ignored as u64,
-        c.misrouted as u64,
-        c.inletfull as u64,
-        c.sent as u64,
-        c.unheard as u64,
-        c.damaged as u64,
-        c.queued as u64,
-        c.full as u64,
-        c.clp as u64,
-        c.wide as u64,
-        c.taken as u64,
-    ]
+    hex::put_hex(out, next, bytes)
 }
 
 // A unit's counters.
@@ -147,7 +83,7 @@ pub fn counted(out: &mut [u8], at: usize, unit: u8, c: Counters) -> usize
     ensures { λ r. ⌜ Wrote (now (out .entry)) at (countText unit c) r (now (out .exit)) × (r ≤ at + 299) ⌝ }
 {
     let next = say(out, at, b"count", unit as u64);
-    words::put_numbers(out, next, &listed(c))
+    words::put_numbers(out, next, &phrases::listed(c))
 }
 
 // How many bytes there are, and their sum.
@@ -170,7 +106,7 @@ pub fn rows(out: &mut [u8], at: usize, count: usize, rows: [Counters; 40]) -> us
     let mut i: usize = 0;
     while i < count {
         let row = rows[i];
-        next = words::put_numbers(out, next, &listed(row));
+        next = words::put_numbers(out, next, &phrases::listed(row));
         i += 1;
     }
     next

@@ -12,13 +12,13 @@ use Rattle.card.specs.declared.Card.{Card}
 use Rattle.record.specs.Record.{size, most, usable, cleared, image}
 use Rattle.record.proofs.Laws.{image-length}
 use Rattle.line.specs.declared.Line.{Line}
-use Rattle.line.specs.declared.Wrong.the-variants.{Newline}
+use Rattle.ranged.specs.declared.Wrong.the-variants.{Newline}
 use Rattle.line.specs.declared.Reading.{Reading}
 use Rattle.line.specs.declared.Reading.the-variants.{Good as Read, Bad}
-use Rattle.line.specs.Text.{split}
-use Rattle.judge.specs.declared.Verdict.{Verdict}
-use Rattle.judge.specs.declared.Verdict.the-variants.{Form}
-use Rattle.judge.specs.Judge.{numberOf, isFine}
+use Rattle.text.specs.Text.{split}
+use Rattle.verdict.specs.declared.Verdict.{Verdict}
+use Rattle.verdict.specs.declared.Verdict.the-variants.{Form}
+use Rattle.verdict.specs.Verdicts.{numberOf, isFine}
 use Rattle.told.specs.Told.{total, recordOf, records, shelfOf, memoryOf}
 use Rattle.told.specs.Lines.{judge, verdictOn, with, Ran, done, stopped, run, Good}
 use Rattle.told.proofs.Regions.{regions-length}

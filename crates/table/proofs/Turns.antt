@@ -10,19 +10,19 @@ use lib.ListN.{length, take, drop, length-take, length-drop}
 use borrow.Author.Tests.{ltb-true, ltb-false, lt-ltb, ne-eqb}
 use Rattle.card.specs.declared.Card.{Card}
 use Rattle.record.specs.Record.{size, most, usable, recordAt, cleared, Holds}
-use Rattle.line.specs.Text.{split, at}
+use Rattle.text.specs.Text.{split, at}
 use Rattle.line.specs.Lines.{readingOf}
 use Rattle.line.specs.declared.Line.{Line}
 use Rattle.line.specs.declared.Line.the-variants.{Bus, Unit as L·Unit, Vp, Drop, Page, Vc, Mc}
-use Rattle.line.specs.declared.Wrong.the-variants.{Newline}
+use Rattle.ranged.specs.declared.Wrong.the-variants.{Newline}
 use Rattle.line.specs.declared.Reading.{Reading}
 use Rattle.line.specs.declared.Reading.the-variants.{Good as Read, Bad}
 use Rattle.line.specs.Ranges.{InRange}
-use Rattle.line.proofs.Split.{split-some, split-end, split-more, split-last}
+use Rattle.text.proofs.Split.{split-some, split-end, split-more, split-last}
 use Rattle.line.proofs.Ranges.{read-in-range}
-use Rattle.judge.specs.declared.Verdict.{Verdict}
-use Rattle.judge.specs.declared.Verdict.the-variants.{Fine}
-use Rattle.judge.specs.Judge.{isFine}
+use Rattle.verdict.specs.declared.Verdict.{Verdict}
+use Rattle.verdict.specs.declared.Verdict.the-variants.{Fine}
+use Rattle.verdict.specs.Verdicts.{isFine}
 use Rattle.told.specs.Told.{Whose, total, opens, takes, shelfBy, shelfOf, recordOf, memoryOf}
 use Rattle.told.specs.Lines.{isFirst, judge, verdictOn, run, done, stopped, Good}
 use Rattle.told.specs.Enact.{verdictAt, memoryBy, Places}

@@ -21,12 +21,14 @@ use Rattle.shelf.specs.declared.Unit as U
 use Rattle.shelf.specs.declared.Found.the-variants.{Nothing}
 use Rattle.line.specs.declared.Line.{Line}
 use Rattle.line.specs.declared.Line.the-variants.{Bus, Unit as L·Unit, Vp, Drop, Page, Vc, Mc}
-use Rattle.judge.specs.declared.Verdict.{Verdict}
-use Rattle.judge.specs.declared.Verdict.the-variants.{Fine, Order, Twice}
-use Rattle.judge.specs.Judge.{asked, roomFor, offBus, taken, pageIn, inPage, judgeUnit, judgeVp, judgeDrop, judgePage, judgeVc, judgeMc}
+use Rattle.verdict.specs.declared.Verdict.{Verdict}
+use Rattle.verdict.specs.declared.Verdict.the-variants.{Fine, Order, Twice}
+use Rattle.verdict.specs.Verdicts.{asked, roomFor, offBus, taken, pageIn}
+use Rattle.judge.specs.Judge.{inPage, judgeUnit, judgeVp, judgeDrop, judgePage, judgeVc, judgeMc}
 use Rattle.told.specs.Told.{Whose, ofUnit, ofPage, opens, gives, topOf, total, recordOf, shelfOf, memoryOf}
 use Rattle.told.specs.Lines.{started, isFirst, owned, isDeclared, judge}
-use Rattle.judge.specs.Standing.{ownerAt, ownerOf, ownedBy, spot, second, isAt, judgeAt}
+use Rattle.verdict.specs.Owners.{ownerAt, ownerOf, ownedBy, spot}
+use Rattle.judge.specs.Standing.{second, isAt, judgeAt}
 use Rattle.told.specs.Enact.{putBy, putIn, putVc, memoryBy}
 use Rattle.told.proofs.Regions.{start}
 use Rattle.told.proofs.Fits.{fine-unit, fine-vp, fine-drop, fine-page, fine-vc}

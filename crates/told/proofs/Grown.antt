@@ -16,7 +16,7 @@ use Rattle.outlet.specs.declared.Limits.{Limits}
 use Rattle.shelf.specs.declared.Settings.{Settings}
 use Rattle.line.specs.declared.Line.{Line}
 use Rattle.line.specs.declared.Line.the-variants.{Bus, Unit as L·Unit, Vp, Drop, Page, Vc, Mc}
-use Rattle.judge.specs.declared.Verdict.the-variants.{Fine}
+use Rattle.verdict.specs.declared.Verdict.the-variants.{Fine}
 use Rattle.told.specs.Told.{Whose, ofUnit, ofPage, same, Opening, opens, Giving, gives, only, else, topBy, topOf, total, recordOf}
 use Rattle.told.specs.Lines.{judge, Good}
 use Rattle.told.proofs.Tabulate.{some-inj, none-some, only-true, either-right}

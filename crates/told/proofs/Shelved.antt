@@ -25,7 +25,7 @@ use Rattle.shelf.proofs.Finding.{orElse, find-declared, find-kept}
 use Rattle.shelf.proofs.Hearing.{hears-with, hears-none}
 use Rattle.line.specs.declared.Line.{Line}
 use Rattle.line.specs.declared.Line.the-variants.{Bus, Unit as L·Unit, Vp, Drop, Page, Vc, Mc}
-use Rattle.judge.specs.declared.Verdict.the-variants.{Fine}
+use Rattle.verdict.specs.declared.Verdict.the-variants.{Fine}
 use Rattle.told.specs.Told.{ofUnit, same, opens, topOf, total, hearsBy, hearsIn, declare, hearing, joinAt, shelfBy, shelfOf}
 use Rattle.told.specs.Lines.{isFirst, judge, Good}
 use Rattle.told.proofs.Tabulate.{some-inj, none-some}

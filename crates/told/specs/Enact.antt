@@ -13,12 +13,13 @@ use Rattle.line.specs.declared.Reading.{Reading}
 use Rattle.line.specs.declared.Reading.the-variants.{Good, Bad}
 use Rattle.line.specs.declared.Line.{Line}
 use Rattle.line.specs.declared.Line.the-variants.{Bus, Unit as L·Unit, Vp, Drop, Page, Vc, Mc}
-use Rattle.judge.specs.declared.Owner.{Owner}
-use Rattle.judge.specs.declared.Paged.{Paged}
-use Rattle.judge.specs.declared.Verdict.{Verdict}
-use Rattle.judge.specs.declared.Verdict.the-variants.{Form}
-use Rattle.judge.specs.Judge.{pageIn}
-use Rattle.judge.specs.Standing.{ownerOf, spot, judgeAt}
+use Rattle.verdict.specs.declared.Owner.{Owner}
+use Rattle.verdict.specs.declared.Paged.{Paged}
+use Rattle.verdict.specs.declared.Verdict.{Verdict}
+use Rattle.verdict.specs.declared.Verdict.the-variants.{Form}
+use Rattle.verdict.specs.Verdicts.{pageIn}
+use Rattle.verdict.specs.Owners.{ownerOf, spot}
+use Rattle.judge.specs.Standing.{judgeAt}
 use Rattle.told.specs.Told.{opens, takes, shelfBy}
 
 -- the memory after it

@@ -1,4 +1,2 @@
-pub mod Splices
-pub mod HexLaws
 pub mod NumberLaws
 pub mod Roundtrip

@@ -10,11 +10,11 @@ use lib.Dec.{ltb, leb}
 use lib.ListN.{length, getD, drop, take, set, length-append, length-set, length-drop}
 use lib.Seq.{drop-cons, drop-set-lt, getD-set-same, take-all, take-suc}
 use borrow.Author.Tests.{lt-ltb, le-ltb, le-leb, lt-leb, leb-true}
-use Rattle.line.specs.Digits.{decimalOf, value}
-use Rattle.line.proofs.Numbers.{value-on, grows}
+use Rattle.text.specs.Digits.{decimalOf, value}
+use Rattle.text.proofs.Numbers.{value-on, grows}
 use Rattle.octets.specs.Octets.{cat}
-use Rattle.words.specs.Writing.{Wrote}
-use Rattle.words.proofs.Splices.{nothing, cat-snoc}
+use Rattle.hex.specs.Writing.{Wrote}
+use Rattle.hex.proofs.Splices.{nothing, cat-snoc}
 use Rattle.words.specs.declared.Numeral.the-variants.{Is, Above, None}
 use Rattle.words.specs.Decimals.{digitsTo, decimal, numberField, numberFields, numberOf}
 

@@ -7,10 +7,10 @@ use native.Mathlib.Nat.{pow-suc}
 use native.Mathlib.Omega.{arith}
 use lib.Dec.{ltb}
 use borrow.Author.Tests.{ltb-true, ltb-false}
-use Rattle.line.specs.Digits.{value}
-use Rattle.words.specs.Hex.{hexDigit, unhex, capital, hexPair}
+use Rattle.text.specs.Digits.{value}
+use Rattle.hex.specs.Hex.{hexDigit, unhex, capital, hexPair}
 use Rattle.words.specs.Decimals.{digitsTo, decimal}
-use Rattle.words.proofs.HexLaws.{decimal-digit, capital-digit}
+use Rattle.hex.proofs.HexLaws.{decimal-digit, capital-digit}
 
 value-snoc : (v : ℕ) (s : List ℕ) (b : ℕ) → value v (s ++ b ∷ []) ≡ value v s * 10 + (b - 48)
 unfolding value

@@ -4,7 +4,7 @@ use mathlib.Core.Bool.{cond}
 use mathlib.Core.List.{List, [], _∷_, _++_}
 use lib.Dec.{leb, ltb}
 use Rattle.octets.specs.Octets.{cat}
-use Rattle.line.specs.Digits.{decimalOf, value}
+use Rattle.text.specs.Digits.{decimalOf, value}
 use Rattle.words.specs.declared.Numeral as N
 use Rattle.words.specs.declared.Numeral.the-variants.{Is, Above, None}
 

@@ -2,17 +2,15 @@
 use Prim.Native.Nat.{ℕ}
 use mathlib.Core.Bool.{cond}
 use mathlib.Core.List.{List, [], _∷_, _++_}
-use lib.Dec.{eqb, leb}
-use lib.ListN.{length, getD}
-use Rattle.octets.specs.Octets.{cat}
-use Rattle.words.specs.Hex.{hexOf}
-use Rattle.words.specs.Decimals.{decimal, numberFields}
+use lib.Dec.{leb}
+use lib.ListN.{length}
+use Rattle.words.specs.Decimals.{numberFields}
 use Rattle.event.specs.Names.{wArrive, wFrame, wTake, wCount}
 use Rattle.event.specs.declared.Event as Ev
 use Rattle.event.specs.declared.Event.the-variants.{Arrive, Frame, Take, Count, Bad}
-use Rattle.answer.specs.Answers.{arrivalWord, hearingWord}
 use Rattle.answer.specs.declared.Answer as An
-use Rattle.answer.specs.declared.Answer.the-variants.{Loaded, Unloaded, Refused, Arrived, Framed, Heard, Taken, Empty}
+use Rattle.phrases.specs.Fates.{fields}
+use Rattle.answered.specs.Answers.{answerFields}
 use Rattle.written.specs.declared.Outcome as Ou
 use Rattle.written.specs.declared.Outcome.the-variants.{Nothing, Answered, Counted}
 use Rattle.counters.specs.Counting.{listed}
@@ -21,47 +19,8 @@ use Rattle.counters.specs.declared.Counters.{Counters}
 abbrev pub wTable : List ℕ
 wTable = 116 ∷ 97 ∷ 98 ∷ 108 ∷ 101 ∷ []
 
-abbrev pub wOk : List ℕ
-wOk = 111 ∷ 107 ∷ []
-
-abbrev pub wRefused : List ℕ
-wRefused = 114 ∷ 101 ∷ 102 ∷ 117 ∷ 115 ∷ 101 ∷ 100 ∷ []
-
-abbrev pub wEmpty : List ℕ
-wEmpty = 101 ∷ 109 ∷ 112 ∷ 116 ∷ 121 ∷ []
-
 abbrev pub wBad : List ℕ
 wBad = 98 ∷ 97 ∷ 100 ∷ []
-
--- a field behind the tab that parts it from the one before, and several
-abbrev pub tabbed : List ℕ → List ℕ
-tabbed field = 9 ∷ field
-
-abbrev pub fields : List (List ℕ) → List ℕ
-fields fs = cat tabbed fs
-
--- a unit's number, or `-` for nobody, who is 255
-unfoldable pub who : ℕ → List ℕ
-who n = cond (eqb n 255) (45 ∷ []) (decimal n)
-
--- the byte at a place of a cell, 0 past its end; the header and its check
-abbrev pub byteAt : List ℕ → ℕ → ℕ
-byteAt cell k = getD cell k 0
-
-abbrev pub headerBytes : List ℕ → List ℕ
-headerBytes cell = byteAt cell 0 ∷ byteAt cell 1 ∷ byteAt cell 2 ∷ byteAt cell 3 ∷ byteAt cell 4 ∷ []
-
--- "`table` gives `ok` and bytes used, or `refused`, number and line"; "A refused event prints its word, `refused` and the number";
--- "`frame` gives number, sender, unit granted, copies queued. `take` gives header and first payload byte."
-unfoldable pub answerFields : ℕ → An.Answer → List ℕ → List (List ℕ)
-answerFields unit (Loaded used) cell = wOk ∷ decimal used ∷ []
-answerFields unit (Unloaded number line) cell = wRefused ∷ decimal number ∷ decimal line ∷ []
-answerFields unit (Refused number) cell = wRefused ∷ decimal number ∷ []
-answerFields unit (Arrived fate) cell = decimal unit ∷ arrivalWord fate ∷ []
-answerFields unit (Framed number sender granted copies) cell = decimal number ∷ who sender ∷ who granted ∷ decimal copies ∷ []
-answerFields unit (Heard fate) cell = decimal unit ∷ hearingWord fate ∷ []
-answerFields unit Taken cell = decimal unit ∷ hexOf (headerBytes cell) ∷ hexOf (byteAt cell 5 ∷ []) ∷ []
-answerFields unit Empty cell = decimal unit ∷ wEmpty ∷ []
 
 -- what is said of an event: nothing, what was answered, the counters; "`count` lists the thirteen in order, later ones after."
 unfoldable pub outcomeText : ℕ → Ou.Outcome → List ℕ → List ℕ

@@ -1,6 +1,6 @@
 -- `command::command_named` meets its contract. Assumes nothing.
 use mathlib.Core.Path.{_∙_}
-use Rattle.line.specs.Text.{split}
+use Rattle.text.specs.Text.{split}
 use borrow.Author.Needs.{needs}
 use Rattle.command.proofs.command_named.Statement.{statement}
 use Rattle.command.proofs.command_named.Tie as tie

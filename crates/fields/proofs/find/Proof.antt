@@ -2,7 +2,7 @@
 use mathlib.Core.Path.{_≡_, refl, sym, _∙_}
 use Prim.Native.Nat.{_≤_, _-_}
 use lib.ListN.{length, drop}
-use Rattle.line.specs.Text.{split}
+use Rattle.text.specs.Text.{split}
 use Rattle.fields.specs.Fields.{placeFrom}
 use Rattle.fields.proofs.Laws.{is-here, is-last, is-later}
 use native.Mathlib.Omega.{arith}

@@ -1,22 +1,28 @@
 -- `framing::hear_all` meets its contract. Assumes nothing.
-use Prim.Native.Nat.{ℕ, _-_, _≤_, _<_, min}
+use Prim.Native.Nat.{ℕ, _+_, _-_, _≤_, _<_, min}
 use native.Mathlib.Omega.{arith}
 use mathlib.Core.Path.{_≡_, refl, sym, ap, subst, _∙_}
+use mathlib.Core.Logic.{⊎-elim}
 use lib.ListN.{length, getD, drop}
 use lib.Seq.{getD-set-other}
 use borrow.Author.Needs.{needs}
+use Rattle.octets.specs.Octets.{splice}
+use Rattle.store.specs.Places.{putAt}
 use Rattle.shelf.specs.Shelves.{declared}
+use Rattle.shelf.specs.declared.Shelf.{Shelf}
 use Rattle.shelf.proofs.Finding.{length-mapped}
 use Rattle.admit.proofs.Laws.{nowhere, copied}
-use Rattle.admit.specs.Admission.{Housed}
-use Rattle.hearing.specs.Hearings.{copyOf, storeOf}
+use Rattle.admit.specs.Admission.{Housed, withUnit}
+use Rattle.answer.specs.declared.Hearing.the-variants.{Queued}
+use Rattle.hearing.specs.Hearings.{fateBy, copyWith, copyBy, copyOf, storeBy, storeOf}
+use Rattle.hearing.proofs.Plans.{plan-queue, outlet-inside, lost-copy, lost-store, queued-copy, queued-store}
 use Rattle.framing.specs.Sending.{heardFrom, storeFrom, heardByAll, heardStore}
-use Rattle.framing.proofs.Turns.{listening, none-left, inside, turned, stored, heard-none, store-none}
+use Rattle.framing.proofs.Turns.{listening, none-left, inside, turned, unturned, stored, heard-none, store-none}
 use Rattle.framing.proofs.hear_all.Statement.{statement}
 use Rattle.framing.proofs.hear_all.Tie as tie
 
 abbrev Inv-loop : tie.InvT-loop
-Inv-loop heard cell store₀ shelf₀ end each₀ copies₀ addressed₀ i₀ store shelf each copies addressed i =
+Inv-loop heard store₀ shelf₀ cell end each₀ copies₀ addressed₀ i₀ store shelf each copies addressed i =
     (i ≤ end)
     × (copies ≤ i)
     × (length store ≡ length store₀)
@@ -25,11 +31,15 @@ Inv-loop heard cell store₀ shelf₀ end each₀ copies₀ addressed₀ i₀ st
     × (heardStore shelf₀ heard store₀ cell ≡ storeFrom heard i (drop i (declared shelf₀)) store cell)
 
 abbrev μ-loop : tie.MeasureT-loop
-μ-loop heard cell store₀ shelf₀ end each₀ copies₀ addressed₀ i₀ store shelf each copies addressed i = end - i
+μ-loop heard store₀ shelf₀ cell end each₀ copies₀ addressed₀ i₀ store shelf each copies addressed i = end - i
 
 -- there are 32 places
 long : (c : tie.Start Inv-loop μ-loop) → length (c .args .t1 .units) ≡ 32
 long c = search (needs, length-mapped)
+
+-- and 56 bytes of a cell
+whole : (c : tie.Start Inv-loop μ-loop) → length (c .args .t3) ≡ 56
+whole c = search needs
 
 held-requires : tie.Need-held-requires Inv-loop μ-loop
 held-requires c κs = search needs
@@ -43,82 +53,156 @@ mul-unit c = let e = c .before .before .held .ensures in omega arith
 element-copy-out-unit : tie.Need-element-copy-out-unit Inv-loop μ-loop
 element-copy-out-unit c = let e = c .before .before .held .ensures in omega arith
 
-hear-copy-requires : tie.Need-hear-copy-requires Inv-loop μ-loop
-hear-copy-requires c κs =
-    let a = c .before .before .before .before .before .before .before .args in
-    let e = c .before .before .before .before .held .ensures in
-    let w = c .before .before .before .loop .inv in
-    let n = c .before .before .before .loop .i in
-    let less : n < min (a .t1 .count) 32 = omega (arith, e, c .before .before .loop-test .taken) in
-    let u = w .3 n (omega arith) ∙ copied (a .t1) n (long (c .before .before .before .before .before .before .before)) (omega (arith, less)) in (
-      c .before .before .before .before .before .before .before .pre .0,
-      subst (λ b. Housed n (getD (c .before .before .before .loop .shelf .units) n nowhere) b) (sym (w .2)) (subst (λ x. Housed n x (length (a .store .now))) (sym u) (c .before .before .before .before .before .before .before .pre .1 n (inside (a .t1) (long (c .before .before .before .before .before .before .before)) n less))),
+plan-of-requires : tie.Need-plan-of-requires Inv-loop μ-loop
+plan-of-requires c κs = search needs
+
+enum-known-plan : tie.Need-enum-known-plan Inv-loop μ-loop
+enum-known-plan c = search needs
+
+-- what is known once a unit's plan is made: the place is one of 32, and the unit is the one that stood there
+below : (s : tie.After-plan-of Inv-loop μ-loop) → s .before .before .before .loop .i < min (s .before .before .before .before .before .before .args .t1 .count) 32
+below s = let e = s .before .before .before .before .held .ensures in omega (arith, e, s .before .before .loop-test .taken)
+
+same-unit : (s : tie.After-plan-of Inv-loop μ-loop) → getD (s .before .before .before .loop .shelf .units) (s .before .before .before .loop .i) nowhere ≡ getD (s .before .before .before .before .before .before .args .t1 .units) (s .before .before .before .loop .i) nowhere
+same-unit s = s .before .before .before .loop .inv .3 (s .before .before .before .loop .i) (omega arith)
+
+housed : (s : tie.After-plan-of Inv-loop μ-loop) → Housed (s .before .before .before .loop .i) (getD (s .before .before .before .loop .shelf .units) (s .before .before .before .loop .i) nowhere) (length (s .before .before .before .loop .store))
+housed s =
+    let a = s .before .before .before .before .before .before .args in
+    let l = s .before .before .before .loop in
+    let less = below s in
+    let u = same-unit s ∙ copied (a .t1) (l .i) (long (s .before .before .before .before .before .before)) (omega (arith, less)) in
+    subst (λ b. Housed (l .i) (getD (l .shelf .units) (l .i) nowhere) b) (sym (l .inv .2))
+    (subst (λ x. Housed (l .i) x (length (a .store .now))) (sym u) (s .before .before .before .before .before .before .pre (l .i) (inside (a .t1) (long (s .before .before .before .before .before .before)) (l .i) less)))
+
+slot-of-requires : tie.Need-slot-of-requires Inv-loop μ-loop
+slot-of-requires c κs =
+    let s = c .before .before .before .before .before in
+    let less = below s in
+    let e = sym (s .plan-of .ensures) ∙ c .before .before .before .plan .given .1 in
+    (plan-queue (getD (s .before .before .before .loop .shelf .units) (s .before .before .before .loop .i) nowhere) (s .before .before .before .before .before .before .args .heard) _ e, omega (arith, less))
+
+slice-aggregate-put-cell : tie.Need-slice-aggregate-put-cell Inv-loop μ-loop
+slice-aggregate-put-cell c = search needs
+
+put-cell-requires : tie.Need-put-cell-requires Inv-loop μ-loop
+put-cell-requires c κs =
+    let s = c .before .before .before .before .before .before .before in
+    let l = s .before .before .before .loop in
+    let u = getD (l .shelf .units) (l .i) nowhere in
+    let e = sym (s .plan-of .ensures) ∙ c .before .before .before .before .before .plan .given .1 in (
+      whole (s .before .before .before .before .before .before),
+      subst (λ n. n + 56 ≤ length (l .store)) (sym (c .before .slot-of .ensures)) (outlet-inside (l .i) (length (l .store)) u _ (housed s) (plan-queue u (s .before .before .before .before .before .before .args .heard) _ e)),
     )
 
-mul-after : tie.Need-mul-after Inv-loop μ-loop
-mul-after c = let e = c .before .before .before .before .before .before .before .before .held .ensures in omega arith
+queued-up-requires : tie.Need-queued-up-requires Inv-loop μ-loop
+queued-up-requires c κs =
+    let s = c .before .before .before .before .before .before .before .before .before .before in
+    let e = sym (s .plan-of .ensures) ∙ c .before .before .before .before .before .before .before .before .plan .given .1 in
+    plan-queue (getD (s .before .before .before .loop .shelf .units) (s .before .before .before .loop .i) nowhere) (s .before .before .before .before .before .before .args .heard) _ e
 
-element-set-from-after : tie.Need-element-set-from-after Inv-loop μ-loop
-element-set-from-after c = let e = c .before .before .before .before .before .before .before .before .held .ensures in omega arith
+mul-t26 : tie.Need-mul-t26 Inv-loop μ-loop
+mul-t26 c = let less = below (c .before .before .before .before .before .before .before .before .before .before .before) in omega (arith, less)
+
+element-set-from-shelf : tie.Need-element-set-from-shelf Inv-loop μ-loop
+element-set-from-shelf c = let less = below (c .before .before .before .before .before .before .before .before .before .before .before) in omega (arith, less)
+
+enum-told : tie.Need-enum-told Inv-loop μ-loop
+enum-told c = search needs
+
+fate-by-requires : tie.Need-fate-by-requires Inv-loop μ-loop
+fate-by-requires c κs = search needs
 
 hearing-rises-requires : tie.Need-hearing-rises-requires Inv-loop μ-loop
 hearing-rises-requires c κs = search needs
 
 mul-each : tie.Need-mul-each Inv-loop μ-loop
-mul-each c = let e = c .before .before .before .before .before .before .before .before .before .held .ensures in omega arith
+mul-each c = let less = below (c .before .before .before) in omega (arith, less)
 
 array-write-each : tie.Need-array-write-each Inv-loop μ-loop
-array-write-each c = let e = c .before .before .before .before .before .before .before .before .before .held .ensures in omega arith
+array-write-each c = let less = below (c .before .before .before) in omega (arith, less)
 
 queued-one-requires : tie.Need-queued-one-requires Inv-loop μ-loop
 queued-one-requires c κs = search needs
 
 add-copies : tie.Need-add-copies Inv-loop μ-loop
 add-copies c =
-    let a = c .before .before .before .before .before .before .before .before .before .before .before .before .before .args in
-    let e = c .before .before .before .before .before .before .before .before .before .before .held .ensures in
-    let w = c .before .before .before .before .before .before .before .before .before .loop .inv in
+    let s = c .before .before .before .before in
+    let less = below s in
+    let w = s .before .before .before .loop .inv in
     let q = c .queued-one .ensures .1 in
-    omega (arith, w .1, q, e)
+    omega (arith, w .1, q, less)
 
 is-addressed-requires : tie.Need-is-addressed-requires Inv-loop μ-loop
 is-addressed-requires c κs = search needs
 
 add-i : tie.Need-add-i Inv-loop μ-loop
-add-i c = let e = c .before .before .before .before .before .before .before .before .before .before .before .held .ensures in omega arith
+add-i c = let less = below (c .before .before .before .before .before) in omega (arith, less)
 
 loop-less : tie.Need-loop-less Inv-loop μ-loop
 loop-less c = omega arith
 
 loop-again : tie.Need-loop-again Inv-loop μ-loop
+unfolding putAt fateBy
 loop-again c =
-    let a = c .before .before .before .before .before .before .before .before .before .before .before .before .before .before .args in
-    let e = c .before .before .before .before .before .before .before .before .before .before .before .held .ensures in
-    let w = c .before .before .before .before .before .before .before .before .before .before .loop .inv in
-    let n = c .before .before .before .before .before .before .before .before .before .before .loop .i in
-    let less : n < min (a .t1 .count) 32 = omega (arith, e, c .before .before .before .before .before .before .before .before .before .loop-test .taken) in
-    let u = w .3 n (omega arith) in
-    let f = c .before .before .before .before .before .before .hear-copy .ensures in (
-      omega (arith, e, less),
-      omega (arith, w .1, c .before .queued-one .ensures .1),
-      c .before .before .before .before .before .store .given ∙ w .2,
-      λ j h. getD-set-other (c .before .before .before .before .before .before .before .before .before .before .loop .shelf .units) n j (c .before .before .before .before .before .before .hear-copy .result .unit) nowhere (omega arith)
-          ∙ w .3 j (omega arith),
-      w .4
-          ∙ turned (a .t1) (long (c .before .before .before .before .before .before .before .before .before .before .before .before .before .before)) n less (a .heard) (c .before .before .before .before .before .before .hear-copy .result) (f .0 ∙ ap (λ x. copyOf x (a .heard)) u) (c .before .before .before .before .before .before .before .before .before .before .loop .shelf) (c .before .before .before .before .before .before .before .before .before .before .loop .each) (c .before .before .before .before .before .before .before .before .before .before .loop .copies) (c .before .before .before .before .before .before .before .before .before .before .loop .addressed) _ _ _ (c .before .before .hearing-rises .ensures) (c .before .queued-one .ensures .0) (c .is-addressed .ensures),
-      w .5
-          ∙ stored (a .t1) (long (c .before .before .before .before .before .before .before .before .before .before .before .before .before .before)) n less (a .heard) (c .before .before .before .before .before .before .before .before .before .before .loop .store) _ (a .cell .now) (f .1 ∙ ap (λ x. storeOf x (a .heard) n (c .before .before .before .before .before .before .before .before .before .before .loop .store) (a .cell .now)) u),
-    )
+    let s = c .before .before .before .before .before in
+    let m = c .before .before .before .before .match in
+    let a = s .before .before .before .before .before .before .args in
+    let l = s .before .before .before .loop in
+    let n = l .i in
+    let less = below s in
+    let u = getD (l .shelf .units) n nowhere in
+    let same = same-unit s in
+    let p = s .plan-of .ensures in
+    let f = c .before .before .before .fate-by in
+    ⊎-elim
+    (λ w.
+    let e = w .1 .given .1 in
+    let r = w .10 in
+    let es = w .11 in
+    let eh = w .12 in
+    let x : f .result ≡ Queued = f .ensures ∙ ap fateBy (w .13) in (
+      omega (arith, s .before .before .before .before .held .ensures, less),
+      omega (arith, l .inv .1, c .before .queued-one .ensures .1),
+      ap length es ∙ w .8 .given ∙ l .inv .2,
+      λ j h. ap (λ (z : Shelf). getD (z .units) j nowhere) eh ∙ getD-set-other (l .shelf .units) n j (r .result) nowhere (omega arith) ∙ l .inv .3 j (omega arith),
+      l .inv .4
+          ∙ turned (a .t1) (long (s .before .before .before .before .before .before)) n less (a .heard) (copyWith (r .result) (f .result))
+          (ap (copyWith (r .result)) x ∙ queued-copy u _ n (l .store) (a .t3) _ e _ (r .ensures) ∙ ap (λ y. copyBy y u) p ∙ ap (λ y. copyOf y (a .heard)) same)
+          (l .shelf) (m .shelf) eh (l .each) (l .copies) (l .addressed) _ _ _ (c .before .before .hearing-rises .ensures) (c .before .queued-one .ensures .0) (c .is-addressed .ensures),
+      l .inv .5
+          ∙ stored (a .t1) (long (s .before .before .before .before .before .before)) n less (a .heard) (l .store) (m .store) (a .t3)
+          (es ∙ w .7 .ensures ∙ ap (λ m. splice (l .store) m (a .t3)) (w .5 .ensures) ∙ queued-store u _ n (l .store) (a .t3) _ e
+          ∙ ap (λ y. storeBy y u n (l .store) (a .t3)) p ∙ ap (λ y. storeOf y (a .heard) n (l .store) (a .t3)) same),
+    ))
+    (λ w.
+    let e = w .1 .given .1 in
+    let es = w .2 in
+    let eh = w .3 in
+    let x = f .ensures ∙ ap fateBy (w .4) in (
+      omega (arith, s .before .before .before .before .held .ensures, less),
+      omega (arith, l .inv .1, c .before .queued-one .ensures .1),
+      ap length es ∙ l .inv .2,
+      λ j h. ap (λ (z : Shelf). getD (z .units) j nowhere) eh ∙ l .inv .3 j (omega arith),
+      l .inv .4
+          ∙ turned (a .t1) (long (s .before .before .before .before .before .before)) n less (a .heard) (copyWith u (f .result))
+          (lost-copy u _ n (l .store) (a .t3) _ e _ x ∙ ap (λ y. copyBy y u) p ∙ ap (λ y. copyOf y (a .heard)) same)
+          (l .shelf) (m .shelf) (eh ∙ unturned (l .shelf) n) (l .each) (l .copies) (l .addressed) _ _ _ (c .before .before .hearing-rises .ensures) (c .before .queued-one .ensures .0) (c .is-addressed .ensures),
+      l .inv .5
+          ∙ stored (a .t1) (long (s .before .before .before .before .before .before)) n less (a .heard) (l .store) (m .store) (a .t3)
+          (es ∙ lost-store u _ n (l .store) (a .t3) _ e ∙ ap (λ y. storeBy y u n (l .store) (a .t3)) p ∙ ap (λ y. storeOf y (a .heard) n (l .store) (a .t3)) same),
+    ))
+    (m .came)
 
 same-length : tie.Need-same-length Inv-loop μ-loop
 same-length c = c .before .loop .inv .2
 
 returns : tie.Need-returns Inv-loop μ-loop
 returns c =
-    let a = c .before .before .before .before .before .args in
+    let a = c .before .before .before .before .args in
     let e = c .before .before .held .ensures in
     let w = c .before .loop .inv in
-    let n = none-left (a .t1) (long (c .before .before .before .before .before)) (c .before .loop .i) (omega (arith, e)) in
+    let n = none-left (a .t1) (long (c .before .before .before .before)) (c .before .loop .i) (omega (arith, e)) in
     (sym (w .4 ∙ heard-none (a .heard) (c .before .loop .i) _ _ n), sym (w .5 ∙ store-none (a .heard) (c .before .loop .i) _ _ _ n))
 
 pub hear-all-spec : {M : Type 1} → statement M
@@ -131,9 +215,16 @@ hear-all-spec =
     loop-holds
     mul-unit
     element-copy-out-unit
-    hear-copy-requires
-    mul-after
-    element-set-from-after
+    plan-of-requires
+    enum-known-plan
+    slot-of-requires
+    slice-aggregate-put-cell
+    put-cell-requires
+    queued-up-requires
+    mul-t26
+    element-set-from-shelf
+    enum-told
+    fate-by-requires
     hearing-rises-requires
     mul-each
     array-write-each

@@ -5,10 +5,11 @@ use mathlib.Core.Path.{_≡_, sym, ap, subst, _∙_}
 use lib.ListN.{length, getD}
 use Rattle.octets.specs.Octets.{part}
 use Rattle.shelf.proofs.Finding.{length-mapped}
-use Rattle.admit.specs.Admission.{Housed}
+use Rattle.admit.specs.Admission.{Housed, withUnit, withInlet}
 use Rattle.admit.proofs.Laws.{nowhere, copied, cell-length}
 use Rattle.hearing.proofs.Plans.{before-parity}
-use Rattle.framing.proofs.Sends.{head-inside, sealed-length, out-is, out-housed, frame-is, sent-done, sent-store}
+use Rattle.framing.specs.Sending.{heardStore}
+use Rattle.framing.proofs.Sends.{head-inside, sealed-length, spliced-whole, out-is, out-housed, frame-is, sent-done, sent-store}
 use borrow.Author.Needs.{needs}
 use Rattle.framing.proofs.send.Statement.{statement}
 use Rattle.framing.proofs.send.Tie as tie
@@ -62,48 +63,62 @@ element-set-from-unit c =
     let b = h .below in
     omega (arith, b)
 
+slice-reshare-prefix-copy : tie.Need-slice-reshare-prefix-copy
+slice-reshare-prefix-copy c = search needs
+
+slice-aggregate-copy : tie.Need-slice-aggregate-copy
+slice-aggregate-copy c =
+    let s = c .before .before .before .before .before .before .before .before .before .before .before .before .before in
+    let a = s .args in
+    let h = s .pre .2 (a .place) (s .pre .1) in
+    let u = copied (a .t1) (a .place) (long s) (h .below) in
+    let u₀ = getD (a .t1 .units) (a .place) nowhere in
+    let hu = subst (λ x. Housed (a .place) x (length (a .store .now))) (sym u) h in
+    let at = subst (λ n. n + 56 ≤ length (a .store .now)) (sym (c .before .before .before .before .before .before .before .inlet-at .ensures)) (head-inside (a .place) (length (a .store .now)) u₀ hu) in
+    let cl = cell-length (a .store .now) (c .before .before .before .before .before .before .before .inlet-at .result) (c .before .before .before .before .before .before .get-cell .result .now) at (c .before .before .before .before .before .before .get-cell .ensures) in
+    let fl = ap length (c .before .before .before .before .seal .ensures) ∙ sealed-length (c .before .before .before .before .before .before .get-cell .result .now) cl in
+    let bp = before-parity (c .before .before .before .before .seal .last .1 .0) fl in
+    sym bp
+
+slice-aggregate-copy-2 : tie.Need-slice-aggregate-copy-2
+slice-aggregate-copy-2 c = search needs
+
+copy-requires : tie.Need-copy-requires
+copy-requires c κs =
+    let s = c .before .before .before .before .before .before .before .before .before .before .before .before .before .before in
+    let a = s .args in
+    let h = s .pre .2 (a .place) (s .pre .1) in
+    let u = copied (a .t1) (a .place) (long s) (h .below) in
+    let u₀ = getD (a .t1 .units) (a .place) nowhere in
+    let hu = subst (λ x. Housed (a .place) x (length (a .store .now))) (sym u) h in
+    let at = subst (λ n. n + 56 ≤ length (a .store .now)) (sym (c .before .before .before .before .before .before .before .before .inlet-at .ensures)) (head-inside (a .place) (length (a .store .now)) u₀ hu) in
+    let cl = cell-length (a .store .now) (c .before .before .before .before .before .before .before .before .inlet-at .result) (c .before .before .before .before .before .before .before .get-cell .result .now) at (c .before .before .before .before .before .before .before .get-cell .ensures) in
+    let fl = ap length (c .before .before .before .before .before .seal .ensures) ∙ sealed-length (c .before .before .before .before .before .before .before .get-cell .result .now) cl in
+    let bp = before-parity (c .before .before .before .before .before .seal .last .1 .0) fl in
+    omega (arith, bp)
+
 hear-requires : tie.Need-hear-requires
 hear-requires c κs = search needs
 
-slice-reshare-prefix-hear-all : tie.Need-slice-reshare-prefix-hear-all
-slice-reshare-prefix-hear-all c = search needs
-
-slice-aggregate-hear-all : tie.Need-slice-aggregate-hear-all
-slice-aggregate-hear-all c =
-    let a = c .before .before .before .before .before .before .before .before .before .before .before .before .before .before .before .args in
-    let h = c .before .before .before .before .before .before .before .before .before .before .before .before .before .before .before .pre .2 (a .place) (c .before .before .before .before .before .before .before .before .before .before .before .before .before .before .before .pre .1) in
-    let u = copied (a .t1) (a .place) (long (c .before .before .before .before .before .before .before .before .before .before .before .before .before .before .before)) (h .below) in
-    let u₀ = getD (a .t1 .units) (a .place) nowhere in
-    let hu = subst (λ x. Housed (a .place) x (length (a .store .now))) (sym u) h in
-    let at = subst (λ n. n + 56 ≤ length (a .store .now)) (sym (c .before .before .before .before .before .before .before .before .before .inlet-at .ensures)) (head-inside (a .place) (length (a .store .now)) u₀ hu) in
-    let cl = cell-length (a .store .now) (c .before .before .before .before .before .before .before .before .before .inlet-at .result) (c .before .before .before .before .before .before .before .before .get-cell .result .now) at (c .before .before .before .before .before .before .before .before .get-cell .ensures) in
-    let fl = ap length (c .before .before .before .before .before .before .seal .ensures) ∙ sealed-length (c .before .before .before .before .before .before .before .before .get-cell .result .now) cl in
-    sym (before-parity (c .before .before .before .before .before .before .seal .last .1 .0) fl)
-
 hear-all-requires : tie.Need-hear-all-requires
 hear-all-requires c κs =
-    let a = c .before .before .before .before .before .before .before .before .before .before .before .before .before .before .before .before .args in
-    let h = c .before .before .before .before .before .before .before .before .before .before .before .before .before .before .before .before .pre .2 (a .place) (c .before .before .before .before .before .before .before .before .before .before .before .before .before .before .before .before .pre .1) in
-    let u = copied (a .t1) (a .place) (long (c .before .before .before .before .before .before .before .before .before .before .before .before .before .before .before .before)) (h .below) in
-    let u₀ = getD (a .t1 .units) (a .place) nowhere in
-    let hu = subst (λ x. Housed (a .place) x (length (a .store .now))) (sym u) h in
-    let at = subst (λ n. n + 56 ≤ length (a .store .now)) (sym (c .before .before .before .before .before .before .before .before .before .before .inlet-at .ensures)) (head-inside (a .place) (length (a .store .now)) u₀ hu) in
-    let cl = cell-length (a .store .now) (c .before .before .before .before .before .before .before .before .before .before .inlet-at .result) (c .before .before .before .before .before .before .before .before .before .get-cell .result .now) at (c .before .before .before .before .before .before .before .before .before .get-cell .ensures) in
-    let fl = ap length (c .before .before .before .before .before .before .before .seal .ensures) ∙ sealed-length (c .before .before .before .before .before .before .before .before .before .get-cell .result .now) cl in (
-      before-parity (c .before .before .before .before .before .before .before .seal .last .1 .0) fl,
-      out-housed (a .t1) (a .place) (length (a .store .now)) u₀ u (c .before .before .before .before .popped .result) (c .before .before .before .before .popped .ensures) (c .before .before .before .before .before .before .before .before .before .before .before .before .before .before .before .before .pre .1) (c .before .before .before .before .before .before .before .before .before .before .before .before .before .before .before .before .pre .2),
-    )
+    let s = c .before .before .before .before .before .before .before .before .before .before .before .before .before .before .before .before .before .before .before in
+    let a = s .args in
+    let h = s .pre .2 (a .place) (s .pre .1) in
+    let u = copied (a .t1) (a .place) (long s) (h .below) in
+    let r = c .before .before .before .before .before .before .before .popped in
+    out-housed (a .t1) (a .place) (length (a .store .now)) (getD (a .t1 .units) (a .place) nowhere) u (r .result) (r .ensures) (s .pre .1) (s .pre .2)
 
 mul-each : tie.Need-mul-each
 mul-each c =
-    let h = c .before .before .before .before .before .before .before .before .before .before .before .before .before .before .before .before .before .before .before .before .pre .2 (c .before .before .before .before .before .before .before .before .before .before .before .before .before .before .before .before .before .before .before .before .args .place) (c .before .before .before .before .before .before .before .before .before .before .before .before .before .before .before .before .before .before .before .before .pre .1) in
-    let b = h .below in
+    let s = c .before .before .before .before .before .before .before .before .before .before .before .before .before .before .before .before .before .before .before .before .before .before .before in
+    let b = s .pre .2 (s .args .place) (s .pre .1) .below in
     omega (arith, b)
 
 array-read-each : tie.Need-array-read-each
 array-read-each c =
-    let h = c .before .before .before .before .before .before .before .before .before .before .before .before .before .before .before .before .before .before .before .before .pre .2 (c .before .before .before .before .before .before .before .before .before .before .before .before .before .before .before .before .before .before .before .before .args .place) (c .before .before .before .before .before .before .before .before .before .before .before .before .before .before .before .before .before .before .before .before .pre .1) in
-    let b = h .below in
+    let s = c .before .before .before .before .before .before .before .before .before .before .before .before .before .before .before .before .before .before .before .before .before .before .before in
+    let b = s .pre .2 (s .args .place) (s .pre .1) .below in
     omega (arith, b)
 
 sent-rises-requires : tie.Need-sent-rises-requires
@@ -111,14 +126,14 @@ sent-rises-requires c κs = search needs
 
 mul-each-2 : tie.Need-mul-each-2
 mul-each-2 c =
-    let h = c .before .before .before .before .before .before .before .before .before .before .before .before .before .before .before .before .before .before .before .before .before .pre .2 (c .before .before .before .before .before .before .before .before .before .before .before .before .before .before .before .before .before .before .before .before .before .args .place) (c .before .before .before .before .before .before .before .before .before .before .before .before .before .before .before .before .before .before .before .before .before .pre .1) in
-    let b = h .below in
+    let s = c .before .before .before .before .before .before .before .before .before .before .before .before .before .before .before .before .before .before .before .before .before .before .before .before in
+    let b = s .pre .2 (s .args .place) (s .pre .1) .below in
     omega (arith, b)
 
 array-write-each : tie.Need-array-write-each
 array-write-each c =
-    let h = c .before .before .before .before .before .before .before .before .before .before .before .before .before .before .before .before .before .before .before .before .before .pre .2 (c .before .before .before .before .before .before .before .before .before .before .before .before .before .before .before .before .before .before .before .before .before .args .place) (c .before .before .before .before .before .before .before .before .before .before .before .before .before .before .before .before .before .before .before .before .before .pre .1) in
-    let b = h .below in
+    let s = c .before .before .before .before .before .before .before .before .before .before .before .before .before .before .before .before .before .before .before .before .before .before .before .before in
+    let b = s .pre .2 (s .args .place) (s .pre .1) .below in
     omega (arith, b)
 
 same-length : tie.Need-same-length
@@ -129,19 +144,26 @@ same-length-2 c = search needs
 
 returns : tie.Need-returns
 returns c =
-    let a = c .before .before .before .before .before .before .before .before .before .before .before .before .before .before .before .before .before .before .before .before .before .args in
-    let h = c .before .before .before .before .before .before .before .before .before .before .before .before .before .before .before .before .before .before .before .before .before .pre .2 (a .place) (c .before .before .before .before .before .before .before .before .before .before .before .before .before .before .before .before .before .before .before .before .before .pre .1) in
-    let u = copied (a .t1) (a .place) (long (c .before .before .before .before .before .before .before .before .before .before .before .before .before .before .before .before .before .before .before .before .before)) (h .below) in
+    let s = c .before .before .before .before .before .before .before .before .before .before .before .before .before .before .before .before .before .before .before .before .before .before .before .before in
+    let a = s .args in
+    let h = s .pre .2 (a .place) (s .pre .1) in
+    let u = copied (a .t1) (a .place) (long s) (h .below) in
     let u₀ = getD (a .t1 .units) (a .place) nowhere in
     let hu = subst (λ x. Housed (a .place) x (length (a .store .now))) (sym u) h in
-    let at = subst (λ n. n + 56 ≤ length (a .store .now)) (sym (c .before .before .before .before .before .before .before .before .before .before .before .before .before .before .before .inlet-at .ensures)) (head-inside (a .place) (length (a .store .now)) u₀ hu) in
-    let cl = cell-length (a .store .now) (c .before .before .before .before .before .before .before .before .before .before .before .before .before .before .before .inlet-at .result) (c .before .before .before .before .before .before .before .before .before .before .before .before .before .before .get-cell .result .now) at (c .before .before .before .before .before .before .before .before .before .before .before .before .before .before .get-cell .ensures) in
-    let fl = ap length (c .before .before .before .before .before .before .before .before .before .before .before .before .seal .ensures) ∙ sealed-length (c .before .before .before .before .before .before .before .before .before .before .before .before .before .before .get-cell .result .now) cl in
-    let es = out-is (a .t1) (a .place) (length (a .store .now)) u₀ u (c .before .before .before .before .before .before .before .before .before .popped .result) (c .before .before .before .before .before .before .before .before .before .popped .ensures) in
-    let ef = c .before .before .before .before .before .before .before .before .before .before .before .before .seal .ensures ∙ frame-is (a .t1) (a .place) (a .store .now) u₀ u (c .before .before .before .before .before .before .before .before .before .before .before .before .before .before .get-cell .result .now) (c .before .before .before .before .before .before .before .before .before .before .before .before .before .before .get-cell .ensures ∙ ap (λ n. part (a .store .now) n 56) (c .before .before .before .before .before .before .before .before .before .before .before .before .before .before .before .inlet-at .ensures)) in (
-      sent-done (a .t1) (a .place) (a .store .now) _ _ _ es ef (c .before .before .before .before .before .before .before .hear .ensures) (c .before .before .before .before .hear-all .result) _ (c .before .before .before .before .hear-all .ensures .0) (c .sent-rises .ensures),
+    let at = subst (λ n. n + 56 ≤ length (a .store .now)) (sym (c .before .before .before .before .before .before .before .before .before .before .before .before .before .before .before .before .before .before .inlet-at .ensures)) (head-inside (a .place) (length (a .store .now)) u₀ hu) in
+    let cl = cell-length (a .store .now) (c .before .before .before .before .before .before .before .before .before .before .before .before .before .before .before .before .before .before .inlet-at .result) (c .before .before .before .before .before .before .before .before .before .before .before .before .before .before .before .before .before .get-cell .result .now) at (c .before .before .before .before .before .before .before .before .before .before .before .before .before .before .before .before .before .get-cell .ensures) in
+    let fl = ap length (c .before .before .before .before .before .before .before .before .before .before .before .before .before .before .before .seal .ensures) ∙ sealed-length (c .before .before .before .before .before .before .before .before .before .before .before .before .before .before .before .before .before .get-cell .result .now) cl in
+    let bp = before-parity (c .before .before .before .before .before .before .before .before .before .before .before .before .before .before .before .seal .last .1 .0) fl in
+    let r = c .before .before .before .before .before .before .before .before .before .before .before .before .popped in
+    let f = c .before .before .before .before .before .before .hear in
+    let l = c .before .before .before .before .hear-all in
+    let es = out-is (a .t1) (a .place) (length (a .store .now)) u₀ u (r .result) (r .ensures) in
+    let ef = c .before .before .before .before .before .before .before .before .before .before .before .before .before .before .before .seal .ensures ∙ frame-is (a .t1) (a .place) (a .store .now) u₀ u (c .before .before .before .before .before .before .before .before .before .before .before .before .before .before .before .before .before .get-cell .result .now) (c .before .before .before .before .before .before .before .before .before .before .before .before .before .before .before .before .before .get-cell .ensures ∙ ap (λ n. part (a .store .now) n 56) (c .before .before .before .before .before .before .before .before .before .before .before .before .before .before .before .before .before .before .inlet-at .ensures)) in
+    let cell = c .before .before .before .before .before .before .before .before .before .copy .ensures ∙ spliced-whole _ _ bp in (
+      sent-done (a .t1) (a .place) (a .store .now) _ _ _ es ef (f .ensures) (l .result) _ (l .ensures .0) (c .sent-rises .ensures),
       (
-        sent-store (a .t1) (a .place) (a .store .now) _ _ _ es ef (c .before .before .before .before .before .before .before .hear .ensures) _ (c .before .before .before .before .hear-all .ensures .1),
+        sent-store (a .t1) (a .place) (a .store .now) _ _ _ es ef (f .ensures) _
+            (l .ensures .1 ∙ ap (λ x. heardStore (withUnit (a .t1) (a .place) (withInlet u₀ (r .result))) (f .result) (a .store .now) x) cell),
         ef,
       ),
     )
@@ -158,9 +180,11 @@ send-spec =
     popped-requires
     mul-unit-2
     element-set-from-unit
+    slice-reshare-prefix-copy
+    slice-aggregate-copy
+    slice-aggregate-copy-2
+    copy-requires
     hear-requires
-    slice-reshare-prefix-hear-all
-    slice-aggregate-hear-all
     hear-all-requires
     mul-each
     array-read-each

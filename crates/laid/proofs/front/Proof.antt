@@ -1,5 +1,5 @@
 -- `laid::front` meets its contract. Assumes nothing.
-use Rattle.words.proofs.Splices.{then}
+use Rattle.hex.proofs.Splices.{then}
 use Rattle.laid.specs.Laid.{frontText}
 use native.Mathlib.Omega.{arith}
 use borrow.Author.Needs.{needs}

@@ -3,9 +3,9 @@ use mathlib.Core.Path.{_≡_, refl}
 use Prim.Native.Nat.{_+_, _*_, _≤_, _-_}
 use lib.ListN.{length, take}
 use lib.Seq.{take-all}
-use Rattle.words.specs.Writing.{Wrote}
+use Rattle.hex.specs.Writing.{Wrote}
 use Rattle.words.specs.Decimals.{numberFields}
-use Rattle.words.proofs.Splices.{then}
+use Rattle.hex.proofs.Splices.{then}
 use Rattle.words.proofs.NumberLaws.{no-fields, one-more}
 use native.Mathlib.Omega.{arith}
 use borrow.Author.Needs.{needs}

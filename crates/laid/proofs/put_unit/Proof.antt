@@ -1,5 +1,5 @@
 -- `laid::put_unit` meets its contract. Assumes nothing.
-use Rattle.words.proofs.Splices.{then}
+use Rattle.hex.proofs.Splices.{then}
 use Rattle.laid.specs.Laid.{unitText}
 use native.Mathlib.Omega.{arith}
 use borrow.Author.Needs.{needs}

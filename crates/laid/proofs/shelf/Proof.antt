@@ -4,8 +4,8 @@ use Prim.Native.Nat.{_+_, _*_, _≤_, _-_}
 use lib.ListN.{length, take}
 use lib.Seq.{take-all}
 use Rattle.octets.specs.Octets.{cat}
-use Rattle.words.specs.Writing.{Wrote}
-use Rattle.words.proofs.Splices.{then}
+use Rattle.hex.specs.Writing.{Wrote}
+use Rattle.hex.proofs.Splices.{then}
 use Rattle.shelf.proofs.Finding.{length-mapped}
 use Rattle.laid.specs.Laid.{unitText}
 use Rattle.laid.proofs.Written.{no-units, next-unit}

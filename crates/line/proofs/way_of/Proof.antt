@@ -1,7 +1,7 @@
 -- `line::way_of` meets its contract. Assumes nothing.
 use mathlib.Core.Path.{sym, ap, _∙_}
-use Rattle.line.proofs.Numbers.{ranged-in}
-use Rattle.line.specs.Digits.{aimOf}
+use Rattle.ranged.proofs.Numbers.{ranged-in}
+use Rattle.ranged.specs.Ranged.{aimOf}
 use Rattle.line.specs.Lines.{wayOf}
 use native.Mathlib.Omega.{arith}
 use borrow.Author.Needs.{needs}

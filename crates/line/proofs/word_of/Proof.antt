@@ -37,67 +37,15 @@ returns-3 c =
     let p1 = c .before .before .before .before in
     simp (sym (p1 .before .before .before .is .ensures) ∙ p1 .before .before .if1 .left, sym (p1 .is2 .ensures) ∙ c .before .before .before .if2 .left, sym (c .before .is3 .ensures) ∙ c .if3 .taken)
 
-slice-aggregate-is-4 : tie.Need-slice-aggregate-is-4
-slice-aggregate-is-4 c = search needs
-
-is-requires-4 : tie.Need-is-requires-4
-is-requires-4 c κs = search needs
+word-after-requires : tie.Need-word-after-requires
+word-after-requires c κs = search needs
 
 returns-4 : tie.Need-returns-4
 unfolding wordOf
 returns-4 c =
-    let p1 = c .before .before .before .before in
-    let p2 = p1 .before .before .before .before .before in
-    simp (sym (p2 .before .is .ensures) ∙ p2 .if1 .left, sym (p1 .before .before .before .is2 .ensures) ∙ p1 .before .before .if2 .left, sym (p1 .is3 .ensures) ∙ c .before .before .before .if3 .left, sym (c .before .is4 .ensures) ∙ c .if4 .taken)
-
-slice-aggregate-is-5 : tie.Need-slice-aggregate-is-5
-slice-aggregate-is-5 c = search needs
-
-is-requires-5 : tie.Need-is-requires-5
-is-requires-5 c κs = search needs
-
-returns-5 : tie.Need-returns-5
-unfolding wordOf
-returns-5 c =
-    let p1 = c .before .before .before .before in
-    let p2 = p1 .before .before .before .before .before in
-    simp (sym (p2 .before .before .before .before .is .ensures) ∙ p2 .before .before .before .if1 .left, sym (p2 .before .is2 .ensures) ∙ p2 .if2 .left, sym (p1 .before .before .before .is3 .ensures) ∙ p1 .before .before .if3 .left, sym (p1 .is4 .ensures) ∙ c .before .before .before .if4 .left, sym (c .before .is5 .ensures) ∙ c .if5 .taken)
-
-slice-aggregate-is-6 : tie.Need-slice-aggregate-is-6
-slice-aggregate-is-6 c = search needs
-
-is-requires-6 : tie.Need-is-requires-6
-is-requires-6 c κs = search needs
-
-returns-6 : tie.Need-returns-6
-unfolding wordOf
-returns-6 c =
-    let p1 = c .before .before .before .before in
-    let p2 = p1 .before .before .before .before .before in
-    let p3 = p2 .before .before .before .before .before .before in
-    simp (sym (p3 .before .is .ensures) ∙ p3 .if1 .left, sym (p2 .before .before .before .before .is2 .ensures) ∙ p2 .before .before .before .if2 .left, sym (p2 .before .is3 .ensures) ∙ p2 .if3 .left, sym (p1 .before .before .before .is4 .ensures) ∙ p1 .before .before .if4 .left, sym (p1 .is5 .ensures) ∙ c .before .before .before .if5 .left, sym (c .before .is6 .ensures) ∙ c .if6 .taken)
-
-slice-aggregate-is-7 : tie.Need-slice-aggregate-is-7
-slice-aggregate-is-7 c = search needs
-
-is-requires-7 : tie.Need-is-requires-7
-is-requires-7 c κs = search needs
-
-returns-7 : tie.Need-returns-7
-unfolding wordOf
-returns-7 c =
-    let p1 = c .before .before .before .before in
-    let p2 = p1 .before .before .before .before .before in
-    let p3 = p2 .before .before .before .before .before .before in
-    simp (sym (p3 .before .before .before .before .is .ensures) ∙ p3 .before .before .before .if1 .left, sym (p3 .before .is2 .ensures) ∙ p3 .if2 .left, sym (p2 .before .before .before .before .is3 .ensures) ∙ p2 .before .before .before .if3 .left, sym (p2 .before .is4 .ensures) ∙ p2 .if4 .left, sym (p1 .before .before .before .is5 .ensures) ∙ p1 .before .before .if5 .left, sym (p1 .is6 .ensures) ∙ c .before .before .before .if6 .left, sym (c .before .is7 .ensures) ∙ c .if7 .taken)
-
-returns-8 : tie.Need-returns-8
-unfolding wordOf
-returns-8 c =
-    let p1 = c .before .before .before .before in
-    let p2 = p1 .before .before .before .before .before in
-    let p3 = p2 .before .before .before .before .before .before in
-    simp (sym (p3 .before .before .before .before .is .ensures) ∙ p3 .before .before .before .if1 .left, sym (p3 .before .is2 .ensures) ∙ p3 .if2 .left, sym (p2 .before .before .before .before .is3 .ensures) ∙ p2 .before .before .before .if3 .left, sym (p2 .before .is4 .ensures) ∙ p2 .if4 .left, sym (p1 .before .before .before .is5 .ensures) ∙ p1 .before .before .if5 .left, sym (p1 .is6 .ensures) ∙ c .before .before .before .if6 .left, sym (c .before .is7 .ensures) ∙ c .if7 .left)
+    let b = c .before in
+    let p1 = b .before .before .before .before in
+    c .word-after .ensures ∙ simp (sym (p1 .before .before .before .is .ensures) ∙ p1 .before .before .if1 .left, sym (p1 .is2 .ensures) ∙ b .before .before .before .if2 .left, sym (b .before .is3 .ensures) ∙ b .if3 .left)
 
 pub word-of-spec : {M : Type 1} → statement M
 word-of-spec =
@@ -112,16 +60,5 @@ word-of-spec =
     slice-aggregate-is-3
     is-requires-3
     returns-3
-    slice-aggregate-is-4
-    is-requires-4
-    returns-4
-    slice-aggregate-is-5
-    is-requires-5
-    returns-5
-    slice-aggregate-is-6
-    is-requires-6
-    returns-6
-    slice-aggregate-is-7
-    is-requires-7
-    returns-7
-    returns-8)
+    word-after-requires
+    returns-4)

@@ -1,5 +1,6 @@
 -- `shown::put_frame` meets its contract. Assumes nothing.
-use Rattle.words.proofs.Splices.{then}
+use Rattle.hex.proofs.Splices.{then}
+use Rattle.shown.proofs.Written.{as-unit}
 use native.Mathlib.Omega.{arith}
 use borrow.Author.Needs.{needs}
 use Rattle.shown.proofs.put_frame.Statement.{statement}
@@ -11,11 +12,11 @@ slice-aggregate-say c = search needs
 say-requires : tie.Need-say-requires
 say-requires c κs = search needs
 
-put-unit-requires : tie.Need-put-unit-requires
-put-unit-requires c κs = search needs
+put-who-requires : tie.Need-put-who-requires
+put-who-requires c κs = search needs
 
-put-unit-requires-2 : tie.Need-put-unit-requires-2
-put-unit-requires-2 c κs = search needs
+put-who-requires-2 : tie.Need-put-who-requires-2
+put-who-requires-2 c κs = search needs
 
 put-number-requires : tie.Need-put-number-requires
 put-number-requires c κs = search needs
@@ -24,7 +25,7 @@ same-length : tie.Need-same-length
 same-length c = search needs
 
 returns : tie.Need-returns
-returns c = (then _ _ _ _ _ _ _ _ (then _ _ _ _ _ _ _ _ (then _ _ _ _ _ _ _ _ (c .before .before .before .before .before .before .before .before .before .before .before .before .before .before .say .ensures .0) (c .before .before .before .before .before .before .before .before .before .before .put-unit .ensures .0) (omega arith)) (c .before .before .before .before .before .before .put-unit2 .ensures .0) (omega arith)) (c .before .before .put-number .ensures .0) (omega arith), omega arith)
+returns c = (then _ _ _ _ _ _ _ _ (then _ _ _ _ _ _ _ _ (then _ _ _ _ _ _ _ _ (c .before .before .before .before .before .before .before .before .before .before .before .before .before .before .say .ensures .0) (as-unit _ _ _ _ _ (c .before .before .before .before .before .before .before .before .before .before .put-who .ensures .0)) (omega arith)) (as-unit _ _ _ _ _ (c .before .before .before .before .before .before .put-who2 .ensures .0)) (omega arith)) (c .before .before .put-number .ensures .0) (omega arith), omega arith)
 
 pub put-frame-spec : {M : Type 1} → statement M
 put-frame-spec =
@@ -32,8 +33,8 @@ put-frame-spec =
     (tie.spec
     slice-aggregate-say
     say-requires
-    put-unit-requires
-    put-unit-requires-2
+    put-who-requires
+    put-who-requires-2
     put-number-requires
     same-length
     returns)

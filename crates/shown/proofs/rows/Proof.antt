@@ -3,8 +3,8 @@ use mathlib.Core.Path.{_≡_, refl}
 use Prim.Native.Nat.{_+_, _*_, _≤_, _-_}
 use lib.ListN.{length, take}
 use Rattle.octets.specs.Octets.{cat}
-use Rattle.words.specs.Writing.{Wrote}
-use Rattle.words.proofs.Splices.{then}
+use Rattle.hex.specs.Writing.{Wrote}
+use Rattle.hex.proofs.Splices.{then}
 use Rattle.shown.specs.Lines.{rowFields}
 use Rattle.shown.proofs.Written.{no-rows, next-row}
 use Rattle.shelf.proofs.Finding.{length-mapped}

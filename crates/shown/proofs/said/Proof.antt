@@ -1,5 +1,5 @@
 -- `shown::said` meets its contract. Assumes nothing.
-use Rattle.words.proofs.Splices.{then}
+use Rattle.hex.proofs.Splices.{then}
 use Rattle.shown.specs.Lines.{saidText}
 use native.Mathlib.Omega.{arith}
 use borrow.Author.Needs.{needs}

@@ -1,5 +1,5 @@
 -- `shown::summed` meets its contract. Assumes nothing.
-use Rattle.words.proofs.Splices.{then}
+use Rattle.hex.proofs.Splices.{then}
 use mathlib.Core.Path.{_≡_, ap, _∙_}
 use Rattle.octets.specs.Octets.{be4}
 use native.Mathlib.Omega.{arith}

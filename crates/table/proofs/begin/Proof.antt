@@ -1,6 +1,6 @@
 -- `table::begin` meets its contract. Assumes nothing.
 use mathlib.Core.Path.{ap}
-use Rattle.judge.specs.declared.Verdict.the-variants.{Fine}
+use Rattle.verdict.specs.declared.Verdict.the-variants.{Fine}
 use Rattle.told.specs.Told.{shelfOf, total}
 use borrow.Author.Needs.{needs}
 use Rattle.table.proofs.begin.Statement.{statement}

@@ -5,9 +5,9 @@ use Prim.Native.Nat.{_+_, _-_}
 use lib.ListN.{length}
 use borrow.Author.Tests.{eq-eqb, not-true, not-false}
 use Rattle.line.specs.declared.Line.{Line}
-use Rattle.line.specs.declared.Wrong.the-variants.{Newline}
-use Rattle.judge.specs.declared.Verdict.the-variants.{Fine, Form}
-use Rattle.judge.specs.Judge.{isFine}
+use Rattle.ranged.specs.declared.Wrong.the-variants.{Newline}
+use Rattle.verdict.specs.declared.Verdict.the-variants.{Fine, Form}
+use Rattle.verdict.specs.Verdicts.{isFine}
 use Rattle.told.specs.Told.{total, shelfOf, memoryOf}
 use Rattle.told.specs.Enact.{Places}
 use Rattle.told.proofs.Memory.{memory-none}

@@ -1,6 +1,6 @@
 -- `table::step` meets its contract. Assumes nothing.
 use mathlib.Core.Path.{_≡_, sym, ap, subst, _∙_}
-use Rattle.judge.specs.declared.Verdict.the-variants.{Fine}
+use Rattle.verdict.specs.declared.Verdict.the-variants.{Fine}
 use Rattle.told.specs.Enact.{Places}
 use Rattle.table.specs.Load.{progressBy, memoryAfter, verdictIn}
 use borrow.Author.Needs.{needs}

@@ -6,8 +6,8 @@ use native.Mathlib.Nat.{lt-of-lt-of-le}
 use native.Mathlib.Omega.{arith}
 use lib.ListN.{length, drop, getD}
 use borrow.Author.Tests.{not-true, not-false}
-use Rattle.line.specs.Digits.{digits, decimalOf, value}
-use Rattle.line.proofs.Numbers.{has-digits, digit-at, at-least, digits-on, value-on, value-end, grows}
+use Rattle.text.specs.Digits.{digits, decimalOf, value}
+use Rattle.text.proofs.Numbers.{has-digits, digit-at, at-least, digits-on, value-on, value-end, grows}
 use Rattle.words.proofs.NumberLaws.{past, no-numeral, numeral-above, numeral-is}
 use borrow.Author.Needs.{needs}
 use Rattle.words.proofs.number.Statement.{statement}

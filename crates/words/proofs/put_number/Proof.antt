@@ -1,7 +1,7 @@
 -- `words::put_number` meets its contract. Assumes nothing.
 use Prim.Native.Nat.{_≤_}
 use native.Mathlib.Omega.{arith}
-use Rattle.words.proofs.Splices.{then}
+use Rattle.hex.proofs.Splices.{then}
 use borrow.Author.Needs.{needs}
 use Rattle.words.proofs.put_number.Statement.{statement}
 use Rattle.words.proofs.put_number.Tie as tie

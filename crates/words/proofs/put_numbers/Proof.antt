@@ -6,9 +6,9 @@ use native.Mathlib.Numerals.{add-one}
 use native.Mathlib.Omega.{arith}
 use lib.ListN.{length, take, getD}
 use lib.Seq.{take-suc, take-all}
-use Rattle.words.specs.Writing.{Wrote}
+use Rattle.hex.specs.Writing.{Wrote}
 use Rattle.words.specs.Decimals.{numberField, numberFields}
-use Rattle.words.proofs.Splices.{then, cat-snoc, nothing}
+use Rattle.hex.proofs.Splices.{then, cat-snoc, nothing}
 use Rattle.words.proofs.NumberLaws.{no-fields, one-more}
 use borrow.Author.Needs.{needs}
 use Rattle.words.proofs.put_numbers.Statement.{statement}

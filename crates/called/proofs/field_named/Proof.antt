@@ -1,0 +1,20 @@
+-- `called::field_named` meets its contract. Assumes nothing.
+use mathlib.Core.Path.{_∙_}
+use Rattle.text.specs.Text.{split}
+use borrow.Author.Needs.{needs}
+use Rattle.called.proofs.field_named.Statement.{statement}
+use Rattle.called.proofs.field_named.Tie as tie
+
+slice-aggregate-find : tie.Need-slice-aggregate-find
+slice-aggregate-find c = search needs
+
+find-requires : tie.Need-find-requires
+find-requires c κs = search needs
+
+returns : tie.Need-returns
+unfolding split
+returns c = c .find .ensures
+
+pub field-named-spec : {M : Type 1} → statement M
+field-named-spec =
+    tie.close (tie.spec slice-aggregate-find find-requires returns)

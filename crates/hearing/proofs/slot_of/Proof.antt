@@ -1,0 +1,40 @@
+-- `hearing::slot_of` meets its contract. Assumes nothing.
+use mathlib.Core.Path.{ap, _∙_}
+use Rattle.outlet.specs.Outlets.{queue}
+use Rattle.store.specs.Rings.{tail}
+use Rattle.store.specs.Places.{slotAt, outletSlot}
+use borrow.Author.Needs.{needs}
+use Rattle.hearing.proofs.slot_of.Statement.{statement}
+use Rattle.hearing.proofs.slot_of.Tie as tie
+
+mul-ring : tie.Need-mul-ring
+mul-ring c = search needs
+
+array-copy-out-ring : tie.Need-array-copy-out-ring
+array-copy-out-ring c = search needs
+
+capacity-requires : tie.Need-capacity-requires
+capacity-requires c κs = search needs
+
+tail-requires : tie.Need-tail-requires
+tail-requires c κs = search needs
+
+outlet-at-requires : tie.Need-outlet-at-requires
+outlet-at-requires c κs = search needs
+
+returns : tie.Need-returns
+returns c =
+    let a = c .before .before .before .before .before .before .args in
+    c .outlet-at .ensures
+    ∙ ap (λ p. slotAt (a .place) (outletSlot (a .outlet .limits) (a .queue) p)) (c .before .tail .ensures ∙ ap (tail (queue (a .outlet) (a .queue))) (c .before .before .capacity .ensures))
+
+pub slot-of-spec : {M : Type 1} → statement M
+slot-of-spec =
+    tie.close
+    (tie.spec
+    mul-ring
+    array-copy-out-ring
+    capacity-requires
+    tail-requires
+    outlet-at-requires
+    returns)

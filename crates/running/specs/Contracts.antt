@@ -1,0 +1,83 @@
+-- The contracts of the six entry points, as `entry` has them, and that each is the step that the promises speak of. Assumes nothing.
+use Prim.Native.Nat.{ℕ}
+use mathlib.Core.Path.{_≡_}
+use mathlib.Core.List.{List, []}
+use lib.ListN.{length}
+use Rattle.card.specs.declared.Card.{Card}
+use Rattle.answer.specs.declared.Reply.{Reply}
+use Rattle.counters.specs.Counting.{settled}
+use Rattle.counters.specs.declared.Counters as C
+use Rattle.admit.specs.Admission.{counted}
+use Rattle.arriving.specs.Arriving.{arriveDone, arriveStore}
+use Rattle.framing.specs.Frames.{frameDone, frameStore, frameBuffer}
+use Rattle.hearing.specs.Hearings.{hearDone, hearStore}
+use Rattle.taking.specs.Takes.{takeDone, takeBuffer}
+use Rattle.loading.specs.Loads.{loadDone, loadMemory}
+use Rattle.entry.specs.Counts.{countOf}
+use Rattle.entry.specs.declared.Counted.{Counted}
+use Rattle.document.specs.Events.{arrive, frame, hear, take, count, answers}
+use Rattle.running.specs.Events.{World, Outcome, countSaid, happens}
+use Rattle.running.specs.Keeping.{loaded}
+
+-- what is ensured of the reply, and of what was lent, as it is afterwards
+abbrev pub Arrives : Card → World → ℕ → List ℕ → Reply → List ℕ → List C.Counters → Type 0
+Arrives card w unit cell r store rows =
+    let d = arriveDone card (w .shelf) (w .memory) (length (w .store)) (length (w .rows)) unit cell in
+    (r ≡ d .reply) × ((store ≡ arriveStore card (w .shelf) (w .memory) (w .store) (length (w .rows)) unit cell) × (rows ≡ settled (w .rows) (d .rises)))
+
+abbrev pub Frames : Card → World → List ℕ → Reply → List ℕ → List C.Counters → List ℕ → Type 0
+Frames card w buffer r store rows bytes =
+    let d = frameDone card (w .shelf) (w .store) (length (w .rows)) (length buffer) in
+    (r ≡ d .reply)
+    × ((store ≡ frameStore card (w .shelf) (w .store) (length (w .rows)) (length buffer))
+    × ((bytes ≡ frameBuffer card (w .shelf) (w .store) (length (w .rows)) buffer) × (rows ≡ settled (w .rows) (d .rises))))
+
+abbrev pub Hears : Card → World → ℕ → List ℕ → Reply → List ℕ → List C.Counters → Type 0
+Hears card w unit heard r store rows =
+    let d = hearDone card (w .shelf) (length (w .store)) (length (w .rows)) unit heard in
+    (r ≡ d .reply) × ((store ≡ hearStore card (w .shelf) (w .store) (length (w .rows)) unit heard) × (rows ≡ settled (w .rows) (d .rises)))
+
+abbrev pub Takes : Card → World → ℕ → List ℕ → Reply → List C.Counters → List ℕ → Type 0
+Takes card w unit buffer r rows bytes =
+    let d = takeDone card (w .shelf) (length (w .store)) (length (w .rows)) unit (length buffer) in
+    (r ≡ d .reply) × ((bytes ≡ takeBuffer card (w .shelf) (w .store) (length (w .rows)) unit buffer) × (rows ≡ settled (w .rows) (d .rises)))
+
+abbrev pub Counts : Card → World → ℕ → Counted → Type 0
+Counts card w unit r = r ≡ countOf (counted card (w .shelf) (length (w .store)) (length (w .rows)) unit) (w .rows)
+
+abbrev pub Loads : Card → List ℕ → List ℕ → List ℕ → List C.Counters → Reply → List ℕ → List C.Counters → Type 0
+Loads card text memory store rows r memory′ rows′ =
+    let d = loadDone card text memory (length store) (length rows) in
+    (r ≡ d .reply) × ((memory′ ≡ loadMemory card text memory (length store) (length rows)) × (rows′ ≡ settled rows (d .rises)))
+
+-- what comes of an event with this reply, store and rows, and these lent bytes, all as they are afterwards
+abbrev pub cameTo : World → Reply → List ℕ → List C.Counters → List ℕ → Outcome
+cameTo w r store rows bytes =
+    record { said = answers (r .answer); world = record { shelf = r .shelf; memory = w .memory; store = store; rows = rows }; bytes = bytes }
+
+-- whatever meets a contract is the step that the promises speak of
+pub record Steps (card : Card) : Type 0 where
+  pub arrives : (w : World) (unit : ℕ) (cell : List ℕ) (r : Reply) (store : List ℕ) (rows : List C.Counters) →
+      Arrives card w unit cell r store rows → cameTo w r store rows cell ≡ happens card w (arrive unit cell)
+  pub frames : (w : World) (buffer : List ℕ) (r : Reply) (store : List ℕ) (rows : List C.Counters) (bytes : List ℕ) →
+      Frames card w buffer r store rows bytes → cameTo w r store rows bytes ≡ happens card w (frame buffer)
+  pub hears : (w : World) (unit : ℕ) (heard : List ℕ) (r : Reply) (store : List ℕ) (rows : List C.Counters) →
+      Hears card w unit heard r store rows → cameTo w r store rows heard ≡ happens card w (hear unit heard)
+  pub takes : (w : World) (unit : ℕ) (buffer : List ℕ) (r : Reply) (rows : List C.Counters) (bytes : List ℕ) →
+      Takes card w unit buffer r rows bytes → cameTo w r (w .store) rows bytes ≡ happens card w (take unit buffer)
+  pub counts : (w : World) (unit : ℕ) (r : Counted) →
+      Counts card w unit r → record { said = countSaid r; world = w; bytes = [] } ≡ happens card w (count unit)
+  pub loads : (text memory store : List ℕ) (rows : List C.Counters) (r : Reply) (memory′ : List ℕ) (rows′ : List C.Counters) →
+      Loads card text memory store rows r memory′ rows′ → record { shelf = r .shelf; memory = memory′; store = store; rows = rows′ } ≡ loaded card text memory store rows
+
+-- "any two results that satisfy it are shown equal"
+abbrev pub Only : {X : Type 0} → (X → Type 0) → Type 0
+Only {X} P = (x y : X) → P x → P y → x ≡ y
+
+pub record Determined (card : Card) : Type 0 where
+  pub arrives : (w : World) (unit : ℕ) (cell : List ℕ) → Only (λ (x : Reply × List ℕ × List C.Counters). Arrives card w unit cell (x .0) (x .1) (x .2))
+  pub frames : (w : World) (buffer : List ℕ) → Only (λ (x : Reply × List ℕ × List C.Counters × List ℕ). Frames card w buffer (x .0) (x .1) (x .2) (x .3))
+  pub hears : (w : World) (unit : ℕ) (heard : List ℕ) → Only (λ (x : Reply × List ℕ × List C.Counters). Hears card w unit heard (x .0) (x .1) (x .2))
+  pub takes : (w : World) (unit : ℕ) (buffer : List ℕ) → Only (λ (x : Reply × List C.Counters × List ℕ). Takes card w unit buffer (x .0) (x .1) (x .2))
+  pub counts : (w : World) (unit : ℕ) → Only (λ r. Counts card w unit r)
+  pub loads : (text memory store : List ℕ) (rows : List C.Counters) → Only (λ (x : Reply × List ℕ × List C.Counters). Loads card text memory store rows (x .0) (x .1) (x .2))

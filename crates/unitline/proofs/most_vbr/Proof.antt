@@ -1,0 +1,23 @@
+-- `unitline::most_vbr` meets its contract. Assumes nothing.
+use native.Mathlib.Omega.{arith}
+use borrow.Author.Needs.{needs}
+use Rattle.unitline.proofs.most_vbr.Statement.{statement}
+use Rattle.unitline.proofs.most_vbr.Tie as tie
+
+enum-told : tie.Need-enum-told
+enum-told c = search needs
+
+enum-told-2 : tie.Need-enum-told-2
+enum-told-2 c = search needs
+
+returns : tie.Need-returns
+returns c = rw (c .before .enum-told2 .given .1) (omega arith)
+
+returns-2 : tie.Need-returns-2
+returns-2 c = search needs
+
+returns-3 : tie.Need-returns-3
+returns-3 c = rw (c .before .enum-told2 .given .1)
+
+pub most-vbr-spec : {M : Type 1} → statement M
+most-vbr-spec = tie.close (tie.spec enum-told enum-told-2 returns returns-2 returns-3)

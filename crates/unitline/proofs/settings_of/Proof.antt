@@ -1,0 +1,87 @@
+-- `unitline::settings_of` meets its contract. Assumes nothing.
+use mathlib.Core.Path.{sym, ap, _∙_}
+use Rattle.text.specs.Text.{same}
+use Rattle.ranged.specs.Words.{wUni, wNni}
+use Rattle.ranged.proofs.Numbers.{ranged-in}
+use Rattle.unitline.specs.Units.{settingsOf}
+use native.Mathlib.Omega.{arith}
+use borrow.Author.Needs.{needs}
+use Rattle.unitline.proofs.settings_of.Statement.{statement}
+use Rattle.unitline.proofs.settings_of.Tie as tie
+
+number-at-requires : tie.Need-number-at-requires
+number-at-requires c κs = search needs
+
+enum-known-number : tie.Need-enum-known-number
+enum-known-number c = search needs
+
+cast-number : tie.Need-cast-number
+cast-number c = omega (arith, ranged-in _ _ _ _ (sym (c .before .before .before .number-at .ensures) ∙ c .before .number .given .1))
+
+enum-known-wrong : tie.Need-enum-known-wrong
+enum-known-wrong c = search needs
+
+returns : tie.Need-returns
+unfolding settingsOf
+returns c = simp (sym (c .before .before .before .number-at .ensures) ∙ c .before .wrong .given .1)
+
+field-requires : tie.Need-field-requires
+field-requires c κs = search needs
+
+slice-aggregate-is : tie.Need-slice-aggregate-is
+slice-aggregate-is c = search needs
+
+is-requires : tie.Need-is-requires
+is-requires c κs = search needs
+
+settings-on-requires : tie.Need-settings-on-requires
+settings-on-requires c κs = search needs
+
+returns-2 : tie.Need-returns-2
+unfolding settingsOf
+returns-2 c =
+    let p1 = c .before .before .before .before in
+    c .settings-on .ensures ∙ simp (sym (p1 .before .before .before .before .number-at .ensures) ∙ p1 .before .before .number .given .1, ap (λ x. same x wUni) (sym (p1 .field .ensures)) ∙ sym (c .before .before .is .ensures) ∙ c .before .if1 .taken)
+
+slice-aggregate-is-2 : tie.Need-slice-aggregate-is-2
+slice-aggregate-is-2 c = search needs
+
+is-requires-2 : tie.Need-is-requires-2
+is-requires-2 c κs = search needs
+
+settings-on-requires-2 : tie.Need-settings-on-requires-2
+settings-on-requires-2 c κs = search needs
+
+returns-3 : tie.Need-returns-3
+unfolding settingsOf
+returns-3 c =
+    let p1 = c .before .before .before .before in
+    let p2 = p1 .before .before .before .before .before in
+    c .settings-on2 .ensures ∙ simp (sym (p2 .before .before .number-at .ensures) ∙ p2 .number .given .1, ap (λ x. same x wUni) (sym (p1 .before .before .before .field .ensures)) ∙ sym (p1 .before .is .ensures) ∙ p1 .if1 .left, ap (λ x. same x wNni) (sym (p1 .before .before .before .field .ensures)) ∙ sym (c .before .before .is2 .ensures) ∙ c .before .if2 .taken)
+
+returns-4 : tie.Need-returns-4
+unfolding settingsOf
+returns-4 c =
+    let p1 = c .before .before .before .before in
+    let p2 = p1 .before .before .before .before .before .before in
+    simp (sym (p2 .number-at .ensures) ∙ p1 .before .before .before .before .number .given .1, ap (λ x. same x wUni) (sym (p1 .before .before .field .ensures)) ∙ sym (p1 .is .ensures) ∙ c .before .before .before .if1 .left, ap (λ x. same x wNni) (sym (p1 .before .before .field .ensures)) ∙ sym (c .before .is2 .ensures) ∙ c .if2 .left)
+
+pub settings-of-spec : {M : Type 1} → statement M
+settings-of-spec =
+    tie.close
+    (tie.spec
+    number-at-requires
+    enum-known-number
+    cast-number
+    enum-known-wrong
+    returns
+    field-requires
+    slice-aggregate-is
+    is-requires
+    settings-on-requires
+    returns-2
+    slice-aggregate-is-2
+    is-requires-2
+    settings-on-requires-2
+    returns-3
+    returns-4)

@@ -1,0 +1,145 @@
+-- The witness, computed. Assumes nothing.
+use Prim.Native.Nat.{ℕ, _*_, min}
+use native.Mathlib.Omega.{arith}
+use mathlib.Core.Path.{_≡_, refl, sym, ap, subst, _∙_}
+use mathlib.Core.Logic.{⊎-elim}
+use mathlib.Core.Bool.{true, false, cond}
+use mathlib.Core.List.{List, [], map}
+use lib.Dec.{ltb}
+use lib.ListN.{length, getD, take, drop, replicate, length-replicate}
+use Rattle.card.specs.Cards.{holds as card-holds, narrowHolds}
+use Rattle.card.specs.declared.Card.{Card}
+use Rattle.card.specs.declared.Card.the-variants.{Narrow, Wide}
+use Rattle.record.specs.Record.{most}
+use Rattle.text.specs.Text.{split, same as same-word}
+use Rattle.text.specs.Digits.{digit, digits, plain, decimalOf, value}
+use Rattle.ranged.specs.Ranged.{ranged, aimOf}
+use Rattle.unitline.specs.Units.{settingsOn, settingsOf, limitsIn, limitsOf}
+use Rattle.line.specs.Lines.{busLine, unitLine, keyOf, wayOf, vpLine, dropLine, pageLine, vcOn, vcLine, mcLine, lineOf, wordOf, spoken, readingOf}
+use Rattle.judge.specs.Judge.{judgeBus, judgeUnit, judgeVp, judgeDrop, judgePage, judgeVc, judgeMc}
+use Rattle.told.specs.Told.{same as same-whose, opens, gives as gives-record, hearsBy, topOf, total, recordOf, hearsIn, declare, joinAt, shelfBy, shelfOf}
+use Rattle.told.specs.Lines.{judge, run, Good}
+use Rattle.table.specs.declared.Outcome.the-variants as outcome
+use Rattle.line.specs.declared.Line.the-variants.{Bus}
+use Rattle.told.proofs.Grown.{decide}
+use Rattle.promise.specs.Narrow.{tooWide, FirstWide}
+use Rattle.promise.proofs.Cards.{narrow-refuses-iff}
+use Rattle.running.specs.Refusing.{known, fits, refusal}
+use Rattle.running.proofs.Refused.{refusal-changes-nothing}
+use Rattle.table.specs.Load.{readingsOf, isLong, ranOf, loadingOf, load}
+use Rattle.counters.specs.declared.Counters as C
+use Rattle.answer.specs.declared.Answer.the-variants.{Loaded, Unloaded, Refused}
+use Rattle.loading.specs.Loads.{answerOf}
+use Rattle.soundness.specs.State.{soundOf}
+use Rattle.soundness.proofs.Facts.{sound-iff}
+use Rattle.shelf.specs.Shelves.{fresh, findIn, placeFrom}
+use Rattle.promise.specs.Refusals.{linesOf, readThen, Accepts}
+use Rattle.promise.specs.Starred.{path}
+use Rattle.promise.proofs.Refusals.{accepted}
+use Rattle.document.specs.Events.{Event, Said, answers}
+use Rattle.document.specs.Shelf.{opened}
+use Rattle.document.specs.Cases.{table}
+use Rattle.document.proofs.Cases.{arrivals-hold, heard-holds, discards-hold, frames-hold, refusals-hold}
+use Rattle.refining.proofs.Refined.{refines}
+use Rattle.witness.specs.Witness.{text, answerTo, saidTo, Runs, AllRun, Refusals, Spoiled, spoiled}
+
+-- the text is read as the table's lines
+read : linesOf text ≡ readThen table []
+unfolding linesOf readThen text table split same-word digit digits plain decimalOf value ranged aimOf busLine settingsOn settingsOf limitsIn limitsOf unitLine keyOf wayOf vpLine dropLine pageLine vcOn vcLine mcLine lineOf wordOf spoken readingOf readingsOf
+read = refl
+
+-- each is good after those before it, in a memory of 2,736 bytes
+good : Good Wide 2736 table
+unfolding table judge judgeBus judgeUnit judgeVp judgeDrop judgePage judgeVc judgeMc card-holds same-whose opens gives-record hearsBy topOf total recordOf hearsIn declare joinAt shelfBy shelfOf
+good = (refl, (refl, (refl, (refl, (refl, (refl, (refl, (refl, (refl, (refl, (refl, (refl, (refl, tt)))))))))))))
+
+-- and there is room for all of them
+units : shelfOf table .count ≡ 3
+unfolding table opens total declare joinAt shelfBy shelfOf findIn placeFrom
+units = refl
+
+accepts : (memory : List ℕ) → length memory ≡ 2736 → Accepts Wide text memory 24576 3 table
+unfolding text
+accepts memory m =
+    record {
+      short = (let l : length text ≡ 211 = refl in omega arith);
+      fine = record { all = read; good = subst (λ n. Good Wide n table) (sym (ap (λ n. min n most) m)) good };
+      store-enough = omega (arith, units);
+      rows-enough = omega (arith, units);
+    }
+
+module _ (memory store : List ℕ) (rows : List C.Counters) (m : length memory ≡ 2736) (s : length store ≡ 24576) (r : length rows ≡ 3) where
+  accepted-here : Accepts Wide text memory (length store) (length rows) table
+  accepted-here = subst (λ n. Accepts Wide text memory (length store) n table) (sym r) (subst (λ n. Accepts Wide text memory n 3 table) (sym s) (accepts memory m))
+
+  says : (es : List Event) (said : List Said) → map (λ b. b .said) (Rattle.document.specs.Steps.gives (opened table) es) ≡ said → saidTo memory store rows es ≡ said
+  says es said e = ap (map (λ b. b .said)) (refines Wide text memory store rows table accepted-here es) ∙ e
+
+  total-is : total table ≡ 342
+  unfolding table opens total
+  total-is = refl
+
+  all-runs : Runs memory store rows
+  unfolding Rattle.document.specs.Cases.says answerOf
+  all-runs =
+      record {
+        load = ap (λ x. answerOf (x .outcome)) (accepted Wide text memory (length store) (length rows) table accepted-here .0) ∙ ap (λ n. Loaded (8 * n)) total-is;
+        arrive = says _ _ arrivals-hold;
+        hear = says _ _ heard-holds;
+        discard = says _ _ discards-hold;
+        send = says _ _ frames-hold;
+        refuse = says _ _ refusals-hold;
+      }
+
+pub all-run : AllRun
+all-run = all-runs
+
+long-text : (t : List ℕ) → isLong t ≡ true → answerTo Wide t [] 0 0 ≡ Unloaded 1 0
+unfolding load answerOf
+long-text t e = rw e refl
+
+long : isLong (replicate 65537 0) ≡ true
+long = ap (ltb 65536) (length-replicate {A = ℕ} 65537 0)
+
+-- the fourth line asks for an NNI link, and none before it is too wide
+first-wide : FirstWide table 4
+unfolding table tooWide narrowHolds
+first-wide =
+    record {
+      before = drop 10 table;
+      it = getD table 9 (Bus 16);
+      after = take 9 table;
+      all = refl;
+      none-before = (refl, (refl, (refl, tt)));
+      wide = refl;
+      counted = refl;
+    }
+
+narrow-wide : load Narrow text (replicate 2736 0) 24576 3 .outcome ≡ outcome.Refused 5 4
+narrow-wide =
+    narrow-refuses-iff text (replicate 2736 0) 24576 3 table (accepts (replicate 2736 0) (length-replicate {A = ℕ} 2736 0)) 4 .0 first-wide
+
+pub refusals : Refusals
+unfolding text path answerOf split same-word digit digits plain decimalOf value ranged aimOf busLine settingsOn settingsOf limitsIn limitsOf unitLine keyOf wayOf vpLine dropLine pageLine vcOn vcLine mcLine lineOf wordOf spoken readingOf readingsOf judge judgeBus judgeUnit judgeVp judgeDrop judgePage judgeVc judgeMc card-holds narrowHolds same-whose opens gives-record hearsBy topOf total recordOf hearsIn declare joinAt shelfBy shelfOf run ranOf loadingOf load
+refusals =
+    record {
+      long = long-text (replicate 65537 0) long;
+      form = refl;
+      order = refl;
+      twice = refl;
+      wide = ap answerOf narrow-wide;
+      room = refl;
+      store = refl;
+    }
+
+-- no bus has 17 units
+unsound : (card : Card) → soundOf card (fresh 17) 0 0 ≡ false
+unsound card =
+    decide (soundOf card (fresh 17) 0 0)
+    (λ t. absurd (⊎-elim (λ e. omega (arith, e)) (λ e. omega (arith, e)) (sound-iff card (fresh 17) 0 0 .0 t .bus)))
+    (λ f. f)
+
+pub spoiled-state : Spoiled
+spoiled-state card e =
+    let eight : refusal card spoiled e ≡ 8 = ap (λ b. cond b (cond (known (fresh 17) e) (cond (fits e) 0 10) 9) 8) (unsound card) in
+    ap (λ o. o .said) (refusal-changes-nothing card spoiled e (λ z. omega (arith, z, eight))) ∙ ap (λ n. answers (Refused n)) eight

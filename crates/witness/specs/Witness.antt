@@ -1,0 +1,77 @@
+-- That the promises are not empty: a table, and runs in which every fate and every refusal occurs. Assumes nothing.
+use Prim.Native.Nat.{ℕ}
+use mathlib.Core.Path.{_≡_}
+use mathlib.Core.List.{List, [], _∷_, _++_, map}
+use lib.ListN.{length, replicate}
+use Rattle.card.specs.declared.Card.{Card}
+use Rattle.card.specs.declared.Card.the-variants.{Narrow, Wide}
+use Rattle.shelf.specs.Shelves.{fresh}
+use Rattle.counters.specs.declared.Counters as C
+use Rattle.answer.specs.declared.Answer.the-variants.{Loaded, Unloaded, Refused}
+use Rattle.answer.specs.declared.Answer as A
+use Rattle.loading.specs.Loads.{loadDone}
+use Rattle.promise.specs.Starred.{path}
+use Rattle.document.specs.Events.{Event, Said, answers}
+use Rattle.document.specs.Cases.{arrivals, arrivals-say, refusals, refusals-say, frames, frames-say, heard, heard-say, discards, discards-say}
+use Rattle.running.specs.Events.{World, happens}
+use Rattle.running.specs.Keeping.{loaded}
+use Rattle.refining.specs.Refines.{gives}
+
+-- the table of `document: Cases` as text
+unfoldable pub text : List ℕ
+text =
+    98 ∷ 117 ∷ 115 ∷ 9 ∷ 49 ∷ 54 ∷ 10 ∷
+    117 ∷ 110 ∷ 105 ∷ 116 ∷ 9 ∷ 48 ∷ 9 ∷ 117 ∷ 110 ∷ 105 ∷ 9 ∷ 53 ∷ 9 ∷ 50 ∷ 9 ∷ 111 ∷ 110 ∷ 101 ∷ 9 ∷ 48 ∷ 9 ∷ 48 ∷ 9 ∷ 50 ∷ 9 ∷ 49 ∷ 10 ∷
+    117 ∷ 110 ∷ 105 ∷ 116 ∷ 9 ∷ 51 ∷ 9 ∷ 117 ∷ 110 ∷ 105 ∷ 9 ∷ 48 ∷ 9 ∷ 49 ∷ 9 ∷ 102 ∷ 111 ∷ 117 ∷ 114 ∷ 9 ∷ 52 ∷ 48 ∷ 9 ∷ 51 ∷ 9 ∷ 50 ∷ 9 ∷ 49 ∷ 10 ∷
+    117 ∷ 110 ∷ 105 ∷ 116 ∷ 9 ∷ 55 ∷ 9 ∷ 110 ∷ 110 ∷ 105 ∷ 9 ∷ 51 ∷ 48 ∷ 48 ∷ 9 ∷ 51 ∷ 9 ∷ 102 ∷ 111 ∷ 117 ∷ 114 ∷ 9 ∷ 49 ∷ 9 ∷ 49 ∷ 9 ∷ 56 ∷ 56 ∷ 9 ∷ 48 ∷ 10 ∷
+    118 ∷ 112 ∷ 9 ∷ 48 ∷ 9 ∷ 49 ∷ 9 ∷ 117 ∷ 51 ∷ 9 ∷ 49 ∷ 9 ∷ 57 ∷ 10 ∷
+    100 ∷ 114 ∷ 111 ∷ 112 ∷ 9 ∷ 48 ∷ 9 ∷ 50 ∷ 10 ∷
+    112 ∷ 97 ∷ 103 ∷ 101 ∷ 9 ∷ 48 ∷ 9 ∷ 53 ∷ 9 ∷ 51 ∷ 51 ∷ 10 ∷
+    118 ∷ 99 ∷ 9 ∷ 48 ∷ 9 ∷ 53 ∷ 9 ∷ 51 ∷ 51 ∷ 9 ∷ 117 ∷ 51 ∷ 9 ∷ 50 ∷ 9 ∷ 57 ∷ 9 ∷ 52 ∷ 48 ∷ 10 ∷
+    118 ∷ 112 ∷ 9 ∷ 48 ∷ 9 ∷ 51 ∷ 9 ∷ 109 ∷ 49 ∷ 55 ∷ 9 ∷ 48 ∷ 9 ∷ 51 ∷ 48 ∷ 48 ∷ 10 ∷
+    118 ∷ 112 ∷ 9 ∷ 48 ∷ 9 ∷ 52 ∷ 9 ∷ 98 ∷ 9 ∷ 51 ∷ 9 ∷ 55 ∷ 10 ∷
+    118 ∷ 112 ∷ 9 ∷ 55 ∷ 9 ∷ 50 ∷ 54 ∷ 49 ∷ 9 ∷ 117 ∷ 57 ∷ 9 ∷ 51 ∷ 9 ∷ 49 ∷ 10 ∷
+    109 ∷ 99 ∷ 9 ∷ 51 ∷ 9 ∷ 49 ∷ 55 ∷ 10 ∷
+    109 ∷ 99 ∷ 9 ∷ 55 ∷ 9 ∷ 49 ∷ 55 ∷ 10 ∷
+    []
+
+-- what the wide card says to a script after loading it
+abbrev pub saidTo : List ℕ → List ℕ → List C.Counters → List Event → List Said
+saidTo memory store rows es = map (λ b. b .said) (gives Wide (loaded Wide text memory store rows) es)
+
+-- every fate of an arrival (`arrivals`), every fate of a copy (`heard`, `discards`), Unit and Length (`refusals`), sent, heard and unheard cells (`frames`): whatever a
+-- memory for its 342 records, a store for its three units and three rows held before
+pub record Runs (memory store : List ℕ) (rows : List C.Counters) : Type 0 where
+  pub load : loadDone Wide text memory (length store) (length rows) .reply .answer ≡ Loaded 2736
+  pub arrive : saidTo memory store rows arrivals ≡ arrivals-say
+  pub hear : saidTo memory store rows heard ≡ heard-say
+  pub discard : saidTo memory store rows discards ≡ discards-say
+  pub send : saidTo memory store rows frames ≡ frames-say
+  pub refuse : saidTo memory store rows refusals ≡ refusals-say
+
+abbrev pub AllRun : Type 0
+AllRun = (memory store : List ℕ) (rows : List C.Counters) → length memory ≡ 2736 → length store ≡ 24576 → length rows ≡ 3 → Runs memory store rows
+
+-- each refusal of a table: Long; Form of the empty text; Order of a table that begins with its unit; Twice; Wide on the narrow card, at the fourth line of the table above; Room;
+-- Store. `path` is bus 16 / unit 0 .. / vp 0 0 b 0 with these digits
+abbrev pub answerTo : Card → List ℕ → List ℕ → ℕ → ℕ → A.Answer
+answerTo card table memory store rows = loadDone card table memory store rows .reply .answer
+
+abbrev pub five : List ℕ
+five = path (53 ∷ [])
+
+pub record Refusals : Type 0 where
+  pub long : answerTo Wide (replicate 65537 0) [] 0 0 ≡ Unloaded 1 0
+  pub form : answerTo Wide [] [] 0 0 ≡ Unloaded 2 1
+  pub order : answerTo Wide (109 ∷ 99 ∷ 9 ∷ 48 ∷ 9 ∷ 48 ∷ 10 ∷ []) [] 0 0 ≡ Unloaded 3 1
+  pub twice : answerTo Wide (five ++ (118 ∷ 112 ∷ 9 ∷ 48 ∷ 9 ∷ 48 ∷ 9 ∷ 98 ∷ 9 ∷ 48 ∷ 9 ∷ 53 ∷ 10 ∷ [])) (replicate 8 0) 8192 1 ≡ Unloaded 4 4
+  pub wide : answerTo Narrow text (replicate 2736 0) 24576 3 ≡ Unloaded 5 4
+  pub room : answerTo Wide five [] 8192 1 ≡ Unloaded 6 2
+  pub store : answerTo Wide five (replicate 8 0) 0 1 ≡ Unloaded 7 0
+
+-- State: a bus of 17
+abbrev pub spoiled : World
+spoiled = record { shelf = fresh 17; memory = []; store = []; rows = [] }
+
+abbrev pub Spoiled : Type 0
+Spoiled = (card : Card) (e : Event) → happens card spoiled e .said ≡ answers (Refused 8)
