@@ -1,0 +1,247 @@
+-- Frames go on. Assumes nothing.
+use Prim.Native.Nat.{ℕ, zero, suc, _+_, _<_, _≤_}
+use native.Mathlib.Omega.{arith}
+use mathlib.Core.Path.{_≡_, refl, sym, ap, subst, _∙_}
+use mathlib.Core.Logic.{_⊎_, ⊎-elim}
+use mathlib.Core.Bool.{true, cond}
+use mathlib.Core.List.{List, [], _∷_}
+use lib.Dec.{eqb}
+use lib.ListN.{length, length-set, getD, set, replicate, List·getD-map}
+use lib.Seq.{getD-set-same, getD-set-other}
+use borrow.Author.Tests.{eq-eqb, le-leb}
+use Rattle.card.specs.declared.Card.{Card}
+use Rattle.arbiter.specs.Arbitration.{nobody, besides, asking, due, Asks}
+use Rattle.arbiter.proofs.Requests.{renewed-at}
+use Rattle.arbiter.proofs.Grants.{grants-if-asked, granted-highest, granted-first}
+use Rattle.store.proofs.Queues.{length-cells}
+use Rattle.shelf.specs.Shelves as S
+use Rattle.shelf.specs.declared.Found as F
+use Rattle.shelf.specs.declared.Found.the-variants as found
+use Rattle.shelf.proofs.Finding.{find-nothing}
+use Rattle.soundness.specs.State.{Sound}
+use Rattle.soundness.proofs.Facts.{sound-iff}
+use Rattle.admit.specs.Admission.{unitAt}
+use Rattle.answer.specs.declared.Answer.the-variants.{Framed}
+use Rattle.document.specs.Events.{frame, answers}
+use Rattle.document.specs.Shelf as D
+use Rattle.document.specs.Frame.{asksNow, askingOf, frameOf, sendsFrom, sends, sentIn, framed, framedAnswer}
+use Rattle.document.specs.Steps.{step, happensTo}
+use Rattle.document.proofs.Fixed.{givenOf, given-kept}
+use Rattle.running.specs.Events.{World, happens}
+use Rattle.refining.proofs.Alike.{WorldAlike, onBus}
+use Rattle.refining.proofs.Rows.{Different}
+use Rattle.refining.proofs.Steps.{once}
+use Rattle.refining.proofs.Finds.{length-map, find-alike, declared-is}
+use Rattle.fates.specs.Frames.{asksOf, grantedNow, afterFrame, Waits, GrantedInTurn, SendsOldest, Idle, GoesOn, FramesGoOn}
+use Rattle.fates.proofs.Loads.{Full, from-load, then-alike, found-at, four-queues}
+use Rattle.fates.proofs.Holding.{hears-all}
+
+-- a frame whose buffer has its length is not refused
+pub let-in : (d : D.Shelf) (buffer : List ℕ) → length buffer ≡ 57 → happensTo d (frame buffer) ≡ step (answers (framedAnswer d buffer)) (framed d buffer) (sentIn d buffer .bytes)
+unfolding happensTo
+let-in d buffer whole = rw (eq-eqb (length buffer) 57 whole)
+
+-- what a unit asks now stands at its number, where no other unit has that number
+module _ (g : ℕ) where
+  asked-other : (now : List ℕ) (us : List D.Unit) (n : ℕ) → ((j : ℕ) → j < length us → D.numberOf (getD us j D.blank) ≡ n → ⊥) → getD (askingOf g now us) n 0 ≡ getD now n 0
+  unfolding askingOf
+  asked-other now [] n f = refl
+  asked-other now (u ∷ us) n f =
+      asked-other (set now (D.numberOf u) (asksNow g u)) us n (λ j h. f (suc j) (omega arith)) ∙ getD-set-other now (D.numberOf u) n (asksNow g u) 0 (λ e. f 0 (omega arith) (sym e))
+
+  -- so each unit finds its own
+  asked-at : (now : List ℕ) (us : List D.Unit) (i : ℕ) → i < length us → Different us → D.numberOf (getD us i D.blank) < length now →
+      getD (askingOf g now us) (D.numberOf (getD us i D.blank)) 0 ≡ asksNow g (getD us i D.blank)
+  unfolding askingOf
+  asked-at now [] i h once low = absurd (omega arith)
+  asked-at now (u ∷ us) zero h once low =
+      asked-other (set now (D.numberOf u) (asksNow g u)) us (D.numberOf u) (λ j k e. once 0 (suc j) (omega arith) (omega arith) (sym e))
+      ∙ getD-set-same now (D.numberOf u) (asksNow g u) 0 low
+  asked-at now (u ∷ us) (suc i) h once low =
+      asked-at (set now (D.numberOf u) (asksNow g u)) us i (omega arith) (λ j k l m. once (suc j) (suc k) (omega arith) (omega arith)) (omega (arith, low, length-set now (D.numberOf u) (asksNow g u)))
+
+module _ (card : Card) (w : World) (d : D.Shelf) (a : WorldAlike card w d) where
+  facts : Sound card (w .shelf) (length (w .store)) (length (w .rows))
+  facts = sound-iff card (w .shelf) (length (w .store)) (length (w .rows)) .0 (a .sound)
+
+  -- a unit's number and how many cells wait, on both
+  number-is : (i : ℕ) → i < length (d .units) → S.numberOf (getD (S.declared (w .shelf)) i S.blank) ≡ D.numberOf (D.unitAt d i)
+  number-is i h = ap S.numberOf (declared-is card (w .shelf) (w .memory) (w .store) d (a .shelf) i h) ∙ ap (λ s. s .number) (a .shelf .units i h .settings)
+
+  waiting-is : (i : ℕ) → i < length (d .units) → getD (S.declared (w .shelf)) i S.blank .inlet .count ≡ length (D.unitAt d i .inlet)
+  waiting-is i h =
+      ap (λ u. u .inlet .count) (declared-is card (w .shelf) (w .memory) (w .store) d (a .shelf) i h)
+      ∙ sym (length-cells (w .store) i 123 4 (unitAt (w .shelf) i .inlet)) ∙ ap length (a .shelf .units i h .inlet) ∙ length-map onBus (D.unitAt d i .inlet)
+
+  -- a unit's number is below 32
+  below-32 : (i : ℕ) → i < length (d .units) → D.numberOf (D.unitAt d i) < 32
+  below-32 i h =
+      let low = facts .units i (omega (arith, h, a .shelf .many)) .below in
+      let same = number-is i h in
+      ⊎-elim (λ b. omega arith) (λ b. omega arith) (facts .bus)
+
+  -- "an open grant at a unit without a cell" is no sound state
+  pub grant-held : (i : ℕ) → i < length (d .units) → D.numberOf (D.unitAt d i) ≡ d .granted → 1 ≤ length (D.unitAt d i .inlet)
+  grant-held i h e =
+      let g = facts .units i (omega (arith, h, a .shelf .many)) .grant (number-is i h ∙ e ∙ sym (a .shelf .granted)) in
+      omega (arith, g, waiting-is i h)
+
+  -- the unit with the open grant is found, or there is no open grant
+  pub open-grant : (d .granted ≡ nobody → ⊥) → (i : ℕ) × (D.findIn (d .units) (d .granted) ≡ found.At i)
+  open-grant some = go (D.findIn (d .units) (d .granted)) refl
+    where
+      go : (f : F.Found) → D.findIn (d .units) (d .granted) ≡ f → (i : ℕ) × (D.findIn (d .units) (d .granted) ≡ found.At i)
+      go (found.At i) e = (i, e)
+      go found.Nothing e =
+          ⊎-elim
+          (λ n. absurd (some (sym (a .shelf .granted) ∙ n)))
+          (λ k.
+          let nowhere = find-nothing (w .shelf .granted) (S.declared (w .shelf)) .0 (find-alike card (w .shelf) (w .memory) (w .store) d (a .shelf) (w .shelf .granted) ∙ ap (D.findIn (d .units)) (a .shelf .granted) ∙ e) in
+          absurd (nowhere (k .0) (k .1) (k .2)))
+          (facts .granted)
+
+  -- no unit is nobody
+  nobody-found : D.findIn (d .units) nobody ≡ found.Nothing
+  nobody-found = go (D.findIn (d .units) nobody) refl
+    where
+      go : (f : F.Found) → D.findIn (d .units) nobody ≡ f → f ≡ found.Nothing
+      go found.Nothing e = refl
+      go (found.At i) e =
+          let at = found-at (d .units) nobody i e in
+          let n = at .1 in
+          absurd (omega (arith, below-32 i (at .0)))
+
+  -- the unit with the open grant is declared, and has a cell
+  waits : (d .granted ≡ nobody → ⊥) → Waits d (d .granted)
+  waits some =
+      let o = open-grant some in
+      let at = found-at (d .units) (d .granted) (o .0) (o .1) in
+      record { place = o .0; declared = at .0; named = at .1; cell = grant-held (o .0) (at .0) (at .1) }
+
+  -- the cell that is sent
+  pub has-cell : (i : ℕ) → D.findIn (d .units) (d .granted) ≡ found.At i → (r : D.Routed) × (rest : List D.Routed) × (D.unitAt d i .inlet ≡ r ∷ rest)
+  has-cell i there = go (D.unitAt d i .inlet) refl
+    where
+      go : (l : List D.Routed) → D.unitAt d i .inlet ≡ l → (r : D.Routed) × (rest : List D.Routed) × (D.unitAt d i .inlet ≡ r ∷ rest)
+      go [] e = let at = found-at (d .units) (d .granted) i there in absurd (omega (arith, grant-held i (at .0) (at .1), ap length e))
+      go (r ∷ rest) e = (r, rest, e)
+
+  module _ (buffer : List ℕ) (whole : length buffer ≡ 57) (i : ℕ) (there : D.findIn (d .units) (d .granted) ≡ found.At i) (r : D.Routed) (rest : List D.Routed) (e : D.unitAt d i .inlet ≡ r ∷ rest) where
+    -- what is left when that cell has been on the bus
+    pub sent-is : sentIn d buffer ≡ sendsFrom (r ∷ rest) d i buffer
+    unfolding sends
+    sent-is = ap (λ f. sends f d buffer) there ∙ ap (λ l. sendsFrom l d i buffer) e
+
+    -- its bytes
+    pub sent-bytes : happensTo d (frame buffer) .bytes ≡ frameOf r
+    unfolding sendsFrom
+    sent-bytes = ap (λ s. s .bytes) (let-in d buffer whole) ∙ ap (λ s. s .bytes) sent-is
+
+    -- all of it
+    abbrev pub sent-at : SendsOldest d buffer
+    sent-at =
+        record {
+          sender =
+              record {
+                place = i;
+                declared = found-at (d .units) (d .granted) i there .0;
+                named = found-at (d .units) (d .granted) i there .1;
+                cell = grant-held i (found-at (d .units) (d .granted) i there .0) (found-at (d .units) (d .granted) i there .1);
+              };
+          found = there;
+          oldest = r;
+          others = rest;
+          waiting = e;
+          says = ap (λ s. s .said) (let-in d buffer whole);
+          bytes = sent-bytes;
+          gone = hears-all d (four-queues card w d a) buffer i r rest whole there e i (found-at (d .units) (d .granted) i there .0) .2 refl;
+        }
+
+  -- the unit granted in the frame before sends its oldest cell
+  sends-oldest : (d .granted ≡ nobody → ⊥) → (buffer : List ℕ) → length buffer ≡ 57 → SendsOldest d buffer
+  sends-oldest some buffer whole =
+      let o = open-grant some in let c = has-cell (o .0) (o .1) in sent-at buffer whole (o .0) (o .1) (c .0) (c .1) (c .2)
+
+  -- nobody was granted: the frame is idle
+  idles : d .granted ≡ nobody → (buffer : List ℕ) → length buffer ≡ 57 → Idle d buffer
+  unfolding sends
+  idles n buffer whole =
+      let none = ap (D.findIn (d .units)) n ∙ nobody-found in
+      record {
+        says = ap (λ s. s .said) (let-in d buffer whole) ∙ (λ t. answers (Framed (d .frame) (n t) (grantedNow d) (sends (none t) d buffer .queued)));
+        bytes = ap (λ s. s .bytes) (let-in d buffer whole) ∙ (λ t. sends (none t) d buffer .bytes);
+        units = ap (λ s. s .shelf .units) (let-in d buffer whole) ∙ (λ t. sends (none t) d buffer .units);
+      }
+
+  -- the grant that a frame leaves open
+  opened : (buffer : List ℕ) → length buffer ≡ 57 → afterFrame d buffer .granted ≡ grantedNow d
+  opened buffer whole = ap (λ s. s .shelf .granted) (let-in d buffer whole)
+
+  -- a unit's request: as it asks now where it is renewed, else as it was
+  request-is : Full d → (i : ℕ) → i < length (d .units) →
+      let n = D.numberOf (D.unitAt d i) in
+      getD (asksOf d) n 0 ≡ cond (due (d .bus) (d .frame) n) (asksNow (d .granted) (D.unitAt d i)) (getD (d .arbiter .asks) n 0)
+  request-is full i h =
+      let n = D.numberOf (D.unitAt d i) in
+      let z : n ≡ 0 + n = omega arith in
+      let low : n < 32 = below-32 i h in
+      let now = askingOf (d .granted) (replicate 32 0) (d .units) in
+      renewed-at (d .bus) (d .frame) now 0 (d .arbiter .asks) n (omega arith)
+      ∙ ap (λ k. cond (due (d .bus) (d .frame) k) (getD now k 0) (getD (d .arbiter .asks) n 0)) (sym z)
+      ∙ ap (λ x. cond (due (d .bus) (d .frame) n) x (getD (d .arbiter .asks) n 0)) (asked-at (d .granted) (replicate 32 0) (d .units) i h (once card w d a) low)
+
+  -- a unit with a cell besides a granted one asks, if it is its turn
+  asks-now : Full d → (i : ℕ) → i < length (d .units) → due (d .bus) (d .frame) (D.numberOf (D.unitAt d i)) ≡ true →
+      1 ≤ besides (length (D.unitAt d i .inlet)) (eqb (D.numberOf (D.unitAt d i)) (d .granted)) → Asks (asksOf d) (D.numberOf (D.unitAt d i))
+  unfolding asking
+  asks-now full i h turn some =
+      let u = D.unitAt d i in
+      let request : getD (asksOf d) (D.numberOf u) 0 ≡ u .settings .priority =
+      request-is full i h ∙ ap (λ b. cond b (asksNow (d .granted) u) (getD (d .arbiter .asks) (D.numberOf u) 0)) turn
+      ∙ ap (λ b. cond b (u .settings .priority) 0) (le-leb 1 (besides (length (u .inlet)) (eqb (D.numberOf u) (d .granted))) some) in
+      let s = facts .units i (omega (arith, h, a .shelf .many)) in
+      let p : getD (S.declared (w .shelf)) i S.blank .settings .priority ≡ u .settings .priority =
+      ap (λ x. x .settings .priority) (declared-is card (w .shelf) (w .memory) (w .store) d (a .shelf) i h) ∙ ap (λ x. x .priority) (a .shelf .units i h .settings) in
+      (below-32 i h, omega (arith, request, s .least, p), omega (arith, request, s .most, p))
+
+module _ (card : Card) (w : World) (d : D.Shelf) (a : WorldAlike card w d) where
+  -- who is granted has a cell after the frame, and is declared in it
+  still-waits : (grantedNow d ≡ nobody → ⊥) → (buffer : List ℕ) → length buffer ≡ 57 → Waits (afterFrame d buffer) (grantedNow d)
+  still-waits some buffer whole =
+      let e = opened card w d a buffer whole in
+      subst (Waits (afterFrame d buffer)) e
+      (waits card (happens card w (frame buffer) .world) (afterFrame d buffer) (then-alike card w d a (frame buffer)) (λ n. some (sym e ∙ n)))
+
+  -- who is granted is declared, asks at the highest priority, and is the first in turn
+  in-turn : (grantedNow d ≡ nobody → ⊥) → GrantedInTurn d
+  in-turn some =
+      let v = still-waits some (replicate 57 0) refl in
+      let same = given-kept d (frame (replicate 57 0)) in
+      let long = sym (length-map givenOf (afterFrame d (replicate 57 0) .units)) ∙ ap length same ∙ length-map givenOf (d .units) in
+      record {
+        place = v .place;
+        declared = omega (arith, v .declared, long);
+        named =
+            sym (ap (λ g. g .settings .number)
+            (sym (List·getD-map givenOf (afterFrame d (replicate 57 0) .units) (v .place) D.blank) ∙ ap (λ l. getD l (v .place) (givenOf D.blank)) same ∙ List·getD-map givenOf (d .units) (v .place) D.blank))
+            ∙ v .named;
+        highest = granted-highest (d .arbiter .last) (asksOf d) some;
+        first = granted-first (d .arbiter .last) (asksOf d) some;
+      }
+
+-- all of it, where both shelves are alike
+goes-on : (card : Card) (w : World) (d : D.Shelf) → WorldAlike card w d → Full d → GoesOn d
+goes-on card w d a full =
+    record {
+      asks = asks-now card w d a full;
+      granted = grants-if-asked (d .arbiter .last) (asksOf d);
+      in-turn = in-turn card w d a;
+      sends = sends-oldest card w d a;
+      idle = idles card w d a;
+      still = still-waits card w d a;
+      opens = opened card w d a;
+    }
+
+-- so from a good load on
+pub frames-go-on : FramesGoOn
+frames-go-on = from-load GoesOn goes-on

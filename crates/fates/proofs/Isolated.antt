@@ -1,0 +1,261 @@
+-- An event at a unit leaves everything else alone. Assumes nothing.
+use Prim.Native.Nat.{ℕ, _+_, _≤_}
+use native.Mathlib.Omega.{arith}
+use mathlib.Core.Path.{_≡_, refl, sym, ap, subst, _∙_}
+use mathlib.Core.Logic.{_≢_, _⊎_, ⊎-elim}
+use mathlib.Core.Bool.{Bool, true, false, cond}
+use mathlib.Core.Option.{some}
+use mathlib.Core.List.{List, _++_}
+use lib.Dec.{eqb}
+use lib.ListN.{length, length-append, length-take, length-drop, length-set, getD, take, drop}
+use lib.Seq.{getD-set-other, getD-take, getD-drop}
+use borrow.Author.Tests.{eqb-true, leb-false}
+use Rattle.octets.specs.Octets.{part, splice, be2, be4}
+use Rattle.octets.proofs.Parts.{part-before, part-after, length-splice}
+use Rattle.card.specs.declared.Card.{Card}
+use Rattle.bus.specs.Frame.{cell, heard}
+use Rattle.store.specs.Places.{partOf, slotAt, putAt, inletSlot, outletSlot}
+use Rattle.store.specs.Rings.{tail, pushed}
+use Rattle.store.proofs.Slots.{by-lt}
+use Rattle.outlet.specs.Outlets.{queue, capacity}
+use Rattle.shelf.specs.Shelves.{declared, blank, findIn}
+use Rattle.shelf.specs.declared.Found.the-variants as found
+use Rattle.shelf.specs.declared.Unit as U
+use Rattle.shelf.specs.declared.Shelf.{Shelf}
+use Rattle.queueing.specs.Taking.{leaving}
+use Rattle.queueing.specs.declared.Leaving as L
+use Rattle.queueing.specs.declared.Leaving.the-variants as leaves
+use Rattle.answer.specs.Answers.{row, refused, arrivalRises, hearingRises, #taken}
+use Rattle.answer.specs.declared.Arrival.the-variants.{Inletfull, Queued}
+use Rattle.counters.specs.Counting.{settled, settledTo, zero}
+use Rattle.counters.proofs.Settling.{settled-ahead, settled-behind, length-settled}
+use Rattle.counters.specs.declared.Counters as C
+use Rattle.admit.specs.Admission.{admitted, decided, unitAt, withUnit, withInlet, Housed}
+use Rattle.admit.specs.declared.Admitted as A
+use Rattle.admit.specs.declared.Admitted.the-variants.{At, Refused}
+use Rattle.admit.proofs.Laws.{at-let-in, let-in-housed}
+use Rattle.arriving.specs.Arriving as arriving
+use Rattle.arriving.specs.declared.Way.{Way}
+use Rattle.arriving.specs.declared.Way.the-variants.{Bus, Lost}
+use Rattle.arriving.proofs.Leaves.{inlet-inside}
+use Rattle.bus.specs.declared.Heard as H
+use Rattle.hearing.specs.Hearings as hearing
+use Rattle.hearing.specs.declared.Plan as P
+use Rattle.hearing.specs.declared.Plan.the-variants as plans
+use Rattle.hearing.proofs.Plans.{plan-queue, outlet-inside}
+use Rattle.taking.specs.Takes as taking
+use Rattle.document.specs.Events.{arrive, frame, hear, take as takes, count}
+use Rattle.running.specs.Events.{World, ended, happens}
+use Rattle.fates.specs.Isolation.{named, Outside, OnlyAt, Isolation}
+
+-- a byte of a list, seen as a part of it
+byte-of : (b : List ℕ) (k : ℕ) → getD (part b k 1) 0 0 ≡ getD b k 0
+byte-of b k = getD-take 1 (drop k b) 0 0 (omega arith) ∙ getD-drop k b 0 0 ∙ ap (λ n. getD b n 0) (let e : k + 0 ≡ k = omega arith in e)
+
+-- a row that changes in one place
+other-row : (rows : List C.Counters) (i n j : ℕ) → j ≢ i → getD (settled rows (row i n)) j zero ≡ getD rows j zero
+other-row rows i n j apart =
+    by-lt j i
+    (λ h. settled-behind rows (row i n) (i + 1) j h)
+    (λ h. settled-ahead rows (row i n) (i + 1) j (let a : j ≡ i → ⊥ = apart in omega arith))
+
+-- a store that is the same outside a place's part, and as long
+record Within (place : ℕ) (before after : List ℕ) : Type 0 where
+  same : (k : ℕ) → Outside place k → getD after k 0 ≡ getD before k 0
+  long : length after ≡ length before
+
+-- a cell written into a slot of the part
+put-within : (store : List ℕ) (place slot : ℕ) (c : List ℕ) → length c ≡ 56 → slotAt place slot + 56 ≤ partOf place + 8192 → partOf place + 8192 ≤ length store → Within place store (putAt store place slot c)
+unfolding putAt slotAt
+put-within store place slot c whole inside room =
+    let at = slotAt place slot in
+    let fits : at + length c ≤ length store = omega arith in
+    record {
+      same = λ k out.
+          sym (byte-of (splice store at c) k)
+          ∙ ap (λ (l : List ℕ). getD l 0 0)
+          (⊎-elim (λ h. part-before store at c fits k 1 (omega arith)) (λ h. part-after store at c fits k 1 (omega arith)) out)
+          ∙ byte-of store k;
+      long = length-splice store at c fits;
+    }
+
+-- the unit in a place, its row and its part have changed; or only its row has
+module _ (w : World) (i n : ℕ) (store : List ℕ) (within : Within i (w .store) store) where
+  abbrev with-shelf : Shelf → World
+  with-shelf shelf = record { shelf = shelf; memory = w .memory; store = store; rows = settled (w .rows) (row i n) }
+
+  only-unit : (u : U.Unit) → OnlyAt i w (with-shelf (withUnit (w .shelf) i u))
+  only-unit u =
+      record {
+        units = λ j apart. getD-set-other (w .shelf .units) i j u blank apart;
+        rows = other-row (w .rows) i n;
+        store = within .same;
+        many-units = length-set (w .shelf .units) i u;
+        many-rows = length-settled (w .rows) (row i n) (i + 1);
+        many-bytes = within .long;
+        memory = refl;
+        bus = refl;
+        declared-units = refl;
+        arbiter = refl;
+        granted = refl;
+        frame = refl;
+      }
+
+  -- only the row has
+  only-row : OnlyAt i w (with-shelf (w .shelf))
+  only-row =
+      record {
+        units = λ j apart. refl;
+        rows = other-row (w .rows) i n;
+        store = within .same;
+        many-units = refl;
+        many-rows = length-settled (w .rows) (row i n) (i + 1);
+        many-bytes = within .long;
+        memory = refl;
+        bus = refl;
+        declared-units = refl;
+        arbiter = refl;
+        granted = refl;
+        frame = refl;
+      }
+
+-- nothing has changed
+only-none : (w : World) (i : ℕ) → OnlyAt i w w
+only-none w i =
+    record {
+      units = λ j apart. refl;
+      rows = λ j apart. refl;
+      store = λ k out. refl;
+      many-units = refl;
+      many-rows = refl;
+      many-bytes = refl;
+      memory = refl;
+      bus = refl;
+      declared-units = refl;
+      arbiter = refl;
+      granted = refl;
+      frame = refl;
+    }
+
+-- where the unit is found only its place has changed, and nothing where it is not
+abbrev Alone : World → ℕ → World → Type 0
+Alone w unit after =
+    ((place : ℕ) → findIn (declared (w .shelf)) unit ≡ found.At place → OnlyAt place w after) × (findIn (declared (w .shelf)) unit ≡ found.Nothing → after ≡ w)
+
+-- an event at a unit: refused, or let in at the place where the unit is found
+module _ (card : Card) (w : World) (unit : ℕ) (right : Bool) (out : A.Admitted → World) where
+  abbrev way : A.Admitted
+  way = admitted card (w .shelf) (length (w .store)) (length (w .rows)) unit right
+
+  -- let in at its place
+  at-place : ((number : ℕ) → out (Refused number) ≡ w) →
+      ((i : ℕ) → Housed i (unitAt (w .shelf) i) (length (w .store)) → right ≡ true → OnlyAt i w (out (At i))) →
+      (place : ℕ) → findIn (declared (w .shelf)) unit ≡ found.At place → OnlyAt place w (out way)
+  at-place refusal let-in place there = go way refl
+    where
+      go : (a : A.Admitted) → way ≡ a → OnlyAt place w (out a)
+      go (Refused number) e = subst (OnlyAt place w) (sym (refusal number)) (only-none w place)
+      go (At i) e =
+          let l = at-let-in card (w .shelf) (length (w .store)) (length (w .rows)) unit right i e in
+          let f = l .found in
+          let same : i ≡ place = cc in
+          subst (λ p. OnlyAt p w (out (At i))) same
+          (let-in i (let-in-housed card (w .shelf) (length (w .store)) (length (w .rows)) unit right i l .0) (l .fits))
+
+  -- not declared
+  nowhere : ((number : ℕ) → out (Refused number) ≡ w) → findIn (declared (w .shelf)) unit ≡ found.Nothing → out way ≡ w
+  nowhere refusal missing = go way refl
+    where
+      go : (a : A.Admitted) → way ≡ a → out a ≡ w
+      go (Refused number) e = refusal number
+      go (At i) e =
+          let f = at-let-in card (w .shelf) (length (w .store)) (length (w .rows)) unit right i e .found in
+          let z : _≡_ {A = ℕ} 0 1 = cc in
+          absurd (omega arith)
+
+  -- both
+  both : ((number : ℕ) → out (Refused number) ≡ w) →
+      ((i : ℕ) → Housed i (unitAt (w .shelf) i) (length (w .store)) → right ≡ true → OnlyAt i w (out (At i))) →
+      (n : ℕ) → some unit ≡ some n → Alone w n (out way)
+  both refusal let-in n e = let same : unit ≡ n = cc in subst (λ m. Alone w m (out way)) same (at-place refusal let-in, nowhere refusal)
+
+-- the 56 bytes of an arrived cell
+composed : (c : List ℕ) (routing header : ℕ) → length c ≡ 53 → length (cell routing 0 header (part c 5 48)) ≡ 56
+unfolding cell
+composed c routing header whole =
+    length-append (be2 routing ++ be2 0 ++ be4 header) (part c 5 48) ∙ (let a = length-take 48 (drop 5 c) in let b = length-drop 5 c in omega arith)
+
+-- the store where nothing is written
+as-was : (i : ℕ) (store : List ℕ) → Within i store store
+as-was i store = record { same = λ k out. refl; long = refl }
+
+module _ (w : World) (i : ℕ) (housed : Housed i (unitAt (w .shelf) i) (length (w .store))) where
+  abbrev u : U.Unit
+  u = unitAt (w .shelf) i
+
+  -- the unit is housed in its own part alone
+  own-part : Housed i u (partOf i + 8192)
+  own-part = record { below = housed .below; inside = omega arith; limits = housed .limits; queues = housed .queues; inlet = housed .inlet }
+
+  -- an arrival, by its way
+  arrival : (way : Way) (c : List ℕ) → length c ≡ 53 → OnlyAt i w (ended w (arriving.doneBy way (w .shelf) i) (arriving.storeBy way u i (w .store) c) c .world)
+  unfolding arriving.doneBy arriving.storeBy
+  arrival (Lost fate) c whole = only-row w i (arrivalRises fate) (w .store) (as-was i (w .store))
+  arrival (Bus routing header) c whole = pick (arriving.inletFull u) refl
+    where
+      pick : (b : Bool) → arriving.inletFull u ≡ b →
+          OnlyAt i w
+          (ended w (cond b (arriving.arrived (w .shelf) i Inletfull) (arriving.arrived (arriving.cellIn (w .shelf) i) i Queued))
+          (cond b (w .store) (putAt (w .store) i (inletSlot (tail (u .inlet) 4)) (cell routing 0 header (part c 5 48)))) c .world)
+      pick true t = only-row w i (arrivalRises Inletfull) (w .store) (as-was i (w .store))
+      pick false t =
+          only-unit w i (arrivalRises Queued) _
+          (put-within (w .store) i (inletSlot (tail (u .inlet) 4)) (cell routing 0 header (part c 5 48)) (composed c routing header whole)
+          (inlet-inside i (partOf i + 8192) (u .inlet) (own-part .inside) (housed .inlet) (leb-false 4 (u .inlet .count) t)) (housed .inside))
+          (withInlet u (pushed (u .inlet)))
+
+  -- a frame handed in, by its plan
+  heard-so : (h : H.Heard) (bytes : List ℕ) → length bytes ≡ 56 → Within i (w .store) (hearing.storeOf u h i (w .store) bytes)
+  unfolding hearing.storeBy
+  heard-so h bytes whole = go (hearing.planOf u h) refl
+    where
+      go : (p : P.Plan) → hearing.planOf u h ≡ p → Within i (w .store) (hearing.storeBy p u i (w .store) bytes)
+      go (plans.Lost fate) e = as-was i (w .store)
+      go (plans.Queue q) e =
+          put-within (w .store) i (outletSlot (u .outlet .limits) q (tail (queue (u .outlet) q) (capacity (u .outlet .limits) q))) bytes whole
+          (outlet-inside i (partOf i + 8192) u q own-part (plan-queue u h q e)) (housed .inside)
+
+  -- a take, by the queue that it leaves
+  taken : (l : L.Leaving) (buffer : List ℕ) → OnlyAt i w (ended w (taking.doneBy l (w .shelf) i) (w .store) buffer .world)
+  unfolding taking.doneBy settledTo
+  taken (leaves.Queue q) buffer = only-unit w i #taken (w .store) (as-was i (w .store)) (taking.without u q)
+  taken leaves.Empty buffer = only-none w i
+
+-- each event that names a unit
+pub isolation : Isolation
+unfolding named happens decided settledTo
+isolation card w (arrive unit c) n e =
+    both card w unit (eqb (length c) 53)
+    (λ a.
+    ended w (decided a (λ place. arriving.doneAt card (w .shelf) place (w .memory) c) (refused (w .shelf)))
+    (decided a (λ place. arriving.storeAt card (w .shelf) place (w .memory) (w .store) c) (λ number. w .store)) c .world)
+    (λ number. refl)
+    (λ i housed r. arrival w i housed (arriving.wayOf card (unitAt (w .shelf) i) (w .memory) c) c (eqb-true (length c) 53 r)) n e
+isolation card w (frame buffer) n e = let z : _≡_ {A = ℕ} 0 1 = cc in absurd (omega arith)
+isolation card w (hear unit f) n e =
+    both card w unit (eqb (length f) 57)
+    (λ a.
+    ended w (decided a (λ place. hearing.doneAt (w .shelf) place f) (refused (w .shelf)))
+    (decided a (λ place. hearing.storeAt (w .shelf) place (w .store) f) (λ number. w .store)) f .world)
+    (λ number. refl)
+    (λ i housed r.
+    let v = unitAt (w .shelf) i in
+    only-unit w i (hearingRises (hearing.copyOf v (heard f) .fate)) _
+    (heard-so w i housed (heard f) (take 56 f) (let a = length-take 56 f in let b = eqb-true (length f) 57 r in omega arith)) (hearing.copyOf v (heard f) .unit))
+    n e
+isolation card w (takes unit buffer) n e =
+    both card w unit (eqb (length buffer) 53)
+    (λ a. ended w (decided a (taking.doneAt (w .shelf)) (refused (w .shelf))) (w .store) buffer .world)
+    (λ number. refl)
+    (λ i housed r. taken w i housed (leaving (unitAt (w .shelf) i .outlet)) buffer) n e
+isolation card w (count unit) n e = (λ place there. only-none w place, λ nothing. refl)

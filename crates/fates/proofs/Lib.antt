@@ -1,0 +1,7 @@
+pub mod Isolated
+pub mod Fated
+pub mod Damages
+pub mod Loads
+pub mod Holding
+pub mod Going
+pub mod Cleaned

@@ -1,0 +1,80 @@
+-- Frames go on: who asks is granted in its turn, who is granted sends. Assumes nothing.
+use Prim.Native.Nat.{ℕ, _<_, _≤_}
+use mathlib.Core.Path.{_≡_}
+use mathlib.Core.Logic.{_↔_}
+use mathlib.Core.Bool.{true}
+use mathlib.Core.List.{List, _∷_}
+use lib.Dec.{eqb}
+use lib.ListN.{length, getD}
+use Rattle.arbiter.specs.Arbitration.{nobody, besides, due, cyclic, lastAt, Asks, FirstOf}
+use Rattle.shelf.specs.declared.Found.the-variants.{At}
+use Rattle.answer.specs.declared.Answer.the-variants.{Framed}
+use Rattle.document.specs.Events.{frame, answers}
+use Rattle.document.specs.Shelf.{Routed, Shelf, numberOf, findIn, unitAt}
+use Rattle.document.specs.Frame.{requests, frameOf, sentIn, granting}
+use Rattle.document.specs.Steps.{happensTo}
+use Rattle.fates.specs.Held.{unitAfter}
+use Rattle.fates.specs.Loaded.{FromLoad}
+
+-- the requests of this frame, and who is granted by them
+abbrev pub asksOf : Shelf → List ℕ
+asksOf d = requests d .asks
+
+abbrev pub grantedNow : Shelf → ℕ
+grantedNow d = granting d .unit
+
+-- the shelf after a frame
+abbrev pub afterFrame : Shelf → List ℕ → Shelf
+afterFrame d buffer = happensTo d (frame buffer) .shelf
+
+-- the unit with this number is declared, and has a cell
+pub record Waits (d : Shelf) (number : ℕ) : Type 0 where
+  pub place : ℕ
+  pub declared : place < length (d .units)
+  pub named : numberOf (unitAt d place) ≡ number
+  pub cell : 1 ≤ length (unitAt d place .inlet)
+
+-- "Then the grant: of the highest priority asking (3 is highest), the first unit in cyclic order after the last unit granted at each of the three
+-- priorities, its own kept for each; before any grant, from unit 0."
+pub record GrantedInTurn (d : Shelf) : Type 0 where
+  pub place : ℕ
+  pub declared : place < length (d .units)
+  pub named : numberOf (unitAt d place) ≡ grantedNow d
+  pub highest : (n : ℕ) → Asks (asksOf d) n → getD (asksOf d) n 0 ≤ getD (asksOf d) (grantedNow d) 0
+  pub first :
+      FirstOf (asksOf d) (getD (asksOf d) (grantedNow d) 0) (cyclic (lastAt (d .arbiter .last) (getD (asksOf d) (grantedNow d) 0))) (grantedNow d)
+
+-- "Then the unit granted in the frame before sends its oldest cell.": the frame is that cell's, and the cell has left the inlet
+pub record SendsOldest (d : Shelf) (buffer : List ℕ) : Type 0 where
+  pub sender : Waits d (d .granted)
+  pub found : findIn (d .units) (d .granted) ≡ At (sender .place)
+  pub oldest : Routed
+  pub others : List Routed
+  pub waiting : unitAt d (sender .place) .inlet ≡ oldest ∷ others
+  pub says : happensTo d (frame buffer) .said ≡ answers (Framed (d .frame) (d .granted) (grantedNow d) (sentIn d buffer .queued))
+  pub bytes : happensTo d (frame buffer) .bytes ≡ frameOf oldest
+  pub gone : unitAfter d (frame buffer) (sender .place) .inlet ≡ others
+
+-- "An idle frame has no bytes and leaves the frame buffer unchanged."
+pub record Idle (d : Shelf) (buffer : List ℕ) : Type 0 where
+  pub says : happensTo d (frame buffer) .said ≡ answers (Framed (d .frame) nobody (grantedNow d) 0)
+  pub bytes : happensTo d (frame buffer) .bytes ≡ buffer
+  pub units : afterFrame d buffer .units ≡ d .units
+
+pub record GoesOn (d : Shelf) : Type 0 where
+  -- "a unit asks if it has a cell besides one already granted", where its request is renewed in this frame
+  pub asks : (i : ℕ) → i < length (d .units) → due (d .bus) (d .frame) (numberOf (unitAt d i)) ≡ true →
+      1 ≤ besides (length (unitAt d i .inlet)) (eqb (numberOf (unitAt d i)) (d .granted)) → Asks (asksOf d) (numberOf (unitAt d i))
+  -- one is granted exactly if one asks, and in its turn
+  pub granted : (grantedNow d ≡ nobody → ⊥) ↔ ((n : ℕ) × Asks (asksOf d) n)
+  pub in-turn : (grantedNow d ≡ nobody → ⊥) → GrantedInTurn d
+  -- a granted unit's oldest cell is sent in the next frame
+  pub sends : (d .granted ≡ nobody → ⊥) → (buffer : List ℕ) → length buffer ≡ 57 → SendsOldest d buffer
+  pub idle : d .granted ≡ nobody → (buffer : List ℕ) → length buffer ≡ 57 → Idle d buffer
+  -- nobody without a cell is ever granted: who is granted in a frame is declared, and still has a cell after it
+  pub still : (grantedNow d ≡ nobody → ⊥) → (buffer : List ℕ) → length buffer ≡ 57 → Waits (afterFrame d buffer) (grantedNow d)
+  pub opens : (buffer : List ℕ) → length buffer ≡ 57 → afterFrame d buffer .granted ≡ grantedNow d
+
+-- from a good load on, over every sequence of events; "a frame that sends once and then only numbers frames" is none of ours
+abbrev pub FramesGoOn : Type 0
+FramesGoOn = FromLoad GoesOn

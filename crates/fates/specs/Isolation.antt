@@ -1,0 +1,49 @@
+-- An event at a unit leaves everything else alone. Assumes nothing.
+use Prim.Native.Nat.{ℕ, _+_, _<_, _≤_}
+use mathlib.Core.Path.{_≡_}
+use mathlib.Core.Logic.{_≢_, _⊎_}
+use mathlib.Core.Option.{Option, none, some}
+use lib.ListN.{length, getD}
+use Rattle.card.specs.declared.Card.{Card}
+use Rattle.store.specs.Places.{partOf}
+use Rattle.shelf.specs.Shelves.{declared, findIn}
+use Rattle.shelf.specs.declared.Found.the-variants.{At, Nothing}
+use Rattle.counters.specs.Counting.{zero}
+use Rattle.admit.specs.Admission.{unitAt}
+use Rattle.document.specs.Events.{Event, arrive, frame, hear, take, count}
+use Rattle.running.specs.Events.{World, happens}
+
+-- the unit that an event names; a frame names none
+unfoldable pub named : Event → Option ℕ
+named (arrive unit cell) = some unit
+named (frame buffer) = none
+named (hear unit heard) = some unit
+named (take unit buffer) = some unit
+named (count unit) = some unit
+
+-- a byte of the store outside the 8,192 bytes of the unit in a place
+abbrev pub Outside : ℕ → ℕ → Type 0
+Outside place byte = (byte < partOf place) ⊎ (partOf place + 8192 ≤ byte)
+
+-- between these two worlds nothing has changed but the unit in a place, its row and its part of the store
+pub record OnlyAt (place : ℕ) (before after : World) : Type 0 where
+  pub units : (j : ℕ) → j ≢ place → unitAt (after .shelf) j ≡ unitAt (before .shelf) j
+  pub rows : (j : ℕ) → j ≢ place → getD (after .rows) j zero ≡ getD (before .rows) j zero
+  pub store : (k : ℕ) → Outside place k → getD (after .store) k 0 ≡ getD (before .store) k 0
+  pub many-units : length (after .shelf .units) ≡ length (before .shelf .units)
+  pub many-rows : length (after .rows) ≡ length (before .rows)
+  pub many-bytes : length (after .store) ≡ length (before .store)
+  pub memory : after .memory ≡ before .memory
+  pub bus : after .shelf .bus ≡ before .shelf .bus
+  pub declared-units : after .shelf .count ≡ before .shelf .count
+  pub arbiter : after .shelf .arbiter ≡ before .shelf .arbiter
+  pub granted : after .shelf .granted ≡ before .shelf .granted
+  pub frame : after .shelf .frame ≡ before .shelf .frame
+
+-- Arrive, hear, take and count change no other unit, no other row and no byte of another part of the store, whatever the world, sound or not, and
+-- whatever the event is handed; "9 Unit: unit not declared", "Refusals 8 to 10 .. change nothing"
+abbrev pub Isolation : Type 0
+Isolation =
+    (card : Card) (w : World) (e : Event) (unit : ℕ) → named e ≡ some unit →
+    ((place : ℕ) → findIn (declared (w .shelf)) unit ≡ At place → OnlyAt place w (happens card w e .world))
+    × (findIn (declared (w .shelf)) unit ≡ Nothing → happens card w e .world ≡ w)
