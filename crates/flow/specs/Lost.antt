@@ -1,0 +1,28 @@
+-- Demand: nothing is lost without a counter. Assumes nothing.
+use Prim.Native.Nat.{ℕ, _+_, _<_}
+use mathlib.Core.Path.{_≡_}
+use mathlib.Core.List.{List}
+use lib.ListN.{length, getD}
+use Rattle.line.specs.declared.Line.{Line}
+use Rattle.document.specs.Events.{Event}
+use Rattle.document.specs.Counters.{times, arrived, hec, ignored, misrouted, inletfull, sent, queued, taken}
+use Rattle.document.specs.Shelf.{Unit, Shelf, numberOf, held, blank, unitAt, unitsOf, opened}
+use Rattle.document.specs.Steps.{becomes}
+
+-- "a unit repeated": no unit number is there twice
+abbrev pub Different : List Unit → Type 0
+Different us = (i j : ℕ) → i < j → j < length us → numberOf (getD us i blank) ≡ numberOf (getD us j blank) → ⊥
+
+-- the cells in a unit's outlet
+abbrev pub inOutlet : Unit → ℕ
+inOutlet u = held u 0 + held u 1 + held u 2 + held u 3
+
+-- each arrived cell is counted as lost, was sent, or waits; each copy queued at an outlet was taken or is there
+pub record Accounted (d : Shelf) (i : ℕ) : Type 0 where
+  pub arrivals :
+      let n = numberOf (unitAt d i) in
+      times (d .history) n arrived ≡ times (d .history) n hec + times (d .history) n ignored + times (d .history) n misrouted + times (d .history) n inletfull + times (d .history) n sent + length (unitAt d i .inlet)
+  pub copies : let n = numberOf (unitAt d i) in times (d .history) n queued ≡ times (d .history) n taken + inOutlet (unitAt d i)
+
+abbrev pub NothingLost : Type 0
+NothingLost = (lines : List Line) → Different (unitsOf lines) → (es : List Event) (i : ℕ) → i < length (unitsOf lines) → Accounted (becomes (opened lines) es) i
