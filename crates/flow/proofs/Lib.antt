@@ -1,2 +1,4 @@
 pub mod Times
 pub mod Turns
+pub mod Moves
+pub mod Kept

@@ -86,7 +86,7 @@ queuedBy lines u (sends r rest) q = copyIn lines (withInlet u rest) (asHeard r) 
 
 -- "Take gives the oldest cell (mode `one`) or the oldest cell of the lowest class held (mode `four`)"
 unfoldable pub oldestIn : L.Leaving → Unit → ℕ → List Cell
-oldestIn (leaves.Queue p) u q = cond (eqb q p) (take 1 (queueAt u q)) []
+oldestIn (leaves.Queue p) u q = cond (eqb q p) (take 1 (queueAt u p)) []
 oldestIn leaves.Empty u q = []
 
 unfoldable pub takenBy : Unit → Part → ℕ → List Cell

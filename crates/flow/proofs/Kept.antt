@@ -1,0 +1,170 @@
+-- Over every sequence of events: nothing is lost without a counter, and all leaves in the order in which it came. Assumes nothing.
+use Prim.Native.Nat.{ℕ, zero, suc, _+_, _<_}
+use native.Mathlib.Omega.{arith}
+use mathlib.Core.Path.{_≡_, refl, sym, ap, ap₂, subst, _∙_}
+use mathlib.Core.Bool.{Bool, true, false, cond}
+use mathlib.Core.List.{List, [], _∷_, _++_, append-nil, append-assoc}
+use lib.ListN.{length, getD, length-map, length-append, List·getD-map}
+use Rattle.line.specs.declared.Line.{Line}
+use Rattle.line.specs.declared.Line.the-variants.{Bus, Unit as L·Unit, Vp, Drop, Page, Vc, Mc}
+use Rattle.document.specs.Events.{Event}
+use Rattle.document.specs.Counters.{Counter, arrived, hec, ignored, misrouted, inletfull, sent, queued, taken, placeOf, times}
+use Rattle.document.specs.Shelf.{Cell, Routed, Unit, Shelf, numberOf, queueAt, blank, unitAt, unitsBy, unitsOf, opened}
+use Rattle.document.specs.Steps.{happensTo, becomes}
+use Rattle.document.proofs.Fixed.{givenOf, given, given-kept}
+use Rattle.flow.specs.Parts.{Part, rests, arrives, hears, takes, sends, broughtBy, sentBy, queuedBy, takenBy, partOf, broughtIn, sentFrom, queuedIn, takenFrom}
+use Rattle.flow.specs.Lost.{Different, Accounted, NothingLost, inOutlet}
+use Rattle.flow.specs.Order.{queuedAll, takenAll, broughtAll, sentAll, Ordered, InOrder}
+use Rattle.flow.proofs.Times.{occurs}
+use Rattle.flow.proofs.Turns.{Because, Does, does, unitBy, countsBy}
+use Rattle.flow.proofs.Moves.{HasIt, queue-step, inlet-step, many-step, counts-in, counts-out}
+
+-- A. what no event changes
+module _ (d d′ : Shelf) (kept : given d′ ≡ given d) where
+  pub given-at : (i : ℕ) → givenOf (unitAt d′ i) ≡ givenOf (unitAt d i)
+  given-at i = sym (List·getD-map givenOf (d′ .units) i blank) ∙ ap (λ l. getD l i (givenOf blank)) kept ∙ List·getD-map givenOf (d .units) i blank
+
+  pub number-at : (i : ℕ) → numberOf (unitAt d′ i) ≡ numberOf (unitAt d i)
+  number-at i = ap (λ g. g .settings .number) (given-at i)
+
+  pub as-many : length (d′ .units) ≡ length (d .units)
+  as-many = sym (length-map (d′ .units) givenOf) ∙ ap length kept ∙ length-map (d .units) givenOf
+
+  pub still-different : Different (d .units) → Different (d′ .units)
+  still-different once i j h k e = let l = as-many in once i j h (omega arith) (sym (number-at i) ∙ e ∙ number-at j)
+
+-- a unit that sends has the cell
+pub has-it : (d : Shelf) (e : Event) (i : ℕ) (p : Part) → Because d e i p → HasIt (unitAt d i) p
+has-it d e i rests w = λ x. x
+has-it d e i (arrives c) w = λ x. x
+has-it d e i (hears h bytes) w = λ x. x
+has-it d e i takes w = λ x. x
+has-it d e i (sends r rest) w = w
+
+-- B. one event
+module _ (d : Shelf) (e : Event) (i : ℕ) (within : i < length (d .units)) (four : length (unitAt d i .queues) ≡ 4) where
+  abbrev d′ : Shelf
+  d′ = happensTo d e .shelf
+
+  abbrev w : Does d d′ e i (partOf d e i)
+  w = does d e i within
+
+  pub four-after : length (unitAt d′ i .queues) ≡ 4
+  four-after = ap (λ u. length (u .queues)) (w .unit) ∙ many-step (d .lines) (unitAt d i) (partOf d e i) ∙ four
+
+  pub queue-after : (q : ℕ) → queueAt (unitAt d i) q ++ queuedIn d e i q ≡ takenFrom d e i q ++ queueAt (unitAt d′ i) q
+  queue-after q = queue-step (d .lines) (unitAt d i) (partOf d e i) q four ∙ ap (λ u. takenFrom d e i q ++ queueAt u q) (sym (w .unit))
+
+  pub inlet-after : unitAt d i .inlet ++ broughtIn d e i ≡ sentFrom d e i ++ unitAt d′ i .inlet
+  inlet-after =
+      inlet-step (d .lines) (unitAt d i) (partOf d e i) (has-it d e i (partOf d e i) (w .because)) ∙ ap (λ u. sentFrom d e i ++ u .inlet) (sym (w .unit))
+
+  -- in numbers
+  held-after : (q : ℕ) → length (queueAt (unitAt d i) q) + length (queuedIn d e i q) ≡ length (takenFrom d e i q) + length (queueAt (unitAt d′ i) q)
+  held-after q =
+      sym (length-append (queueAt (unitAt d i) q) (queuedIn d e i q)) ∙ ap length (queue-after q)
+      ∙ length-append (takenFrom d e i q) (queueAt (unitAt d′ i) q)
+
+  waiting-after : length (unitAt d i .inlet) + length (broughtIn d e i) ≡ length (sentFrom d e i) + length (unitAt d′ i .inlet)
+  waiting-after =
+      sym (length-append (unitAt d i .inlet) (broughtIn d e i)) ∙ ap length inlet-after ∙ length-append (sentFrom d e i) (unitAt d′ i .inlet)
+
+  counted : Different (d .units) → (c : Counter) → times (d′ .history) (numberOf (unitAt d′ i)) c ≡ occurs (countsBy (d .lines) (unitAt d i) (w .someone) (partOf d e i)) (placeOf c) + times (d .history) (numberOf (unitAt d i)) c
+  counted once c = ap (λ n. times (d′ .history) n c) (number-at d d′ (given-kept d e) i) ∙ w .counted once c
+
+  pub accounted-after : Different (d .units) → Accounted d i → Accounted d′ i
+  accounted-after once a =
+      let f = counted once in
+      let x = counts-in (d .lines) (unitAt d i) (w .someone) (partOf d e i) four in
+      let y = counts-out (d .lines) (unitAt d i) (w .someone) (partOf d e i) four in
+      record {
+        arrivals = omega (arith, f arrived, f hec, f ignored, f misrouted, f inletfull, f sent, x .0, x .1, waiting-after, a .arrivals);
+        copies = omega (arith, f queued, f taken, y .0, y .1, held-after 0, held-after 1, held-after 2, held-after 3, a .copies);
+      }
+
+-- C. the shelf as it opens
+pub each-append : (P : Unit → Type 0) (us vs : List Unit) → ((i : ℕ) → P (getD us i blank)) → ((i : ℕ) → P (getD vs i blank)) → (i : ℕ) → P (getD (us ++ vs) i blank)
+each-append P [] vs f g i = g i
+each-append P (u ∷ us) vs f g zero = f 0
+each-append P (u ∷ us) vs f g (suc i) = each-append P us vs (λ j. f (suc j)) g i
+
+-- no cell anywhere, four queues
+abbrev pub Bare : Unit → Type 0
+Bare u = (u .inlet ≡ []) × (u .queues ≡ [] ∷ [] ∷ [] ∷ [] ∷ [])
+
+bare-line : (l : Line) (i : ℕ) → Bare (getD (unitsBy l) i blank)
+bare-line (Bus bus) i = (refl, refl)
+bare-line (L·Unit settings limits) zero = (refl, refl)
+bare-line (L·Unit settings limits) (suc i) = (refl, refl)
+bare-line (Vp u v target class outvpi) i = (refl, refl)
+bare-line (Drop u v) i = (refl, refl)
+bare-line (Page u v top) i = (refl, refl)
+bare-line (Vc u v w target class outvpi outvci) i = (refl, refl)
+bare-line (Mc u session) i = (refl, refl)
+
+pub bare : (lines : List Line) (i : ℕ) → Bare (getD (unitsOf lines) i blank)
+unfolding unitsOf
+bare [] i = (refl, refl)
+bare (l ∷ lines) i = each-append Bare (unitsOf lines) (unitsBy l) (bare lines) (bare-line l) i
+
+pub bare-queue : (lines : List Line) (i q : ℕ) → queueAt (getD (unitsOf lines) i blank) q ≡ []
+bare-queue lines i q = ap (λ x. getD x q []) (bare lines i .1) ∙ go q
+  where
+    go : (q : ℕ) → getD {A = List Cell} ([] ∷ [] ∷ [] ∷ [] ∷ []) q [] ≡ []
+    go zero = refl
+    go (suc zero) = refl
+    go (suc (suc zero)) = refl
+    go (suc (suc (suc zero))) = refl
+    go (suc (suc (suc (suc q)))) = refl
+
+pub four-first : (lines : List Line) (i : ℕ) → length (getD (unitsOf lines) i blank .queues) ≡ 4
+four-first lines i = ap length (bare lines i .1)
+
+accounted-first : (lines : List Line) (i : ℕ) → Accounted (opened lines) i
+unfolding times
+accounted-first lines i =
+    let a = ap length (bare lines i .0) in
+    record { arrivals = omega (arith, a); copies = omega (arith, ap length (bare-queue lines i 0), ap length (bare-queue lines i 1), ap length (bare-queue lines i 2), ap length (bare-queue lines i 3)) }
+
+-- D. every sequence
+accounted : (d : Shelf) (es : List Event) (i : ℕ) → i < length (d .units) → length (unitAt d i .queues) ≡ 4 → Different (d .units) → Accounted d i → Accounted (becomes d es) i
+unfolding becomes
+accounted d [] i within four once a = a
+accounted d (e ∷ es) i within four once a =
+    let d′ = happensTo d e .shelf in
+    let l = as-many d d′ (given-kept d e) in
+    accounted d′ es i (omega arith) (four-after d e i within four) (still-different d d′ (given-kept d e) once) (accounted-after d e i within four once a)
+
+pub nothing-lost : NothingLost
+nothing-lost lines once es i within = accounted (opened lines) es i within (four-first lines i) once (accounted-first lines i)
+
+-- what was held, what came, what left and what is held, one event after the other
+chain : {A : Type 0} (a b c d e f g : List A) → a ++ b ≡ c ++ d → d ++ e ≡ f ++ g → a ++ (b ++ e) ≡ (c ++ f) ++ g
+chain a b c d e f g p q = sym (append-assoc a b e) ∙ ap (λ x. x ++ e) p ∙ append-assoc c d e ∙ ap (λ x. c ++ x) q ∙ sym (append-assoc c f g)
+
+module _ (i : ℕ) where
+  pub queue-order : (d : Shelf) (es : List Event) (q : ℕ) → i < length (d .units) → length (unitAt d i .queues) ≡ 4 → queueAt (unitAt d i) q ++ queuedAll d es i q ≡ takenAll d es i q ++ queueAt (unitAt (becomes d es) i) q
+  unfolding becomes queuedAll takenAll
+  queue-order d [] q within four = append-nil (queueAt (unitAt d i) q)
+  queue-order d (e ∷ es) q within four =
+      let d′ = happensTo d e .shelf in
+      let l = as-many d d′ (given-kept d e) in
+      chain (queueAt (unitAt d i) q) (queuedIn d e i q) (takenFrom d e i q) (queueAt (unitAt d′ i) q) (queuedAll d′ es i q) (takenAll d′ es i q)
+      (queueAt (unitAt (becomes d′ es) i) q) (queue-after d e i within four q) (queue-order d′ es q (omega arith) (four-after d e i within four))
+
+  pub inlet-order : (d : Shelf) (es : List Event) → i < length (d .units) → length (unitAt d i .queues) ≡ 4 → unitAt d i .inlet ++ broughtAll d es i ≡ sentAll d es i ++ unitAt (becomes d es) i .inlet
+  unfolding becomes broughtAll sentAll
+  inlet-order d [] within four = append-nil (unitAt d i .inlet)
+  inlet-order d (e ∷ es) within four =
+      let d′ = happensTo d e .shelf in
+      let l = as-many d d′ (given-kept d e) in
+      chain (unitAt d i .inlet) (broughtIn d e i) (sentFrom d e i) (unitAt d′ i .inlet) (broughtAll d′ es i) (sentAll d′ es i)
+      (unitAt (becomes d′ es) i .inlet) (inlet-after d e i within four) (inlet-order d′ es (omega arith) (four-after d e i within four))
+
+pub in-order : InOrder
+in-order lines es i within =
+    record {
+      queues = λ q.
+          ap (λ x. x ++ queuedAll (opened lines) es i q) (sym (bare-queue lines i q)) ∙ queue-order i (opened lines) es q within (four-first lines i);
+      inlet = ap (λ x. x ++ broughtAll (opened lines) es i) (sym (bare lines i .0)) ∙ inlet-order i (opened lines) es within (four-first lines i);
+    }
