@@ -2,3 +2,4 @@ pub mod Times
 pub mod Turns
 pub mod Moves
 pub mod Kept
+pub mod Once

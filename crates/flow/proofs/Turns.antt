@@ -80,7 +80,7 @@ pub record Sent (d : Shelf) (h : H.Heard) (bytes : List ℕ) : Type 0 where
 -- why a unit has this part
 abbrev pub Because : Shelf → Event → ℕ → Part → Type 0
 Because d e i rests = ⊥ → ⊥
-Because d e i (arrives c) = e ≡ arrive (numberOf (unitAt d i)) c
+Because d e i (arrives c) = (e ≡ arrive (numberOf (unitAt d i)) c) × (length c ≡ 53)
 Because d e i (hears h bytes) = Handed d e i h bytes ⊎ Sent d h bytes
 Because d e i takes = ⊥ → ⊥
 Because d e i (sends r rest) = unitAt d i .inlet ≡ r ∷ rest
@@ -143,24 +143,24 @@ module _ (d d′ : Shelf) (e : Event) (i place : ℕ) (p : Part) (within : i < l
       go false t = does-other (eqb-false i place t)
 
 -- an event with a unit's number
-at-unit : (d : Shelf) (e : Event) (i number : ℕ) (f : F.Found) → findIn (d .units) number ≡ f → (right : Bool) (inside outside : ℕ → Step) (p : Part) → ((place : ℕ) → place < length (d .units) → numberOf (unitAt d place) ≡ number → Does d (inside place .shelf) e i (cond (eqb i place) p rests)) → ((k : ℕ) → Does d (outside k .shelf) e i rests) → Does d (admitted f right inside outside .shelf) e i (onlyAt f right i p)
+at-unit : (d : Shelf) (e : Event) (i number : ℕ) (f : F.Found) → findIn (d .units) number ≡ f → (right : Bool) (inside outside : ℕ → Step) (p : Part) → ((place : ℕ) → place < length (d .units) → numberOf (unitAt d place) ≡ number → right ≡ true → Does d (inside place .shelf) e i (cond (eqb i place) p rests)) → ((k : ℕ) → Does d (outside k .shelf) e i rests) → Does d (admitted f right inside outside .shelf) e i (onlyAt f right i p)
 unfolding admitted onlyAt
-at-unit d e i number (At place) t true inside outside p h k = let w = found (d .units) number place t in h place (w .0) (w .1)
+at-unit d e i number (At place) t true inside outside p h k = let w = found (d .units) number place t in h place (w .0) (w .1) refl
 at-unit d e i number (At place) t false inside outside p h k = k 10
 at-unit d e i number Nothing t right inside outside p h k = k 9
 
 module _ (d : Shelf) (i : ℕ) (within : i < length (d .units)) where
   -- a cell arrives
-  arrive-does : (unit : ℕ) (c : List ℕ) (place : ℕ) → place < length (d .units) → numberOf (unitAt d place) ≡ unit → Does d (arrived d place c) (arrive unit c) i (cond (eqb i place) (arrives c) rests)
+  arrive-does : (unit : ℕ) (c : List ℕ) (place : ℕ) → place < length (d .units) → numberOf (unitAt d place) ≡ unit → eqb (length c) 53 ≡ true → Does d (arrived d place c) (arrive unit c) i (cond (eqb i place) (arrives c) rests)
   unfolding arrived unitBy countsBy
-  arrive-does unit c place inside named =
+  arrive-does unit c place inside named right =
       one-unit d (arrived d place c) (arrive unit c) i place (arrives c) within inside refl (getD-set-same (d .units) place _ blank inside)
-      (λ j apart. getD-set-other (d .units) place j _ blank apart) refl (ap (λ n. arrive n c) (sym named))
+      (λ j apart. getD-set-other (d .units) place j _ blank apart) refl (ap (λ n. arrive n c) (sym named), eqb-true (length c) 53 right)
 
   -- a frame is handed in
-  hear-does : (unit : ℕ) (f : List ℕ) (place : ℕ) → place < length (d .units) → numberOf (unitAt d place) ≡ unit → Does d (handedIn d place f) (hear unit f) i (cond (eqb i place) (hears (heard f) (payload f)) rests)
+  hear-does : (unit : ℕ) (f : List ℕ) (place : ℕ) → place < length (d .units) → numberOf (unitAt d place) ≡ unit → eqb (length f) 57 ≡ true → Does d (handedIn d place f) (hear unit f) i (cond (eqb i place) (hears (heard f) (payload f)) rests)
   unfolding handedIn unitBy countsBy
-  hear-does unit f place inside named =
+  hear-does unit f place inside named right =
       one-unit d (handedIn d place f) (hear unit f) i place (hears (heard f) (payload f)) within inside refl (getD-set-same (d .units) place _ blank inside)
       (λ j apart. getD-set-other (d .units) place j _ blank apart) refl
       (inl (record { f = f; event = ap (λ n. hear n f) (sym named); frame-is = refl; payload-is = refl }))
@@ -299,7 +299,7 @@ does d (hear unit f) i within =
     at-unit d (hear unit f) i unit (findIn (d .units) unit) refl (eqb (length f) 57) _ _ (hears (heard f) (payload f)) (hear-does d i within unit f) (λ k. still d (hear unit f) i)
 does d (takes·out unit buffer) i within =
     at-unit d (takes·out unit buffer) i unit (findIn (d .units) unit) refl (eqb (length buffer) 53) _ _ takes
-    (λ place inside named. took d i within (takes·out unit buffer) place inside buffer (leaving (unitAt d place)) refl) (λ k. still d (takes·out unit buffer) i)
+    (λ place inside named right. took d i within (takes·out unit buffer) place inside buffer (leaving (unitAt d place)) refl) (λ k. still d (takes·out unit buffer) i)
 does d (count unit) i within = count-does (findIn (d .units) unit)
   where
     count-does : (f : F.Found) → Does d (admitted f (eqb 0 0) (λ place. step (counts (countersOf (d .history) (numberOf (unitAt d place)))) d []) (λ number. refused d number []) .shelf) (count unit) i rests

@@ -1,3 +1,4 @@
 pub mod Parts
 pub mod Lost
 pub mod Order
+pub mod Street

@@ -4,6 +4,8 @@ use mathlib.Core.Path.{_≡_}
 use mathlib.Core.List.{List}
 use lib.ListN.{length, getD}
 use Rattle.line.specs.declared.Line.{Line}
+use Rattle.card.specs.declared.Card.{Card}
+use Rattle.told.specs.Lines.{Good}
 use Rattle.document.specs.Events.{Event}
 use Rattle.document.specs.Counters.{times, arrived, hec, ignored, misrouted, inletfull, sent, queued, taken}
 use Rattle.document.specs.Shelf.{Unit, Shelf, numberOf, held, blank, unitAt, unitsOf, opened}
@@ -26,3 +28,7 @@ pub record Accounted (d : Shelf) (i : ℕ) : Type 0 where
 
 abbrev pub NothingLost : Type 0
 NothingLost = (lines : List Line) → Different (unitsOf lines) → (es : List Event) (i : ℕ) → i < length (unitsOf lines) → Accounted (becomes (opened lines) es) i
+
+-- "Twice: unit declared again": the lines of a good table have no number twice, so all this holds of every shelf that a good load opens
+abbrev pub NumbersOnce : Type 0
+NumbersOnce = (card : Card) (room : ℕ) (lines : List Line) → Good card room lines → Different (unitsOf lines)
