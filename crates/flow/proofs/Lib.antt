@@ -3,3 +3,4 @@ pub mod Turns
 pub mod Moves
 pub mod Kept
 pub mod Once
+pub mod Streets
