@@ -4,3 +4,4 @@ pub mod Moves
 pub mod Kept
 pub mod Once
 pub mod Streets
+pub mod Bytes
