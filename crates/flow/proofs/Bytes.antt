@@ -17,7 +17,7 @@ use Rattle.shelf.specs.declared.Found.the-variants.{At, Nothing}
 use Rattle.told.proofs.Grown.{decide}
 use Rattle.answer.specs.declared.Answer.the-variants.{Taken}
 use Rattle.document.specs.Events.{Event, frame, take, answers}
-use Rattle.document.specs.Shelf.{Cell, Routed, Unit, Shelf, queueAt, held, findIn, unitAt}
+use Rattle.document.specs.Shelf.{Cell, Routed, Unit, Shelf, numberOf, queueAt, held, findIn, unitAt}
 use Rattle.document.specs.Frame.{asHeard, frameOf, sendsFrom, sends as sends·out, sentIn, framed, framedAnswer}
 use Rattle.document.specs.Take.{leaving, takesFrom, takesBy, takes as takes·out, nothing, handed}
 use Rattle.document.specs.Steps.{Step, step, refused, tookStep, admitted, happensTo}
@@ -40,7 +40,7 @@ module _ (d : Shelf) (unit : ℕ) (buffer : List ℕ) where
         bytes = ap (λ s. s .bytes) e;
       }
 
-  module _ (place : ℕ) (inside : place < length (d .units)) (e : out ≡ tookStep (takes·out d place buffer)) (p : (i : ℕ) → partOf d (take unit buffer) i ≡ cond (eqb i place) takes rests) where
+  module _ (place : ℕ) (inside : place < length (d .units)) (named : numberOf (unitAt d place) ≡ unit) (e : out ≡ tookStep (takes·out d place buffer)) (p : (i : ℕ) → partOf d (take unit buffer) i ≡ cond (eqb i place) takes rests) where
     abbrev u : Unit
     u = unitAt d place
 
@@ -83,6 +83,8 @@ module _ (d : Shelf) (unit : ℕ) (buffer : List ℕ) where
           queue = q;
           cell = c;
           inside = inside;
+          named = named;
+          said = ap (λ x. x .said) (e ∙ ap (λ x. tookStep (takesBy x d place buffer)) l ∙ ap (λ x. tookStep (takesFrom x d place q buffer)) s);
           left = leaves-here q ∙ ap (λ x. oldestIn x u q) l ∙ ap₂ (λ b x. cond b (lists.take 1 x) []) (eq-eqb q q refl) s;
           others = λ i k apart.
               decide (eqb i place)
@@ -102,7 +104,7 @@ module _ (d : Shelf) (unit : ℕ) (buffer : List ℕ) where
   by-place : (f : F.Found) → findIn (d .units) unit ≡ f → (b : Bool) → eqb (length buffer) 53 ≡ b → HandedOut d unit buffer ⊎ NoneOut d unit buffer
   unfolding happensTo partOf admitted onlyAt
   by-place (At place) f true b =
-      by-leaving place (found (d .units) unit place f .0) (ap₂ (λ x y. admitted x y (λ k. tookStep (takes·out d k buffer)) (λ n. refused d n buffer)) f b)
+      by-leaving place (found (d .units) unit place f .0) (found (d .units) unit place f .1) (ap₂ (λ x y. admitted x y (λ k. tookStep (takes·out d k buffer)) (λ n. refused d n buffer)) f b)
       (λ i. ap₂ (λ x y. onlyAt x y i takes) f b) (leaving (unitAt d place)) refl
   by-place (At place) f false b =
       inr (refused-out 10 (ap₂ (λ x y. admitted x y (λ k. tookStep (takes·out d k buffer)) (λ n. refused d n buffer)) f b) (λ i. ap₂ (λ x y. onlyAt x y i takes) f b))
@@ -119,15 +121,16 @@ module _ (d : Shelf) (buffer : List ℕ) where
   unfolding sentBy
   idle-frame e p = record { left = λ i. ap sentBy (p i); bytes = e }
 
-  from-inlet : (place : ℕ) → place < length (d .units) → (rs : List Routed) → happensTo d (frame buffer) .bytes ≡ sendsFrom rs d place buffer .bytes → ((i : ℕ) → partOf d (frame buffer) i ≡ sending rs place i) → Framed d buffer ⊎ Idle d buffer
+  from-inlet : (place : ℕ) → place < length (d .units) → numberOf (unitAt d place) ≡ d .granted → (rs : List Routed) → happensTo d (frame buffer) .bytes ≡ sendsFrom rs d place buffer .bytes → ((i : ℕ) → partOf d (frame buffer) i ≡ sending rs place i) → Framed d buffer ⊎ Idle d buffer
   unfolding sendsFrom sending sentBy
-  from-inlet place inside [] e p = inr (idle-frame e p)
-  from-inlet place inside (r ∷ rest) e p =
+  from-inlet place inside named [] e p = inr (idle-frame e p)
+  from-inlet place inside named (r ∷ rest) e p =
       inl
       (record {
         place = place;
         routed = r;
         inside = inside;
+        named = named;
         left = ap sentBy (p place) ∙ ap (λ b. sentBy (cond b (sends r rest) (hears (asHeard r) (r .cell .payload)))) (eq-eqb place place refl);
         others = λ i apart. ap sentBy (p i) ∙ ap (λ b. sentBy (cond b (sends r rest) (hears (asHeard r) (r .cell .payload)))) (ne-eqb i place apart);
         bytes = e;
@@ -135,7 +138,7 @@ module _ (d : Shelf) (buffer : List ℕ) where
 
   by-sender : (f : F.Found) → findIn (d .units) (d .granted) ≡ f → happensTo d (frame buffer) .bytes ≡ sends·out f d buffer .bytes → ((i : ℕ) → partOf d (frame buffer) i ≡ sendingBy f d i) → Framed d buffer ⊎ Idle d buffer
   unfolding sends·out sendingBy
-  by-sender (At place) f e p = from-inlet place (found (d .units) (d .granted) place f .0) (unitAt d place .inlet) e p
+  by-sender (At place) f e p = from-inlet place (found (d .units) (d .granted) place f .0) (found (d .units) (d .granted) place f .1) (unitAt d place .inlet) e p
   by-sender Nothing f e p = inr (idle-frame e p)
 
   by-length : (b : Bool) → eqb (length buffer) 57 ≡ b → Framed d buffer ⊎ Idle d buffer

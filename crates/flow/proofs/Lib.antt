@@ -5,3 +5,4 @@ pub mod Kept
 pub mod Once
 pub mod Streets
 pub mod Bytes
+pub mod Examples

@@ -7,7 +7,7 @@ use lib.ListN.{length}
 use Rattle.line.specs.declared.Line.{Line}
 use Rattle.answer.specs.declared.Answer.the-variants.{Taken}
 use Rattle.document.specs.Events.{Event, frame, take, answers}
-use Rattle.document.specs.Shelf.{Cell, Routed, Shelf, queueAt, held, findIn, unitAt, unitsOf, opened}
+use Rattle.document.specs.Shelf.{Cell, Routed, Shelf, numberOf, queueAt, held, unitAt, unitsOf, opened}
 use Rattle.document.specs.Frame.{frameOf}
 use Rattle.document.specs.Take.{handed}
 use Rattle.document.specs.Steps.{happensTo, becomes}
@@ -45,6 +45,8 @@ pub record HandedOut (d : Shelf) (unit : ℕ) (buffer : List ℕ) : Type 0 where
   pub queue : ℕ
   pub cell : Cell
   pub inside : place < length (d .units)
+  pub named : numberOf (unitAt d place) ≡ unit
+  pub said : happensTo d (take unit buffer) .said ≡ answers Taken
   pub left : takenFrom d (take unit buffer) place queue ≡ cell ∷ []
   pub others : (i q : ℕ) → ((i ≡ place) × (q ≡ queue) → ⊥) → takenFrom d (take unit buffer) i q ≡ []
   pub bytes : happensTo d (take unit buffer) .bytes ≡ handed (unitAt d place) cell
@@ -63,6 +65,7 @@ pub record Framed (d : Shelf) (buffer : List ℕ) : Type 0 where
   pub place : ℕ
   pub routed : Routed
   pub inside : place < length (d .units)
+  pub named : numberOf (unitAt d place) ≡ d .granted
   pub left : sentFrom d (frame buffer) place ≡ routed ∷ []
   pub others : (i : ℕ) → (i ≡ place → ⊥) → sentFrom d (frame buffer) i ≡ []
   pub bytes : happensTo d (frame buffer) .bytes ≡ frameOf routed
