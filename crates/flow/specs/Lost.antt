@@ -7,7 +7,7 @@ use Rattle.line.specs.declared.Line.{Line}
 use Rattle.card.specs.declared.Card.{Card}
 use Rattle.told.specs.Lines.{Good}
 use Rattle.document.specs.Events.{Event}
-use Rattle.document.specs.Counters.{times, arrived, hec, ignored, misrouted, inletfull, sent, queued, taken}
+use Rattle.document.specs.Counters.{Counter, times, arrived, hec, ignored, misrouted, inletfull, sent, queued, taken}
 use Rattle.document.specs.Shelf.{Unit, Shelf, numberOf, held, blank, unitAt, unitsOf, opened}
 use Rattle.document.specs.Steps.{becomes}
 
@@ -19,13 +19,17 @@ Different us = (i j : ℕ) → i < j → j < length us → numberOf (getD us i b
 abbrev pub inOutlet : Unit → ℕ
 inOutlet u = held u 0 + held u 1 + held u 2 + held u 3
 
--- each arrived cell is counted as lost, was sent, or waits; each copy queued at an outlet was taken or is there
+-- how often a counter of the unit in place i counted
+abbrev pub happened : Shelf → ℕ → Counter → ℕ
+happened d i c = times (d .history) (numberOf (unitAt d i)) c
+
+-- "Each arriving cell meets exactly one fate": it was lost and counted so, was sent, or waits; each copy queued at an outlet was taken or is there
 pub record Accounted (d : Shelf) (i : ℕ) : Type 0 where
   pub arrivals :
-      let n = numberOf (unitAt d i) in
-      times (d .history) n arrived ≡ times (d .history) n hec + times (d .history) n ignored + times (d .history) n misrouted + times (d .history) n inletfull + times (d .history) n sent + length (unitAt d i .inlet)
-  pub copies : let n = numberOf (unitAt d i) in times (d .history) n queued ≡ times (d .history) n taken + inOutlet (unitAt d i)
+      happened d i arrived ≡ happened d i hec + happened d i ignored + happened d i misrouted + happened d i inletfull + happened d i sent + length (unitAt d i .inlet)
+  pub copies : happened d i queued ≡ happened d i taken + inOutlet (unitAt d i)
 
+-- "the counters equal that history": after every sequence of events, of every unit
 abbrev pub NothingLost : Type 0
 NothingLost = (lines : List Line) → Different (unitsOf lines) → (es : List Event) (i : ℕ) → i < length (unitsOf lines) → Accounted (becomes (opened lines) es) i
 

@@ -37,7 +37,7 @@ pub data CameFrom (lines : List Line) (es : List Event) (i q : ℕ) (c : Cell) :
   by-bus : (place : ℕ) (r : Routed) → place < length (unitsOf lines) → Arrived lines es place r → Addresses lines i q (r .target) (r .class) → c ≡ r .cell → CameFrom lines es i q c
   by-hand : (f : List ℕ) (target : Target) (class header : ℕ) → In (hear (numberOf (declaredAt lines i)) f) es → heard f ≡ frames.Cell target class header → Addresses lines i q target class → c ≡ record { header = header; payload = payload f } → CameFrom lines es i q c
 
--- every cell held, every cell taken, every cell that waits and every cell sent
+-- "Not addressed: `other`": every cell held and every cell taken was meant for that unit, every cell that waits and every cell sent has arrived there
 pub record Streets (lines : List Line) (es : List Event) (i : ℕ) : Type 0 where
   pub held : (q : ℕ) (c : Cell) → In c (queueAt (unitAt (becomes (opened lines) es) i) q) → CameFrom lines es i q c
   pub taken : (q : ℕ) (c : Cell) → In c (takenAll (opened lines) es i q) → CameFrom lines es i q c
