@@ -25,12 +25,12 @@ use Rattle.document.specs.Take.{congested, takesFrom, takesBy}
 use Rattle.document.specs.Steps.{admitted, happensTo}
 use Rattle.document.specs.Examples.{table, events}
 use Rattle.flow.specs.Parts.{onlyAt, sending, sendingBy, partOf, copyIn, queuedBy, oldestIn, takenBy}
-use Rattle.flow.specs.Order.{queuedAll, takenAll}
+use Rattle.flow.specs.Order.{over, queuedAll, takenAll}
 
 -- VPI 9, VCI 40
 abbrev printed : Cell
 printed = record { header = 0x00900280; payload = replicate 48 0xa5 }
 
 pub listed : (queuedAll (opened table) events 1 2 ≡ printed ∷ []) × (takenAll (opened table) events 1 2 ≡ printed ∷ [])
-unfolding bits number minus divide remainder residue fields topOf word header-check routing-check upper routing address cell exclusiveOr sealed heard capacity queueOf limit tooWide lowest marked outgoing asking due renewedFrom run cyclic next someAsks highest first granted placeFrom hearsBy hearsIn serves served lineCell times arrivalCounts hearingCounts sentCounts unitsOf busOf wayBy wayFor wayOf arrivalBy inletBy arrived addressed fateIn hearingOf keeping hearingUnit handedIn askingOf isQueued isAddressed copies someAddressed heardEntries sendsFrom sends congested takesFrom takesBy admitted happensTo table events onlyAt sending sendingBy partOf copyIn queuedBy oldestIn takenBy queuedAll takenAll
+unfolding bits number minus divide remainder residue fields topOf word header-check routing-check upper routing address cell exclusiveOr sealed heard capacity queueOf limit tooWide lowest marked outgoing asking due renewedFrom run cyclic next someAsks highest first granted placeFrom hearsBy hearsIn serves served lineCell times arrivalCounts hearingCounts sentCounts unitsOf busOf wayBy wayFor wayOf arrivalBy inletBy arrived addressed fateIn hearingOf keeping hearingUnit handedIn askingOf isQueued isAddressed copies someAddressed heardEntries sendsFrom sends congested takesFrom takesBy admitted happensTo table events onlyAt sending sendingBy partOf copyIn queuedBy oldestIn takenBy over
 listed = (refl, refl)

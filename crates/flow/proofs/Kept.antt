@@ -8,16 +8,17 @@ use lib.ListN.{length, getD, length-map, length-append, List·getD-map}
 use Rattle.line.specs.declared.Line.{Line}
 use Rattle.line.specs.declared.Line.the-variants.{Bus, Unit as L·Unit, Vp, Drop, Page, Vc, Mc}
 use Rattle.document.specs.Events.{Event}
-use Rattle.document.specs.Counters.{Counter, arrived, hec, ignored, misrouted, inletfull, sent, queued, taken, placeOf, times}
+use Rattle.document.specs.Counters.{Counter, arrived, hec, ignored, misrouted, inletfull, sent, damaged, queued, full, clp, wide, taken, placeOf, times}
 use Rattle.document.specs.Shelf.{Cell, Routed, Unit, Shelf, numberOf, queueAt, blank, unitAt, unitsBy, unitsOf, opened}
 use Rattle.document.specs.Steps.{happensTo, becomes}
 use Rattle.document.proofs.Fixed.{givenOf, given, given-kept}
-use Rattle.flow.specs.Parts.{Part, rests, arrives, hears, takes, sends, broughtBy, sentBy, queuedBy, takenBy, partOf, broughtIn, sentFrom, queuedIn, takenFrom}
-use Rattle.flow.specs.Lost.{Different, Accounted, NothingLost, inOutlet}
-use Rattle.flow.specs.Order.{queuedAll, takenAll, broughtAll, sentAll, Ordered, InOrder}
+use Rattle.flow.specs.Parts.{Part, rests, arrives, hears, takes, sends, broughtBy, sentBy, queuedBy, takenBy, partOf, arrivedAt, damagedAt, addressedAt, broughtIn, sentFrom, queuedIn, takenFrom}
+use Rattle.flow.specs.Lost.{Different, inAll, happened, Accounted, NothingLost}
+use Rattle.flow.specs.Counted.{Counted, CountersTrue}
+use Rattle.flow.specs.Order.{over, queuedAll, takenAll, broughtAll, sentAll, Ordered, InOrder}
 use Rattle.flow.proofs.Times.{occurs}
 use Rattle.flow.proofs.Turns.{Because, Does, does, unitBy, countsBy}
-use Rattle.flow.proofs.Moves.{HasIt, queue-step, inlet-step, many-step, counts-in, counts-out}
+use Rattle.flow.proofs.Moves.{HasIt, queue-step, inlet-step, many-step, counts-in, counts-out, counts-come}
 
 -- A. what no event changes
 module _ (d d′ : Shelf) (kept : given d′ ≡ given d) where
@@ -142,29 +143,94 @@ nothing-lost lines once es i within = accounted (opened lines) es i within (four
 chain : {A : Type 0} (a b c d e f g : List A) → a ++ b ≡ c ++ d → d ++ e ≡ f ++ g → a ++ (b ++ e) ≡ (c ++ f) ++ g
 chain a b c d e f g p q = sym (append-assoc a b e) ∙ ap (λ x. x ++ e) p ∙ append-assoc c d e ∙ ap (λ x. c ++ x) q ∙ sym (append-assoc c f g)
 
-module _ (i : ℕ) where
-  pub queue-order : (d : Shelf) (es : List Event) (q : ℕ) → i < length (d .units) → length (unitAt d i .queues) ≡ 4 → queueAt (unitAt d i) q ++ queuedAll d es i q ≡ takenAll d es i q ++ queueAt (unitAt (becomes d es) i) q
-  unfolding becomes queuedAll takenAll
-  queue-order d [] q within four = append-nil (queueAt (unitAt d i) q)
-  queue-order d (e ∷ es) q within four =
-      let d′ = happensTo d e .shelf in
-      let l = as-many d d′ (given-kept d e) in
-      chain (queueAt (unitAt d i) q) (queuedIn d e i q) (takenFrom d e i q) (queueAt (unitAt d′ i) q) (queuedAll d′ es i q) (takenAll d′ es i q)
-      (queueAt (unitAt (becomes d′ es) i) q) (queue-after d e i within four q) (queue-order d′ es q (omega arith) (four-after d e i within four))
+-- a shelf on the way
+pub record Fit (i : ℕ) (d : Shelf) : Type 0 where
+  pub within : i < length (d .units)
+  pub four : length (unitAt d i .queues) ≡ 4
 
-  pub inlet-order : (d : Shelf) (es : List Event) → i < length (d .units) → length (unitAt d i .queues) ≡ 4 → unitAt d i .inlet ++ broughtAll d es i ≡ sentAll d es i ++ unitAt (becomes d es) i .inlet
-  unfolding becomes broughtAll sentAll
-  inlet-order d [] within four = append-nil (unitAt d i .inlet)
-  inlet-order d (e ∷ es) within four =
-      let d′ = happensTo d e .shelf in
-      let l = as-many d d′ (given-kept d e) in
-      chain (unitAt d i .inlet) (broughtIn d e i) (sentFrom d e i) (unitAt d′ i .inlet) (broughtAll d′ es i) (sentAll d′ es i)
-      (unitAt (becomes d′ es) i .inlet) (inlet-after d e i within four) (inlet-order d′ es (omega arith) (four-after d e i within four))
+pub fit-after : (i : ℕ) (d : Shelf) (e : Event) → Fit i d → Fit i (happensTo d e .shelf)
+fit-after i d e w =
+    let l = as-many d (happensTo d e .shelf) (given-kept d e) in
+    let h = w .within in
+    record { within = omega arith; four = four-after d e i (w .within) (w .four) }
+
+fit-first : (lines : List Line) (i : ℕ) → i < length (unitsOf lines) → Fit i (opened lines)
+fit-first lines i h = record { within = h; four = four-first lines i }
+
+-- a list that grows behind and shrinks before, by each event and so by all
+order : {A : Type 0} (i : ℕ) (f g : Shelf → Event → List A) (h : Shelf → List A) → ((d : Shelf) (e : Event) → Fit i d → h d ++ f d e ≡ g d e ++ h (happensTo d e .shelf)) → (d : Shelf) (es : List Event) → Fit i d → h d ++ over f d es ≡ over g d es ++ h (becomes d es)
+unfolding becomes over
+order i f g h one d [] w = append-nil (h d)
+order i f g h one d (e ∷ es) w =
+    let d′ = happensTo d e .shelf in
+    chain (h d) (f d e) (g d e) (h d′) (over f d′ es) (over g d′ es) (h (becomes d′ es)) (one d e w) (order i f g h one d′ es (fit-after i d e w))
 
 pub in-order : InOrder
 in-order lines es i within =
+    let w = fit-first lines i within in
     record {
       queues = λ q.
-          ap (λ x. x ++ queuedAll (opened lines) es i q) (sym (bare-queue lines i q)) ∙ queue-order i (opened lines) es q within (four-first lines i);
-      inlet = ap (λ x. x ++ broughtAll (opened lines) es i) (sym (bare lines i .0)) ∙ inlet-order i (opened lines) es within (four-first lines i);
+          ap (λ x. x ++ queuedAll (opened lines) es i q) (sym (bare-queue lines i q))
+          ∙ order i (λ d e. queuedIn d e i q) (λ d e. takenFrom d e i q) (λ d. queueAt (unitAt d i) q) (λ d e v. queue-after d e i (v .within) (v .four) q) (opened lines) es w;
+      inlet =
+          ap (λ x. x ++ broughtAll (opened lines) es i) (sym (bare lines i .0))
+          ∙ order i (λ d e. broughtIn d e i) (λ d e. sentFrom d e i) (λ d. unitAt d i .inlet) (λ d e v. inlet-after d e i (v .within) (v .four)) (opened lines) es w;
+    }
+
+-- a number that each event raises
+module _ (i : ℕ) (f : Shelf → List Event → ℕ) (one : Shelf → Event → ℕ) (none : (d : Shelf) → f d [] ≡ 0) (next : (d : Shelf) (e : Event) (es : List Event) → f d (e ∷ es) ≡ one d e + f (happensTo d e .shelf) es) (g : Shelf → ℕ) (rise : (d : Shelf) (e : Event) → Fit i d → Different (d .units) → g (happensTo d e .shelf) ≡ one d e + g d) where
+  total : (d : Shelf) (es : List Event) → Fit i d → Different (d .units) → g (becomes d es) ≡ f d es + g d
+  unfolding becomes
+  total d [] w once = let a = none d in omega arith
+  total d (e ∷ es) w once =
+      let d′ = happensTo d e .shelf in
+      let a = total d′ es (fit-after i d e w) (still-different d d′ (given-kept d e) once) in
+      let b = next d e es in
+      let c = rise d e w once in
+      omega arith
+
+  totals : (lines : List Line) → Different (unitsOf lines) → (es : List Event) → i < length (unitsOf lines) → g (opened lines) ≡ 0 → g (becomes (opened lines) es) ≡ f (opened lines) es
+  totals lines once es h nought = let a = total (opened lines) es (fit-first lines i h) once in omega arith
+
+module _ {A : Type 0} (f : Shelf → Event → List A) where
+  over-none : (d : Shelf) → length (over f d []) ≡ 0
+  unfolding over
+  over-none d = refl
+
+  over-next : (d : Shelf) (e : Event) (es : List Event) → length (over f d (e ∷ es)) ≡ length (f d e) + length (over f (happensTo d e .shelf) es)
+  unfolding over
+  over-next d e es = length-append (f d e) (over f (happensTo d e .shelf) es)
+
+module _ (f : ℕ → Shelf → Event → List Cell) where
+  all-next : (d : Shelf) (e : Event) (es : List Event) → inAll (λ q. over (f q) d (e ∷ es)) ≡ inAll (λ q. f q d e) + inAll (λ q. over (f q) (happensTo d e .shelf) es)
+  all-next d e es = omega (arith, over-next (f 0) d e es, over-next (f 1) d e es, over-next (f 2) d e es, over-next (f 3) d e es)
+
+-- what one event raises each counter by
+module _ (i : ℕ) (d : Shelf) (e : Event) (v : Fit i d) (once : Different (d .units)) where
+  abbrev rose : (c : Counter) → happened (happensTo d e .shelf) i c ≡ occurs (countsBy (d .lines) (unitAt d i) (does d e i (v .within) .someone) (partOf d e i)) (placeOf c) + happened d i c
+  rose c = counted d e i (v .within) (v .four) once c
+
+  rose-come : (happened (happensTo d e .shelf) i arrived ≡ length (arrivedAt d e i) + happened d i arrived) × (happened (happensTo d e .shelf) i damaged ≡ length (damagedAt d e i) + happened d i damaged) × (happened (happensTo d e .shelf) i wide + happened (happensTo d e .shelf) i full + happened (happensTo d e .shelf) i clp + happened (happensTo d e .shelf) i queued ≡ length (addressedAt d e i) + (happened d i wide + happened d i full + happened d i clp + happened d i queued))
+  rose-come =
+      let x = counts-come (d .lines) (unitAt d i) (does d e i (v .within) .someone) (partOf d e i) in
+      (omega (arith, rose arrived, x .0), omega (arith, rose damaged, x .1), omega (arith, rose wide, rose full, rose clp, rose queued, x .2))
+
+  rose-sent : happened (happensTo d e .shelf) i sent ≡ length (sentFrom d e i) + happened d i sent
+  rose-sent = omega (arith, rose sent, counts-in (d .lines) (unitAt d i) (does d e i (v .within) .someone) (partOf d e i) (v .four) .1)
+
+  rose-copies : (happened (happensTo d e .shelf) i queued ≡ inAll (queuedIn d e i) + happened d i queued) × (happened (happensTo d e .shelf) i taken ≡ inAll (takenFrom d e i) + happened d i taken)
+  rose-copies =
+      let x = counts-out (d .lines) (unitAt d i) (does d e i (v .within) .someone) (partOf d e i) (v .four) in
+      (omega (arith, rose queued, x .0), omega (arith, rose taken, x .1))
+
+pub counters-true : CountersTrue
+unfolding times over
+counters-true lines once es i within =
+    record {
+      arrivals = totals i (λ d es. length (over (λ x e. arrivedAt x e i) d es)) (λ d e. length (arrivedAt d e i)) (over-none (λ x e. arrivedAt x e i)) (over-next (λ x e. arrivedAt x e i)) (λ d. happened d i arrived) (λ d e v o. rose-come i d e v o .0) lines once es within refl;
+      frames = totals i (λ d es. length (sentAll d es i)) (λ d e. length (sentFrom d e i)) (over-none (λ x e. sentFrom x e i)) (over-next (λ x e. sentFrom x e i)) (λ d. happened d i sent) (rose-sent i) lines once es within refl;
+      copies = totals i (λ d es. inAll (queuedAll d es i)) (λ d e. inAll (queuedIn d e i)) (λ d. refl) (all-next (λ q x e. queuedIn x e i q)) (λ d. happened d i queued) (λ d e v o. rose-copies i d e v o .0) lines once es within refl;
+      cells = totals i (λ d es. inAll (takenAll d es i)) (λ d e. inAll (takenFrom d e i)) (λ d. refl) (all-next (λ q x e. takenFrom x e i q)) (λ d. happened d i taken) (λ d e v o. rose-copies i d e v o .1) lines once es within refl;
+      broken = totals i (λ d es. length (over (λ x e. damagedAt x e i) d es)) (λ d e. length (damagedAt d e i)) (over-none (λ x e. damagedAt x e i)) (over-next (λ x e. damagedAt x e i)) (λ d. happened d i damaged) (λ d e v o. rose-come i d e v o .1) lines once es within refl;
+      fates = totals i (λ d es. length (over (λ x e. addressedAt x e i) d es)) (λ d e. length (addressedAt d e i)) (over-none (λ x e. addressedAt x e i)) (over-next (λ x e. addressedAt x e i)) (λ d. happened d i wide + happened d i full + happened d i clp + happened d i queued) (λ d e v o. rose-come i d e v o .2) lines once es within refl;
     }

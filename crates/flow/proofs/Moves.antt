@@ -13,9 +13,12 @@ use Rattle.header.specs.Fields.{fields}
 use Rattle.header.specs.Check.{check}
 use Rattle.header.specs.declared.Header as F
 use Rattle.octets.specs.Octets.{four, part}
+use Rattle.routing.specs.declared.Target as T
+use Rattle.routing.specs.declared.Target.the-variants as targets
 use Rattle.bus.specs.declared.Heard as H
 use Rattle.bus.specs.declared.Heard.the-variants as frames
-use Rattle.queueing.specs.Hearing.{queueOf}
+use Rattle.outlet.specs.Outlets.{capacity}
+use Rattle.queueing.specs.Hearing.{queueOf, limit, tooWide, busClp}
 use Rattle.queueing.specs.declared.Leaving as L
 use Rattle.queueing.specs.declared.Leaving.the-variants as leaves
 use Rattle.queueing.proofs.Fates.{queue-lt}
@@ -27,14 +30,14 @@ use Rattle.answer.specs.declared.Arrival as N
 use Rattle.answer.specs.declared.Arrival.the-variants as arrival
 use Rattle.answer.specs.declared.Hearing as A
 use Rattle.answer.specs.declared.Hearing.the-variants as hearing
-use Rattle.document.specs.Counters.{Counter, arrived, hec, ignored, misrouted, inletfull, sent, queued, taken, placeOf, arrivalCounts, hearingCounts, sentCounts}
-use Rattle.document.specs.Shelf.{Cell, Routed, Unit, queueAt, withInlet, withQueue}
+use Rattle.document.specs.Counters.{Counter, arrived, hec, ignored, misrouted, inletfull, sent, damaged, queued, full, clp, wide, taken, placeOf, arrivalCounts, hearingCounts, sentCounts}
+use Rattle.document.specs.Shelf.{Cell, Routed, Unit, queueAt, held, withInlet, withQueue}
 use Rattle.document.specs.Arrival.{Way, goes, lost, wayBy, wayFor, wayOf, arrivalBy, inletBy}
-use Rattle.document.specs.Hearing.{hearingOf, keeping, hearingUnit}
+use Rattle.document.specs.Hearing.{addressed, fateIn, hearingOf, keeping, hearingUnit}
 use Rattle.document.specs.Frame.{asHeard, isQueued}
 use Rattle.document.specs.Take.{leaving}
-use Rattle.flow.specs.Parts.{Part, rests, arrives, hears, takes, sends, roomFor, broughtBy, sentBy, copyIn, queuedBy, oldestIn, takenBy}
-use Rattle.flow.specs.Lost.{inOutlet}
+use Rattle.flow.specs.Parts.{Part, rests, arrives, hears, takes, sends, arrivedBy, heardBy, isDamaged, isFor, among, roomFor, broughtBy, sentBy, copyIn, queuedBy, oldestIn, takenBy}
+use Rattle.flow.specs.Lost.{inAll}
 use Rattle.flow.proofs.Times.{occurs, occurs-append}
 use Rattle.flow.proofs.Turns.{leftFrom, leftBy, tookFrom, tookBy, unitBy, countsBy}
 
@@ -256,10 +259,6 @@ heard-out hearing.Full = (refl, refl)
 heard-out hearing.Clp = (refl, refl)
 heard-out hearing.Queued = (refl, refl)
 
--- in all four queues
-abbrev pub inAll : (ℕ → List Cell) → ℕ
-inAll f = length (f 0) + length (f 1) + length (f 2) + length (f 3)
-
 -- some cells in one of them
 in-one : (q : ℕ) (cells : List Cell) → q < 4 → inAll (λ p. cond (eqb p q) cells []) ≡ length cells
 in-one zero cells h = omega arith
@@ -331,3 +330,72 @@ counts-out lines u b (sends r rest) four =
     let y = sent-in b .1 in
     let z = heard-all lines v (asHeard r) (r .cell .payload) in
     (omega (arith, each 8, x .0, y .0, z), omega (arith, each 12, x .1, y .1))
+
+-- E. what comes to a unit, and its fates
+abbrev pub Comes : List Counter → ℕ → ℕ → ℕ → Type 0
+Comes cs cells broken copies = (rises cs arrived ≡ cells) × (rises cs damaged ≡ broken) × (rises cs wide + rises cs full + rises cs clp + rises cs queued ≡ copies)
+
+arrived-comes : (fate : N.Arrival) → Comes (arrivalCounts fate) 1 0 0
+unfolding arrivalCounts occurs
+arrived-comes arrival.Hec = (refl, refl, refl)
+arrived-comes arrival.Ignored = (refl, refl, refl)
+arrived-comes arrival.Misrouted = (refl, refl, refl)
+arrived-comes arrival.Inletfull = (refl, refl, refl)
+arrived-comes arrival.Queued = (refl, refl, refl)
+
+-- a copy that addresses a unit has one of four fates there
+fate-comes : (u : Unit) (q header : ℕ) → Comes (hearingCounts (fateIn u q header)) 0 0 1
+unfolding fateIn hearingCounts occurs
+fate-comes u q header = go (tooWide (u .settings .link) header) (leb (capacity (u .limits) q) (held u q)) (eqb (busClp header) 1 && leb (limit (u .limits) q) (held u q))
+  where
+    go : (a b c : Bool) → Comes (hearingCounts (cond a hearing.Wide (cond b hearing.Full (cond c hearing.Clp hearing.Queued)))) 0 0 1
+    go true b c = (refl, refl, refl)
+    go false true c = (refl, refl, refl)
+    go false false true = (refl, refl, refl)
+    go false false false = (refl, refl, refl)
+
+heard-comes : (lines : List Line) (u : Unit) (h : H.Heard) → Comes (hearingCounts (hearingOf lines u h)) 0 (length (among isDamaged (h ∷ []))) (length (among (isFor lines u) (h ∷ [])))
+unfolding hearingOf hearingCounts occurs among isDamaged isFor
+heard-comes lines u frames.Length = (refl, refl, refl)
+heard-comes lines u frames.Damaged = (refl, refl, refl)
+heard-comes lines u (frames.Cell target class header) = go (addressed lines u target)
+  where
+    go : (b : Bool) → Comes (hearingCounts (cond b (fateIn u (queueOf (u .limits) class) header) hearing.Other)) 0 0 (length (cond b (frames.Cell target class header ∷ []) []))
+    go true = fate-comes u (queueOf (u .limits) class) header
+    go false = (refl, refl, refl)
+
+took-comes : (l : L.Leaving) (u : Unit) → Comes (tookBy l u) 0 0 0
+unfolding tookBy tookFrom occurs
+took-comes leaves.Empty u = (refl, refl, refl)
+took-comes (leaves.Queue q) u = go (queueAt u q)
+  where
+    go : (cells : List Cell) → Comes (tookFrom cells) 0 0 0
+    go [] = (refl, refl, refl)
+    go (c ∷ rest) = (refl, refl, refl)
+
+sent-comes : (b : Bool) → Comes (sentCounts b) 0 0 0
+unfolding sentCounts occurs
+sent-comes true = (refl, refl, refl)
+sent-comes false = (refl, refl, refl)
+
+-- whether a target addresses a unit does not go by its inlet
+for-inlet : (lines : List Line) (u : Unit) (rest : List Routed) (target : T.Target) → addressed lines (withInlet u rest) target ≡ addressed lines u target
+unfolding addressed
+for-inlet lines u rest (targets.Unit number) = refl
+for-inlet lines u rest (targets.Session session) = refl
+for-inlet lines u rest targets.All = refl
+
+pub counts-come : (lines : List Line) (u : Unit) (b : Bool) (p : Part) → Comes (countsBy lines u b p) (length (arrivedBy p)) (length (among isDamaged (heardBy p))) (length (among (isFor lines u) (heardBy p)))
+unfolding countsBy arrivedBy heardBy among isFor occurs
+counts-come lines u b rests = (refl, refl, refl)
+counts-come lines u b (arrives c) = arrived-comes (arrivalBy (wayOf lines (u .settings) c) u)
+counts-come lines u b (hears h bytes) = heard-comes lines u h
+counts-come lines u b takes = took-comes (leaving u) u
+counts-come lines u b (sends r rest) =
+    let v = withInlet u rest in
+    let cs = hearingCounts (hearingOf lines v (asHeard r)) in
+    let each = occurs-append (sentCounts b) cs in
+    let x = heard-comes lines v (asHeard r) in
+    let y = sent-comes b in
+    let z = ap (λ a. length (cond a (asHeard r ∷ []) [])) (for-inlet lines u rest (r .target)) in
+    (omega (arith, each 0, x .0, y .0), omega (arith, each 7, x .1, y .1), omega (arith, each 11, each 9, each 10, each 8, x .2, y .2, z))

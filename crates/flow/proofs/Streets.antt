@@ -26,7 +26,7 @@ use Rattle.document.specs.Frame.{asHeard, isQueued}
 use Rattle.document.specs.Steps.{happensTo, becomes}
 use Rattle.document.proofs.Fixed.{givenOf, given-kept}
 use Rattle.flow.specs.Parts.{Part, rests, arrives, hears, takes, sends, partOf, roomFor, broughtBy, copyIn, queuedBy, broughtIn, sentFrom, queuedIn}
-use Rattle.flow.specs.Order.{queuedAll, takenAll, broughtAll, sentAll}
+use Rattle.flow.specs.Order.{over, queuedAll, takenAll, broughtAll, sentAll}
 use Rattle.flow.specs.Street.{declaredAt, Arrived, Addresses, CameFrom, by-bus, by-hand, Streets, RightStreet}
 use Rattle.flow.proofs.Turns.{Because, Handed, Sent, does}
 use Rattle.flow.proofs.Kept.{given-at, as-many, four-first, bare, inlet-after, four-after, in-order}
@@ -188,7 +188,7 @@ module _ (lines : List Line) (all : List Event) where
 
   module _ (i : ℕ) where
     all-brought : (d : Shelf) → On lines all d → i < length (d .units) → (es : List Event) → ((e : Event) → In e es → In e all) → (r : Routed) → In r (broughtAll d es i) → Arrived lines all i r
-    unfolding broughtAll
+    unfolding over
     all-brought d on within [] sub r m = absurd (List·Memᴰ·not-nil m)
     all-brought d on within (e ∷ es) sub r m =
         let l = as-many d (happensTo d e .shelf) (given-kept d e) in
@@ -198,7 +198,7 @@ module _ (lines : List Line) (all : List Event) where
         (List·Memᴰ·append-cases (broughtIn d e i) m)
 
     all-queued : (d : Shelf) → On lines all d → i < length (d .units) → (es : List Event) → ((e : Event) → In e es → In e all) → (q : ℕ) (c : Cell) → In c (queuedAll d es i q) → CameFrom lines all i q c
-    unfolding queuedAll
+    unfolding over
     all-queued d on within [] sub q c m = absurd (List·Memᴰ·not-nil m)
     all-queued d on within (e ∷ es) sub q c m =
         let l = as-many d (happensTo d e .shelf) (given-kept d e) in

@@ -1,4 +1,5 @@
 pub mod Parts
 pub mod Lost
 pub mod Order
+pub mod Counted
 pub mod Street

@@ -13,23 +13,24 @@ use Rattle.document.specs.Take.{handed}
 use Rattle.document.specs.Steps.{happensTo, becomes}
 use Rattle.flow.specs.Parts.{broughtIn, sentFrom, queuedIn, takenFrom}
 
--- over a sequence of events, one after the other: the cells put into queue q of the unit in place i, and those taken out of it
-unfoldable pub queuedAll : Shelf → List Event → ℕ → ℕ → List Cell
-queuedAll d [] i q = []
-queuedAll d (e ∷ es) i q = queuedIn d e i q ++ queuedAll (happensTo d e .shelf) es i q
+-- what events bring, one after the other
+unfoldable pub over : {A : Type 0} → (Shelf → Event → List A) → Shelf → List Event → List A
+over f d [] = []
+over f d (e ∷ es) = f d e ++ over f (happensTo d e .shelf) es
 
-unfoldable pub takenAll : Shelf → List Event → ℕ → ℕ → List Cell
-takenAll d [] i q = []
-takenAll d (e ∷ es) i q = takenFrom d e i q ++ takenAll (happensTo d e .shelf) es i q
+-- the cells put into queue q of the unit in place i, and those taken out of it
+abbrev pub queuedAll : Shelf → List Event → ℕ → ℕ → List Cell
+queuedAll d es i q = over (λ x e. queuedIn x e i q) d es
+
+abbrev pub takenAll : Shelf → List Event → ℕ → ℕ → List Cell
+takenAll d es i q = over (λ x e. takenFrom x e i q) d es
 
 -- the cells that came into its inlet, and those that it sent
-unfoldable pub broughtAll : Shelf → List Event → ℕ → List Routed
-broughtAll d [] i = []
-broughtAll d (e ∷ es) i = broughtIn d e i ++ broughtAll (happensTo d e .shelf) es i
+abbrev pub broughtAll : Shelf → List Event → ℕ → List Routed
+broughtAll d es i = over (λ x e. broughtIn x e i) d es
 
-unfoldable pub sentAll : Shelf → List Event → ℕ → List Routed
-sentAll d [] i = []
-sentAll d (e ∷ es) i = sentFrom d e i ++ sentAll (happensTo d e .shelf) es i
+abbrev pub sentAll : Shelf → List Event → ℕ → List Routed
+sentAll d es i = over (λ x e. sentFrom x e i) d es
 
 -- "Take gives the oldest cell", "sends its oldest cell": what came, in order, is what left followed by what is there
 pub record Ordered (lines : List Line) (es : List Event) (i : ℕ) : Type 0 where

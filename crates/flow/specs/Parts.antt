@@ -1,6 +1,6 @@
 -- One unit's part in an event: what the unit in a place does when something happens to the shelf. Assumes nothing.
 use Prim.Native.Nat.{ℕ}
-use mathlib.Core.Bool.{Bool, cond, _&&_}
+use mathlib.Core.Bool.{Bool, true, false, cond, _&&_}
 use mathlib.Core.List.{List, [], _∷_, _++_}
 use lib.Dec.{eqb, leb}
 use lib.ListN.{length, take}
@@ -16,7 +16,7 @@ use Rattle.line.specs.declared.Line.{Line}
 use Rattle.document.specs.Events.{Event, arrive, frame, hear, take as takes·out, count}
 use Rattle.document.specs.Shelf.{Cell, Routed, Unit, Shelf, queueAt, withInlet, findIn, unitAt}
 use Rattle.document.specs.Arrival.{Way, goes, lost, wayOf, arrivalBy}
-use Rattle.document.specs.Hearing.{hearingOf}
+use Rattle.document.specs.Hearing.{addressed, hearingOf}
 use Rattle.document.specs.Frame.{asHeard, isQueued}
 use Rattle.document.specs.Take.{leaving}
 
@@ -50,7 +50,15 @@ partOf d (hear unit f) i = onlyAt (findIn (d .units) unit) (eqb (length f) 57) i
 partOf d (takes·out unit buffer) i = onlyAt (findIn (d .units) unit) (eqb (length buffer) 53) i takes
 partOf d (count unit) i = rests
 
--- what comes into a unit's inlet: "A routed cell finding 4 cells in the inlet is `inletfull`, else `queued`"
+-- the cells that arrive at a unit
+unfoldable pub arrivedBy : Part → List (List ℕ)
+arrivedBy rests = []
+arrivedBy (arrives c) = c ∷ []
+arrivedBy (hears h bytes) = []
+arrivedBy takes = []
+arrivedBy (sends r rest) = []
+
+-- what comes into its inlet: "A routed cell finding 4 cells in the inlet is `inletfull`, else `queued`"
 unfoldable pub roomFor : Way → Unit → List Routed
 roomFor (lost fate) u = []
 roomFor (goes r) u = cond (leb 4 (length (u .inlet))) [] (r ∷ [])
@@ -69,6 +77,28 @@ sentBy (arrives c) = []
 sentBy (hears h bytes) = []
 sentBy takes = []
 sentBy (sends r rest) = r ∷ []
+
+-- the frames that it hears, "the sender too"; the damaged ones, and those that address it
+unfoldable pub heardBy : Part → List H.Heard
+heardBy rests = []
+heardBy (arrives c) = []
+heardBy (hears h bytes) = h ∷ []
+heardBy takes = []
+heardBy (sends r rest) = asHeard r ∷ []
+
+unfoldable pub isDamaged : H.Heard → Bool
+isDamaged frames.Length = true
+isDamaged frames.Damaged = true
+isDamaged (frames.Cell target class header) = false
+
+unfoldable pub isFor : List Line → Unit → H.Heard → Bool
+isFor lines u frames.Length = false
+isFor lines u frames.Damaged = false
+isFor lines u (frames.Cell target class header) = addressed lines u target
+
+unfoldable pub among : (H.Heard → Bool) → List H.Heard → List H.Heard
+among p [] = []
+among p (h ∷ hs) = cond (p h) (h ∷ among p hs) (among p hs)
 
 -- what a hearing puts into queue q: the copy, if it is `queued` and q is the queue of its class
 unfoldable pub copyIn : List Line → Unit → H.Heard → List ℕ → ℕ → List Cell
@@ -97,6 +127,15 @@ takenBy u takes q = oldestIn (leaving u) u q
 takenBy u (sends r rest) q = []
 
 -- the same of the unit in place i, for an event
+abbrev pub arrivedAt : Shelf → Event → ℕ → List (List ℕ)
+arrivedAt d e i = arrivedBy (partOf d e i)
+
+abbrev pub damagedAt : Shelf → Event → ℕ → List H.Heard
+damagedAt d e i = among isDamaged (heardBy (partOf d e i))
+
+abbrev pub addressedAt : Shelf → Event → ℕ → List H.Heard
+addressedAt d e i = among (isFor (d .lines) (unitAt d i)) (heardBy (partOf d e i))
+
 abbrev pub broughtIn : Shelf → Event → ℕ → List Routed
 broughtIn d e i = broughtBy (d .lines) (unitAt d i) (partOf d e i)
 
