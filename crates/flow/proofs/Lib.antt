@@ -6,3 +6,5 @@ pub mod Once
 pub mod Streets
 pub mod Bytes
 pub mod Examples
+pub mod Apart
+pub mod Follows

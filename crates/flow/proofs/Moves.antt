@@ -280,7 +280,7 @@ kept-all hearing.Full q c h = refl
 kept-all hearing.Clp q c h = refl
 kept-all hearing.Queued q c h = in-one q (c ∷ []) h
 
-heard-all : (lines : List Line) (u : Unit) (h : H.Heard) (bytes : List ℕ) → inAll (copyIn lines u h bytes) ≡ isQueued (hearingOf lines u h)
+pub heard-all : (lines : List Line) (u : Unit) (h : H.Heard) (bytes : List ℕ) → inAll (copyIn lines u h bytes) ≡ isQueued (hearingOf lines u h)
 unfolding copyIn hearingOf isQueued
 heard-all lines u frames.Length bytes = refl
 heard-all lines u frames.Damaged bytes = refl

@@ -56,7 +56,7 @@ times-other v (k ∷ cs) u c d = rw (ne-eqb v u d) (times-other v cs u c d)
 -- in two places two numbers
 pub different-apart : (us : List Unit) → Different us → (i j : ℕ) → i < length us → j < length us → (i ≡ j → ⊥) → numberOf (getD us i blank) ≡ numberOf (getD us j blank) → ⊥
 different-apart us once i j h k d e =
-    decide (ltb i j) (λ t. once i j (ltb-true i j t) k e) (λ f. once j i (let g = ltb-false i j f in omega (arith, d)) h (sym e))
+    decide (ltb i j) (λ t. once i j (let g = ltb-true i j t in omega arith) k e) (λ f. once j i (let g = ltb-false i j f in omega (arith, d)) h (sym e))
 
 -- a unit in a place with the number of the one before it: all numbers are as they were
 pub same-numbers : (us : List Unit) (place : ℕ) (u : Unit) → numberOf u ≡ numberOf (getD us place blank) → (i : ℕ) → numberOf (getD (set us place u) i blank) ≡ numberOf (getD us i blank)

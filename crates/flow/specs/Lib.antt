@@ -3,3 +3,4 @@ pub mod Lost
 pub mod Order
 pub mod Counted
 pub mod Street
+pub mod Apart

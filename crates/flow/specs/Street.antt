@@ -4,14 +4,19 @@ use mathlib.Core.Path.{_≡_}
 use mathlib.Core.Bool.{true}
 use mathlib.Core.List.{List, [], _∷_, List·Memᴰ as In}
 use lib.ListN.{length, getD}
+use Rattle.octets.specs.Octets.{four, part}
+use Rattle.header.specs.Fields.{fields}
+use Rattle.header.specs.declared.Header as H
 use Rattle.bus.specs.Frame.{heard, payload}
 use Rattle.bus.specs.declared.Heard.the-variants as frames
 use Rattle.routing.specs.declared.Target.{Target}
 use Rattle.queueing.specs.Hearing.{queueOf}
+use Rattle.shelf.specs.declared.Settings.{Settings}
 use Rattle.line.specs.declared.Line.{Line}
+use Rattle.line.specs.declared.Line.the-variants.{Vp, Vc}
 use Rattle.document.specs.Events.{Event, arrive, hear}
 use Rattle.document.specs.Shelf.{Cell, Routed, Unit, numberOf, queueAt, blank, unitAt, unitsOf, opened}
-use Rattle.document.specs.Arrival.{goes, wayOf}
+use Rattle.document.specs.Arrival.{goes, routed, wayOf}
 use Rattle.document.specs.Hearing.{addressed}
 use Rattle.document.specs.Steps.{becomes}
 use Rattle.flow.specs.Order.{takenAll, sentAll}
@@ -46,3 +51,16 @@ pub record Streets (lines : List Line) (es : List Event) (i : ℕ) : Type 0 wher
 
 abbrev pub RightStreet : Type 0
 RightStreet = (lines : List Line) (es : List Event) (i : ℕ) → i < length (unitsOf lines) → Streets lines es i
+
+-- the header of a cell, as the link of the unit at which it arrived reads it
+abbrev pub headerOf : Settings → List ℕ → H.Header
+headerOf s bytes = fields (s .link) (four bytes 0)
+
+-- "`vp` unit, VPI, target, class, outgoing VPI", "route, VCI kept"; "`vc` unit, VPI, VCI, target, class, outgoing VPI, outgoing VCI"; "PT and CLP are kept"
+pub data Follows (lines : List Line) (s : Settings) (bytes : List ℕ) (r : Routed) : Type 0 where
+  by-path : (target : Target) (class outvpi : ℕ) → In (Vp (s .number) (headerOf s bytes .vpi) target class outvpi) lines → r ≡ routed target class outvpi (headerOf s bytes .vci) (headerOf s bytes) (part bytes 5 48) → Follows lines s bytes r
+  by-circuit : (target : Target) (class outvpi outvci : ℕ) → In (Vc (s .number) (headerOf s bytes .vpi) (headerOf s bytes .vci) target class outvpi outvci) lines → r ≡ routed target class outvpi outvci (headerOf s bytes) (part bytes 5 48) → Follows lines s bytes r
+
+-- a cell that goes to the bus follows a line of the table: target, class, outgoing VPI and VCI are that line's, PT, CLP and payload the cell's
+abbrev pub LineFollowed : Type 0
+LineFollowed = (lines : List Line) (s : Settings) (bytes : List ℕ) (r : Routed) → wayOf lines s bytes ≡ goes r → Follows lines s bytes r
