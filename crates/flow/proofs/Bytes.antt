@@ -1,7 +1,7 @@
 -- What leaves is what the lent bytes hold afterwards, and no class leaves before a lower one. Assumes nothing.
 use Prim.Native.Nat.{ℕ, zero, suc, _+_, _<_, _≤_}
 use native.Mathlib.Omega.{arith}
-use mathlib.Core.Path.{_≡_, refl, sym, ap, ap₂, _∙_}
+use mathlib.Core.Path.{_≡_, refl, ap, ap₂, _∙_}
 use mathlib.Core.Logic.{_⊎_, inl, inr}
 use mathlib.Core.Bool.{Bool, true, false, cond}
 use mathlib.Core.List.{List, [], _∷_}
@@ -15,13 +15,12 @@ use Rattle.queueing.specs.declared.Leaving.the-variants as leaves
 use Rattle.shelf.specs.declared.Found as F
 use Rattle.shelf.specs.declared.Found.the-variants.{At, Nothing}
 use Rattle.told.proofs.Grown.{decide}
-use Rattle.answer.specs.declared.Answer.the-variants.{Taken}
-use Rattle.document.specs.Events.{Event, frame, take, answers}
+use Rattle.document.specs.Events.{frame, take, answers}
 use Rattle.document.specs.Shelf.{Cell, Routed, Unit, Shelf, numberOf, queueAt, held, findIn, unitAt}
-use Rattle.document.specs.Frame.{asHeard, frameOf, sendsFrom, sends as sends·out, sentIn, framed, framedAnswer}
-use Rattle.document.specs.Take.{leaving, takesFrom, takesBy, takes as takes·out, nothing, handed}
+use Rattle.document.specs.Frame.{asHeard, sendsFrom, sends as sends·out, sentIn, framed, framedAnswer}
+use Rattle.document.specs.Take.{leaving, takesFrom, takesBy, takes as takes·out, nothing}
 use Rattle.document.specs.Steps.{Step, step, refused, tookStep, admitted, happensTo}
-use Rattle.flow.specs.Parts.{Part, rests, arrives, hears, takes, sends, onlyAt, sending, sendingBy, partOf, sentBy, oldestIn, takenBy, sentFrom, takenFrom}
+use Rattle.flow.specs.Parts.{Part, rests, arrives, hears, takes, sends, onlyAt, sending, sendingBy, partOf, sentBy, oldestIn, takenBy, takenFrom}
 use Rattle.flow.specs.Order.{HandedOut, NoneOut, TakenHanded, Framed, Idle, SentFramed, LowestFirst}
 use Rattle.flow.proofs.Times.{found}
 
@@ -49,10 +48,12 @@ module _ (d : Shelf) (unit : ℕ) (buffer : List ℕ) where
     unfolding takenBy
     leaves-here q = ap (λ x. takenBy u x q) (p place ∙ ap (λ b. cond b takes rests) (eq-eqb place place refl))
 
+    -- nothing leaves elsewhere
     leaves-there : (i q : ℕ) → (i ≡ place → ⊥) → takenFrom d (take unit buffer) i q ≡ []
     unfolding takenBy
     leaves-there i q apart = ap (λ x. takenBy (unitAt d i) x q) (p i ∙ ap (λ b. cond b takes rests) (ne-eqb i place apart))
 
+    -- where the queue has nothing to give, nothing leaves
     anywhere : (i q : ℕ) → oldestIn (leaving u) u q ≡ [] → takenFrom d (take unit buffer) i q ≡ []
     anywhere i q none =
         decide (eqb i place) (λ t. ap (λ j. takenFrom d (take unit buffer) j q) (eqb-true i place t) ∙ leaves-here q ∙ none) (λ f. leaves-there i q (eqb-false i place f))
@@ -96,11 +97,13 @@ module _ (d : Shelf) (unit : ℕ) (buffer : List ℕ) where
           bytes = ap (λ x. x .bytes) (e ∙ ap (λ x. tookStep (takesBy x d place buffer)) l ∙ ap (λ x. tookStep (takesFrom x d place q buffer)) s);
         })
 
+    -- by the queue that it is to leave
     by-leaving : (l : L.Leaving) → leaving u ≡ l → HandedOut d unit buffer ⊎ NoneOut d unit buffer
     unfolding takesBy oldestIn
     by-leaving (leaves.Queue q) l = from-queue q l (queueAt u q) refl
     by-leaving leaves.Empty l = inr (none-out (e ∙ ap (λ x. tookStep (takesBy x d place buffer)) l) (λ k. ap (λ x. oldestIn x u k) l))
 
+  -- by the unit that is found, and the length of the buffer
   by-place : (f : F.Found) → findIn (d .units) unit ≡ f → (b : Bool) → eqb (length buffer) 53 ≡ b → HandedOut d unit buffer ⊎ NoneOut d unit buffer
   unfolding happensTo partOf admitted onlyAt
   by-place (At place) f true b =
@@ -111,6 +114,7 @@ module _ (d : Shelf) (unit : ℕ) (buffer : List ℕ) where
   by-place Nothing f right b =
       inr (refused-out 9 (ap (λ x. admitted x (eqb (length buffer) 53) (λ k. tookStep (takes·out d k buffer)) (λ n. refused d n buffer)) f) (λ i. ap (λ x. onlyAt x (eqb (length buffer) 53) i takes) f))
 
+-- every take
 pub taken-handed : TakenHanded
 taken-handed d unit buffer = by-place d unit buffer (findIn (d .units) unit) refl (eqb (length buffer) 53) refl
 
@@ -121,6 +125,7 @@ module _ (d : Shelf) (buffer : List ℕ) where
   unfolding sentBy
   idle-frame e p = record { left = λ i. ap sentBy (p i); bytes = e }
 
+  -- a unit sends its oldest cell, if it has one
   from-inlet : (place : ℕ) → place < length (d .units) → numberOf (unitAt d place) ≡ d .granted → (rs : List Routed) → happensTo d (frame buffer) .bytes ≡ sendsFrom rs d place buffer .bytes → ((i : ℕ) → partOf d (frame buffer) i ≡ sending rs place i) → Framed d buffer ⊎ Idle d buffer
   unfolding sendsFrom sending sentBy
   from-inlet place inside named [] e p = inr (idle-frame e p)
@@ -136,11 +141,13 @@ module _ (d : Shelf) (buffer : List ℕ) where
         bytes = e;
       })
 
+  -- by the unit granted in the frame before
   by-sender : (f : F.Found) → findIn (d .units) (d .granted) ≡ f → happensTo d (frame buffer) .bytes ≡ sends·out f d buffer .bytes → ((i : ℕ) → partOf d (frame buffer) i ≡ sendingBy f d i) → Framed d buffer ⊎ Idle d buffer
   unfolding sends·out sendingBy
   by-sender (At place) f e p = from-inlet place (found (d .units) (d .granted) place f .0) (found (d .units) (d .granted) place f .1) (unitAt d place .inlet) e p
   by-sender Nothing f e p = inr (idle-frame e p)
 
+  -- by the length of the buffer
   by-length : (b : Bool) → eqb (length buffer) 57 ≡ b → Framed d buffer ⊎ Idle d buffer
   unfolding happensTo partOf
   by-length true b =
@@ -152,6 +159,7 @@ module _ (d : Shelf) (buffer : List ℕ) where
       (idle-frame (ap (λ x. cond x (step (answers (framedAnswer d buffer)) (framed d buffer) (sentIn d buffer .bytes)) (refused d 10 buffer) .bytes) b)
       (λ i. ap (λ x. cond x (sendingBy (findIn (d .units) (d .granted)) d i) rests) b))
 
+-- every frame
 pub sent-framed : SentFramed
 sent-framed d buffer = by-length d buffer (eqb (length buffer) 57) refl
 
@@ -167,6 +175,7 @@ none-before cells q (suc n) k e p h l = go (ltb 0 (cells q)) refl (none-before c
         decide (eqb p q) (λ x. let z = ltb-false 0 (cells q) t in ap cells (eqb-true p q x) ∙ omega arith)
         (λ x. let ne = eqb-false p q x in later e p (omega arith) l)
 
+-- so a queue behind one that holds a cell gives nothing
 lower-first : (u : Unit) (q p : ℕ) → p < q → 0 < held u p → oldestIn (leaving u) u q ≡ []
 unfolding oldestIn
 lower-first u q p h l = go (leaving u) refl
@@ -178,6 +187,7 @@ lower-first u q p h l = go (leaving u) refl
         (λ t. let z = eqb-true q k t in let w = none-before (held u) 0 (queues (u .limits .mode)) k e p (omega arith) (omega arith) in absurd (omega arith))
         (λ f. ap (λ b. cond b (lists.take 1 (queueAt u k)) []) f)
 
+-- whatever the event
 pub lowest-first : LowestFirst
 unfolding takenBy
 lowest-first d e i q p h l = go (partOf d e i)

@@ -11,8 +11,6 @@ use lib.ListN.{getD}
 use borrow.Author.Tests.{eqb-true}
 use Rattle.octets.specs.Octets.{four, part}
 use Rattle.header.specs.Check.{check}
-use Rattle.header.specs.declared.Header as H
-use Rattle.routing.specs.declared.Target.{Target}
 use Rattle.shelf.specs.declared.Settings.{Settings}
 use Rattle.line.specs.declared.Line.{Line}
 use Rattle.line.specs.declared.Line.the-variants.{Bus, Unit as L·Unit, Vp, Drop, Page, Vc, Mc}
@@ -20,7 +18,7 @@ use Rattle.told.specs.Told.{only, either}
 use Rattle.promise.specs.Served.{Serving, by-vp, by-drop, by-vc, serves, served}
 use Rattle.answer.specs.declared.Arrival.the-variants.{Hec, Ignored, Misrouted}
 use Rattle.document.specs.Shelf.{Routed}
-use Rattle.document.specs.Arrival.{Way, goes, lost, routed, wayBy, wayFor, wayOf}
+use Rattle.document.specs.Arrival.{Way, goes, lost, wayBy, wayFor, wayOf}
 use Rattle.flow.specs.Street.{headerOf, Follows, by-path, by-circuit, LineFollowed}
 
 -- the line that says so
@@ -34,14 +32,17 @@ either-some : {A : Type 0} (a b : Option A) (x : A) → either a b ≡ some x �
 either-some none b x e = inr e
 either-some (some a) b x e = inl e
 
+-- one that was asked for, and passed the test
 only-some : {A : Type 0} (b : Bool) (a x : A) → only b a ≡ some x → (b ≡ true) × (a ≡ x)
 only-some true a x e = (refl, cc)
 only-some false a x e = let z : _≡_ {A = ℕ} 0 1 = cc in absurd (omega arith)
 
+-- two tests
 both : (a b : Bool) → (a && b) ≡ true → (a ≡ true) × (b ≡ true)
 both true b e = (refl, e)
 both false b e = let z : _≡_ {A = ℕ} 0 1 = cc in absurd (omega arith)
 
+-- a line that serves is that line
 serves-line : (l : Line) (u v w : ℕ) (x : Serving) → serves l u v w ≡ some x → lineOf u v w x ≡ l
 unfolding serves
 serves-line (Bus bus) u v w x e = let z : _≡_ {A = ℕ} 0 1 = cc in absurd (omega arith)
@@ -62,6 +63,7 @@ serves-line (Vc a b c target class outvpi outvci) u v w x e =
     ap (lineOf u v w) (sym (o .1)) ∙ (λ i. Vc (eqb-true u a (t .0) i) (eqb-true v b (t .1) i) (eqb-true w c (s .1) i) target class outvpi outvci)
 serves-line (Mc a session) u v w x e = let z : _≡_ {A = ℕ} 0 1 = cc in absurd (omega arith)
 
+-- and it is one of the lines
 served-line : (lines : List Line) (u v w : ℕ) (x : Serving) → served lines u v w ≡ some x → In (lineOf u v w x) lines
 unfolding served
 served-line [] u v w x e = let z : _≡_ {A = ℕ} 0 1 = cc in absurd (omega arith)
@@ -74,6 +76,7 @@ goes-on : (b : Bool) (x y : Way) (r : Routed) → (x ≡ goes r → ⊥) → con
 goes-on true x y r ends e = absurd (ends e)
 goes-on false x y r ends e = e
 
+-- the line that serves the cell
 by-line : (lines : List Line) (s : Settings) (bytes : List ℕ) (r : Routed) (o : Option Serving) → served lines (s .number) (headerOf s bytes .vpi) (headerOf s bytes .vci) ≡ o → wayBy o (headerOf s bytes) (part bytes 5 48) ≡ goes r → Follows lines s bytes r
 unfolding wayBy
 by-line lines s bytes r none t e = let z : _≡_ {A = ℕ} 0 1 = cc in absurd (omega arith)
@@ -83,6 +86,7 @@ by-line lines s bytes r (some (by-vp target class outvpi)) t e =
 by-line lines s bytes r (some (by-vc target class outvpi outvci)) t e =
     by-circuit target class outvpi outvci (served-line lines _ _ _ (by-vc target class outvpi outvci) t) (cc)
 
+-- a cell that goes on has passed the other tests
 pub line-followed : LineFollowed
 unfolding wayOf wayFor
 line-followed lines s bytes r e = go (eqb (check (four bytes 0)) (getD bytes 4 0)) e

@@ -1,23 +1,22 @@
 -- Over every sequence of events: nothing is lost without a counter, and all leaves in the order in which it came. Assumes nothing.
 use Prim.Native.Nat.{ℕ, zero, suc, _+_, _<_}
 use native.Mathlib.Omega.{arith}
-use mathlib.Core.Path.{_≡_, refl, sym, ap, ap₂, subst, _∙_}
-use mathlib.Core.Bool.{Bool, true, false, cond}
+use mathlib.Core.Path.{_≡_, refl, sym, ap, _∙_}
 use mathlib.Core.List.{List, [], _∷_, _++_, append-nil, append-assoc}
 use lib.ListN.{length, getD, length-map, length-append, List·getD-map}
 use Rattle.line.specs.declared.Line.{Line}
 use Rattle.line.specs.declared.Line.the-variants.{Bus, Unit as L·Unit, Vp, Drop, Page, Vc, Mc}
 use Rattle.document.specs.Events.{Event}
 use Rattle.document.specs.Counters.{Counter, arrived, hec, ignored, misrouted, inletfull, sent, damaged, queued, full, clp, wide, taken, placeOf, times}
-use Rattle.document.specs.Shelf.{Cell, Routed, Unit, Shelf, numberOf, queueAt, blank, unitAt, unitsBy, unitsOf, opened}
+use Rattle.document.specs.Shelf.{Cell, Unit, Shelf, numberOf, queueAt, blank, unitAt, unitsBy, unitsOf, opened}
 use Rattle.document.specs.Steps.{happensTo, becomes}
 use Rattle.document.proofs.Fixed.{givenOf, given, given-kept}
-use Rattle.flow.specs.Parts.{Part, rests, arrives, hears, takes, sends, broughtBy, sentBy, queuedBy, takenBy, partOf, arrivedAt, damagedAt, addressedAt, broughtIn, sentFrom, queuedIn, takenFrom}
+use Rattle.flow.specs.Parts.{Part, rests, arrives, hears, takes, sends, partOf, arrivedAt, damagedAt, addressedAt, broughtIn, sentFrom, queuedIn, takenFrom}
 use Rattle.flow.specs.Lost.{Different, inAll, happened, Accounted, NothingLost}
-use Rattle.flow.specs.Counted.{Counted, CountersTrue}
-use Rattle.flow.specs.Order.{over, queuedAll, takenAll, broughtAll, sentAll, Ordered, InOrder}
+use Rattle.flow.specs.Counted.{CountersTrue}
+use Rattle.flow.specs.Order.{over, queuedAll, takenAll, broughtAll, sentAll, InOrder}
 use Rattle.flow.proofs.Times.{occurs}
-use Rattle.flow.proofs.Turns.{Because, Does, does, unitBy, countsBy}
+use Rattle.flow.proofs.Turns.{Because, Does, does, countsBy}
 use Rattle.flow.proofs.Moves.{HasIt, queue-step, inlet-step, many-step, counts-in, counts-out, counts-come}
 
 -- A. what no event changes
@@ -25,12 +24,15 @@ module _ (d d′ : Shelf) (kept : given d′ ≡ given d) where
   pub given-at : (i : ℕ) → givenOf (unitAt d′ i) ≡ givenOf (unitAt d i)
   given-at i = sym (List·getD-map givenOf (d′ .units) i blank) ∙ ap (λ l. getD l i (givenOf blank)) kept ∙ List·getD-map givenOf (d .units) i blank
 
+  -- nor the number
   pub number-at : (i : ℕ) → numberOf (unitAt d′ i) ≡ numberOf (unitAt d i)
   number-at i = ap (λ g. g .settings .number) (given-at i)
 
+  -- nor how many units there are
   pub as-many : length (d′ .units) ≡ length (d .units)
   as-many = sym (length-map (d′ .units) givenOf) ∙ ap length kept ∙ length-map (d .units) givenOf
 
+  -- so no number is there twice afterwards
   pub still-different : Different (d .units) → Different (d′ .units)
   still-different once i j h k e = let l = as-many in once i j h (omega arith) (sym (number-at i) ∙ e ∙ number-at j)
 
@@ -50,12 +52,15 @@ module _ (d : Shelf) (e : Event) (i : ℕ) (within : i < length (d .units)) (fou
   abbrev w : Does d d′ e i (partOf d e i)
   w = does d e i within
 
+  -- four queues
   pub four-after : length (unitAt d′ i .queues) ≡ 4
   four-after = ap (λ u. length (u .queues)) (w .unit) ∙ many-step (d .lines) (unitAt d i) (partOf d e i) ∙ four
 
+  -- a queue
   pub queue-after : (q : ℕ) → queueAt (unitAt d i) q ++ queuedIn d e i q ≡ takenFrom d e i q ++ queueAt (unitAt d′ i) q
   queue-after q = queue-step (d .lines) (unitAt d i) (partOf d e i) q four ∙ ap (λ u. takenFrom d e i q ++ queueAt u q) (sym (w .unit))
 
+  -- the inlet
   pub inlet-after : unitAt d i .inlet ++ broughtIn d e i ≡ sentFrom d e i ++ unitAt d′ i .inlet
   inlet-after =
       inlet-step (d .lines) (unitAt d i) (partOf d e i) (has-it d e i (partOf d e i) (w .because)) ∙ ap (λ u. sentFrom d e i ++ u .inlet) (sym (w .unit))
@@ -66,13 +71,16 @@ module _ (d : Shelf) (e : Event) (i : ℕ) (within : i < length (d .units)) (fou
       sym (length-append (queueAt (unitAt d i) q) (queuedIn d e i q)) ∙ ap length (queue-after q)
       ∙ length-append (takenFrom d e i q) (queueAt (unitAt d′ i) q)
 
+  -- of the inlet
   waiting-after : length (unitAt d i .inlet) + length (broughtIn d e i) ≡ length (sentFrom d e i) + length (unitAt d′ i .inlet)
   waiting-after =
       sym (length-append (unitAt d i .inlet) (broughtIn d e i)) ∙ ap length inlet-after ∙ length-append (sentFrom d e i) (unitAt d′ i .inlet)
 
+  -- what is counted
   counted : Different (d .units) → (c : Counter) → times (d′ .history) (numberOf (unitAt d′ i)) c ≡ occurs (countsBy (d .lines) (unitAt d i) (w .someone) (partOf d e i)) (placeOf c) + times (d .history) (numberOf (unitAt d i)) c
   counted once c = ap (λ n. times (d′ .history) n c) (number-at d d′ (given-kept d e) i) ∙ w .counted once c
 
+  -- so the sums still hold
   pub accounted-after : Different (d .units) → Accounted d i → Accounted d′ i
   accounted-after once a =
       let f = counted once in
@@ -93,6 +101,7 @@ each-append P (u ∷ us) vs f g (suc i) = each-append P us vs (λ j. f (suc j)) 
 abbrev pub Bare : Unit → Type 0
 Bare u = (u .inlet ≡ []) × (u .queues ≡ [] ∷ [] ∷ [] ∷ [] ∷ [])
 
+-- what a line declares
 bare-line : (l : Line) (i : ℕ) → Bare (getD (unitsBy l) i blank)
 bare-line (Bus bus) i = (refl, refl)
 bare-line (L·Unit settings limits) zero = (refl, refl)
@@ -103,11 +112,13 @@ bare-line (Page u v top) i = (refl, refl)
 bare-line (Vc u v w target class outvpi outvci) i = (refl, refl)
 bare-line (Mc u session) i = (refl, refl)
 
+-- what the lines declare
 pub bare : (lines : List Line) (i : ℕ) → Bare (getD (unitsOf lines) i blank)
 unfolding unitsOf
 bare [] i = (refl, refl)
 bare (l ∷ lines) i = each-append Bare (unitsOf lines) (unitsBy l) (bare lines) (bare-line l) i
 
+-- so each queue is empty
 pub bare-queue : (lines : List Line) (i q : ℕ) → queueAt (getD (unitsOf lines) i blank) q ≡ []
 bare-queue lines i q = ap (λ x. getD x q []) (bare lines i .1) ∙ go q
   where
@@ -118,9 +129,11 @@ bare-queue lines i q = ap (λ x. getD x q []) (bare lines i .1) ∙ go q
     go (suc (suc (suc zero))) = refl
     go (suc (suc (suc (suc q)))) = refl
 
+-- and there are four
 pub four-first : (lines : List Line) (i : ℕ) → length (getD (unitsOf lines) i blank .queues) ≡ 4
 four-first lines i = ap length (bare lines i .1)
 
+-- and the sums hold
 accounted-first : (lines : List Line) (i : ℕ) → Accounted (opened lines) i
 unfolding times
 accounted-first lines i =
@@ -136,6 +149,7 @@ accounted d (e ∷ es) i within four once a =
     let l = as-many d d′ (given-kept d e) in
     accounted d′ es i (omega arith) (four-after d e i within four) (still-different d d′ (given-kept d e) once) (accounted-after d e i within four once a)
 
+-- from the shelf that the lines open
 pub nothing-lost : NothingLost
 nothing-lost lines once es i within = accounted (opened lines) es i within (four-first lines i) once (accounted-first lines i)
 
@@ -148,12 +162,14 @@ pub record Fit (i : ℕ) (d : Shelf) : Type 0 where
   pub within : i < length (d .units)
   pub four : length (unitAt d i .queues) ≡ 4
 
+-- stays one
 pub fit-after : (i : ℕ) (d : Shelf) (e : Event) → Fit i d → Fit i (happensTo d e .shelf)
 fit-after i d e w =
     let l = as-many d (happensTo d e .shelf) (given-kept d e) in
     let h = w .within in
     record { within = omega arith; four = four-after d e i (w .within) (w .four) }
 
+-- and begins as one
 fit-first : (lines : List Line) (i : ℕ) → i < length (unitsOf lines) → Fit i (opened lines)
 fit-first lines i h = record { within = h; four = four-first lines i }
 
@@ -165,6 +181,7 @@ order i f g h one d (e ∷ es) w =
     let d′ = happensTo d e .shelf in
     chain (h d) (f d e) (g d e) (h d′) (over f d′ es) (over g d′ es) (h (becomes d′ es)) (one d e w) (order i f g h one d′ es (fit-after i d e w))
 
+-- each queue, and each inlet
 pub in-order : InOrder
 in-order lines es i within =
     let w = fit-first lines i within in
@@ -189,6 +206,7 @@ module _ (i : ℕ) (f : Shelf → List Event → ℕ) (one : Shelf → Event →
       let c = rise d e w once in
       omega arith
 
+  -- from the shelf that the lines open
   totals : (lines : List Line) → Different (unitsOf lines) → (es : List Event) → i < length (unitsOf lines) → g (opened lines) ≡ 0 → g (becomes (opened lines) es) ≡ f (opened lines) es
   totals lines once es h nought = let a = total (opened lines) es (fit-first lines i h) once in omega arith
 
@@ -197,6 +215,7 @@ module _ {A : Type 0} (f : Shelf → Event → List A) where
   unfolding over
   over-none d = refl
 
+  -- an event more
   over-next : (d : Shelf) (e : Event) (es : List Event) → length (over f d (e ∷ es)) ≡ length (f d e) + length (over f (happensTo d e .shelf) es)
   unfolding over
   over-next d e es = length-append (f d e) (over f (happensTo d e .shelf) es)
@@ -210,19 +229,23 @@ module _ (i : ℕ) (d : Shelf) (e : Event) (v : Fit i d) (once : Different (d .u
   abbrev rose : (c : Counter) → happened (happensTo d e .shelf) i c ≡ occurs (countsBy (d .lines) (unitAt d i) (does d e i (v .within) .someone) (partOf d e i)) (placeOf c) + happened d i c
   rose c = counted d e i (v .within) (v .four) once c
 
+  -- what comes to a unit
   rose-come : (happened (happensTo d e .shelf) i arrived ≡ length (arrivedAt d e i) + happened d i arrived) × (happened (happensTo d e .shelf) i damaged ≡ length (damagedAt d e i) + happened d i damaged) × (happened (happensTo d e .shelf) i wide + happened (happensTo d e .shelf) i full + happened (happensTo d e .shelf) i clp + happened (happensTo d e .shelf) i queued ≡ length (addressedAt d e i) + (happened d i wide + happened d i full + happened d i clp + happened d i queued))
   rose-come =
       let x = counts-come (d .lines) (unitAt d i) (does d e i (v .within) .someone) (partOf d e i) in
       (omega (arith, rose arrived, x .0), omega (arith, rose damaged, x .1), omega (arith, rose wide, rose full, rose clp, rose queued, x .2))
 
+  -- what it sends
   rose-sent : happened (happensTo d e .shelf) i sent ≡ length (sentFrom d e i) + happened d i sent
   rose-sent = omega (arith, rose sent, counts-in (d .lines) (unitAt d i) (does d e i (v .within) .someone) (partOf d e i) (v .four) .1)
 
+  -- what goes into its queues and out of them
   rose-copies : (happened (happensTo d e .shelf) i queued ≡ inAll (queuedIn d e i) + happened d i queued) × (happened (happensTo d e .shelf) i taken ≡ inAll (takenFrom d e i) + happened d i taken)
   rose-copies =
       let x = counts-out (d .lines) (unitAt d i) (does d e i (v .within) .someone) (partOf d e i) (v .four) in
       (omega (arith, rose queued, x .0), omega (arith, rose taken, x .1))
 
+-- over every sequence
 pub counters-true : CountersTrue
 unfolding times over
 counters-true lines once es i within =

@@ -1,12 +1,12 @@
 -- What a unit's part moves: cells into and out of its inlet and its queues, and what is counted of them. Assumes nothing.
-use Prim.Native.Nat.{ℕ, zero, suc, _+_, _<_, _≤_}
+use Prim.Native.Nat.{ℕ, zero, suc, _+_, _<_}
 use native.Mathlib.Omega.{arith}
-use mathlib.Core.Path.{_≡_, refl, sym, ap, ap₂, subst, _∙_}
+use mathlib.Core.Path.{_≡_, refl, sym, ap, _∙_}
 use mathlib.Core.Bool.{Bool, true, false, cond, _&&_}
 use mathlib.Core.List.{List, [], _∷_, _++_, append-nil}
 use mathlib.Core.Option.{Option, none, some}
 use lib.Dec.{eqb, leb, ltb}
-use lib.ListN.{length, getD, set, take, length-set, length-append, List·getD-eq-default}
+use lib.ListN.{length, getD, set, take, length-set, List·getD-eq-default}
 use lib.Seq.{getD-set-same, getD-set-other}
 use borrow.Author.Tests.{eqb-true, eqb-false, ltb-true, ltb-false}
 use Rattle.header.specs.Fields.{fields}
@@ -59,6 +59,7 @@ kept-queue hearing.Queued u q p c h = go (eqb p q) refl
         ∙ ap (λ k. queueAt u k ++ (c ∷ [])) (sym e)
     go false t = getD-set-other (u .queues) q p (queueAt u q ++ (c ∷ [])) [] (eqb-false p q t) ∙ sym (append-nil (queueAt u p))
 
+-- a hearing, queue by queue
 heard-queue : (lines : List Line) (u : Unit) (h : H.Heard) (bytes : List ℕ) (p : ℕ) → length (u .queues) ≡ 4 → queueAt (hearingUnit lines u h bytes) p ≡ queueAt u p ++ copyIn lines u h bytes p
 unfolding hearingUnit copyIn
 heard-queue lines u frames.Length bytes p four = sym (append-nil (queueAt u p))
@@ -67,16 +68,13 @@ heard-queue lines u (frames.Cell target class header) bytes p four =
     let l = queue-lt (u .limits) class in
     kept-queue (hearingOf lines u (frames.Cell target class header)) u (queueOf (u .limits) class) p _ (omega arith)
 
--- the oldest, and those behind it
-cut : (x y : List Cell) (c : Cell) (rest : List Cell) → x ≡ c ∷ rest → y ≡ rest → x ≡ take 1 x ++ y
-cut x y c rest e f = e ∙ sym (ap₂ (λ a b. take 1 a ++ b) e f)
-
 -- a queue that holds a cell is one of those that there are
 holds-inside : (u : Unit) (q : ℕ) (c : Cell) (rest : List Cell) → queueAt u q ≡ c ∷ rest → q < length (u .queues)
 holds-inside u q c rest e =
     decide (ltb q (length (u .queues))) (λ t. ltb-true q (length (u .queues)) t)
     (λ f. let z = List·getD-eq-default (u .queues) [] {n = q} (ltb-false q (length (u .queues)) f) in let w : _≡_ {A = ℕ} 0 1 = cc in absurd (omega arith))
 
+-- a take, queue by queue
 left-queue : (l : L.Leaving) (u : Unit) (p : ℕ) → queueAt u p ≡ oldestIn l u p ++ queueAt (leftBy l u) p
 unfolding oldestIn leftBy leftFrom
 left-queue leaves.Empty u p = refl
@@ -109,12 +107,14 @@ kept-many hearing.Full u q c = refl
 kept-many hearing.Clp u q c = refl
 kept-many hearing.Queued u q c = length-set (u .queues) q (queueAt u q ++ (c ∷ []))
 
+-- a hearing
 heard-many : (lines : List Line) (u : Unit) (h : H.Heard) (bytes : List ℕ) → length (hearingUnit lines u h bytes .queues) ≡ length (u .queues)
 unfolding hearingUnit
 heard-many lines u frames.Length bytes = refl
 heard-many lines u frames.Damaged bytes = refl
 heard-many lines u (frames.Cell target class header) bytes = kept-many (hearingOf lines u (frames.Cell target class header)) u (queueOf (u .limits) class) _
 
+-- a take
 left-many : (l : L.Leaving) (u : Unit) → length (leftBy l u .queues) ≡ length (u .queues)
 unfolding leftBy leftFrom
 left-many leaves.Empty u = refl
@@ -124,6 +124,7 @@ left-many (leaves.Queue q) u = go (queueAt u q)
     go [] = refl
     go (c ∷ rest) = length-set (u .queues) q rest
 
+-- every part
 pub many-step : (lines : List Line) (u : Unit) (p : Part) → length (unitBy lines u p .queues) ≡ length (u .queues)
 unfolding unitBy
 many-step lines u rests = refl
@@ -142,12 +143,14 @@ kept-inlet hearing.Full u q c = refl
 kept-inlet hearing.Clp u q c = refl
 kept-inlet hearing.Queued u q c = refl
 
+-- a hearing leaves it alone
 heard-inlet : (lines : List Line) (u : Unit) (h : H.Heard) (bytes : List ℕ) → hearingUnit lines u h bytes .inlet ≡ u .inlet
 unfolding hearingUnit
 heard-inlet lines u frames.Length bytes = refl
 heard-inlet lines u frames.Damaged bytes = refl
 heard-inlet lines u (frames.Cell target class header) bytes = kept-inlet (hearingOf lines u (frames.Cell target class header)) u _ _
 
+-- and so does a take
 left-inlet : (l : L.Leaving) (u : Unit) → leftBy l u .inlet ≡ u .inlet
 unfolding leftBy leftFrom
 left-inlet leaves.Empty u = refl
@@ -157,6 +160,7 @@ left-inlet (leaves.Queue q) u = go (queueAt u q)
     go [] = refl
     go (c ∷ rest) = refl
 
+-- an arrival
 brought : (w : Way) (u : Unit) → u .inlet ++ roomFor w u ≡ inletBy w u
 unfolding roomFor inletBy
 brought (lost fate) u = append-nil (u .inlet)
@@ -174,6 +178,7 @@ HasIt u (hears h bytes) = ⊥ → ⊥
 HasIt u takes = ⊥ → ⊥
 HasIt u (sends r rest) = u .inlet ≡ r ∷ rest
 
+-- what waited and what came is what left and what waits
 pub inlet-step : (lines : List Line) (u : Unit) (p : Part) → HasIt u p → u .inlet ++ broughtBy lines u p ≡ sentBy p ++ unitBy lines u p .inlet
 unfolding broughtBy sentBy unitBy
 inlet-step lines u rests w = append-nil (u .inlet)
@@ -189,10 +194,12 @@ abbrev Named : Way → Type 0
 Named (goes r) = ⊥ → ⊥
 Named (lost fate) = fate ≡ arrival.Queued → ⊥
 
+-- of two ways
 either-named : (b : Bool) (v w : Way) → Named v → Named w → Named (cond b v w)
 either-named true v w x y = x
 either-named false v w x y = y
 
+-- of every cell
 way-named : (lines : List Line) (s : Settings) (c : List ℕ) → Named (wayOf lines s c)
 unfolding wayOf wayFor wayBy
 way-named lines s c =
@@ -232,6 +239,7 @@ arrived-counts (goes r) u n = go (leb 4 (length (u .inlet)))
     go true = (refl, refl)
     go false = (refl, refl)
 
+-- an arrival is nothing at the outlet
 arrived-out : (fate : N.Arrival) → Copies (arrivalCounts fate) 0 0
 unfolding arrivalCounts occurs
 arrived-out arrival.Hec = (refl, refl)
@@ -250,6 +258,7 @@ heard-in hearing.Full = (refl, refl)
 heard-in hearing.Clp = (refl, refl)
 heard-in hearing.Queued = (refl, refl)
 
+-- at the outlet: one copy, if it is queued
 heard-out : (fate : A.Hearing) → Copies (hearingCounts fate) (isQueued fate) 0
 unfolding hearingCounts occurs isQueued
 heard-out hearing.Damaged = (refl, refl)
@@ -267,10 +276,12 @@ in-one (suc (suc zero)) cells h = omega arith
 in-one (suc (suc (suc zero))) cells h = omega arith
 in-one (suc (suc (suc (suc q)))) cells h = absurd (omega arith)
 
+-- no cells in any
 in-none : (b : Bool) → length (cond {A = List Cell} b [] []) ≡ 0
 in-none true = refl
 in-none false = refl
 
+-- a copy is in one queue, if it is queued
 kept-all : (fate : A.Hearing) (q : ℕ) (c : Cell) → q < 4 → inAll (λ p. cond (eqb (isQueued fate) 1 && eqb p q) (c ∷ []) []) ≡ isQueued fate
 unfolding isQueued
 kept-all hearing.Damaged q c h = refl
@@ -280,6 +291,7 @@ kept-all hearing.Full q c h = refl
 kept-all hearing.Clp q c h = refl
 kept-all hearing.Queued q c h = in-one q (c ∷ []) h
 
+-- so of a hearing
 pub heard-all : (lines : List Line) (u : Unit) (h : H.Heard) (bytes : List ℕ) → inAll (copyIn lines u h bytes) ≡ isQueued (hearingOf lines u h)
 unfolding copyIn hearingOf isQueued
 heard-all lines u frames.Length bytes = refl
@@ -303,6 +315,7 @@ unfolding sentCounts occurs
 sent-in true = ((refl, refl), (refl, refl))
 sent-in false = ((refl, refl), (refl, refl))
 
+-- at the inlet
 pub counts-in : (lines : List Line) (u : Unit) (b : Bool) (p : Part) → length (u .queues) ≡ 4 → Arrivals (countsBy lines u b p) (length (broughtBy lines u p)) (length (sentBy p))
 unfolding countsBy broughtBy sentBy occurs
 counts-in lines u b rests four = (refl, refl)
@@ -316,6 +329,7 @@ counts-in lines u b (sends r rest) four =
     let y = sent-in b .0 in
     (omega (arith, each 0, each 1, each 2, each 3, each 4, x .0, y .0), omega (arith, each 5, x .1, y .1))
 
+-- and at the outlet
 pub counts-out : (lines : List Line) (u : Unit) (b : Bool) (p : Part) → length (u .queues) ≡ 4 → Copies (countsBy lines u b p) (inAll (queuedBy lines u p)) (inAll (takenBy u p))
 unfolding countsBy queuedBy takenBy occurs
 counts-out lines u b rests four = (refl, refl)
@@ -335,6 +349,7 @@ counts-out lines u b (sends r rest) four =
 abbrev pub Comes : List Counter → ℕ → ℕ → ℕ → Type 0
 Comes cs cells broken copies = (rises cs arrived ≡ cells) × (rises cs damaged ≡ broken) × (rises cs wide + rises cs full + rises cs clp + rises cs queued ≡ copies)
 
+-- an arrival is one cell
 arrived-comes : (fate : N.Arrival) → Comes (arrivalCounts fate) 1 0 0
 unfolding arrivalCounts occurs
 arrived-comes arrival.Hec = (refl, refl, refl)
@@ -354,6 +369,7 @@ fate-comes u q header = go (tooWide (u .settings .link) header) (leb (capacity (
     go false false true = (refl, refl, refl)
     go false false false = (refl, refl, refl)
 
+-- a frame is damaged, or addresses the unit, or neither
 heard-comes : (lines : List Line) (u : Unit) (h : H.Heard) → Comes (hearingCounts (hearingOf lines u h)) 0 (length (among isDamaged (h ∷ []))) (length (among (isFor lines u) (h ∷ [])))
 unfolding hearingOf hearingCounts occurs among isDamaged isFor
 heard-comes lines u frames.Length = (refl, refl, refl)
@@ -364,6 +380,7 @@ heard-comes lines u (frames.Cell target class header) = go (addressed lines u ta
     go true = fate-comes u (queueOf (u .limits) class) header
     go false = (refl, refl, refl)
 
+-- a take brings nothing
 took-comes : (l : L.Leaving) (u : Unit) → Comes (tookBy l u) 0 0 0
 unfolding tookBy tookFrom occurs
 took-comes leaves.Empty u = (refl, refl, refl)
@@ -373,6 +390,7 @@ took-comes (leaves.Queue q) u = go (queueAt u q)
     go [] = (refl, refl, refl)
     go (c ∷ rest) = (refl, refl, refl)
 
+-- nor does sending
 sent-comes : (b : Bool) → Comes (sentCounts b) 0 0 0
 unfolding sentCounts occurs
 sent-comes true = (refl, refl, refl)
@@ -385,6 +403,7 @@ for-inlet lines u rest (targets.Unit number) = refl
 for-inlet lines u rest (targets.Session session) = refl
 for-inlet lines u rest targets.All = refl
 
+-- every part
 pub counts-come : (lines : List Line) (u : Unit) (b : Bool) (p : Part) → Comes (countsBy lines u b p) (length (arrivedBy p)) (length (among isDamaged (heardBy p))) (length (among (isFor lines u) (heardBy p)))
 unfolding countsBy arrivedBy heardBy among isFor occurs
 counts-come lines u b rests = (refl, refl, refl)

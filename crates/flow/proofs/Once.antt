@@ -1,22 +1,18 @@
 -- The lines of a good table have no unit number twice. Assumes nothing.
 use Prim.Native.Nat.{ℕ, zero, suc, _<_}
 use native.Mathlib.Omega.{arith}
-use mathlib.Core.Path.{_≡_, refl, sym, ap, subst, _∙_}
+use mathlib.Core.Path.{_≡_, refl, sym, subst}
 use mathlib.Core.Bool.{Bool, true, false}
 use mathlib.Core.List.{List, [], _∷_, _++_, append-nil}
 use mathlib.Core.Option.{Option, none, some}
 use lib.Dec.{eqb}
 use lib.ListN.{length, getD}
 use borrow.Author.Tests.{eqb-false}
-use Rattle.card.specs.declared.Card.{Card}
-use Rattle.outlet.specs.declared.Limits.{Limits}
-use Rattle.shelf.specs.declared.Settings.{Settings}
 use Rattle.line.specs.declared.Line.{Line}
 use Rattle.line.specs.declared.Line.the-variants.{Bus, Unit as L·Unit, Vp, Drop, Page, Vc, Mc}
 use Rattle.told.specs.Told.{ofUnit, same, opens, only, either, topOf}
-use Rattle.told.specs.Lines.{Good}
 use Rattle.told.proofs.Fits.{fine-unit}
-use Rattle.document.specs.Shelf.{Unit, numberOf, blank, freshUnit, unitsBy, unitsOf}
+use Rattle.document.specs.Shelf.{Unit, numberOf, blank, freshUnit, unitsOf}
 use Rattle.flow.specs.Lost.{Different, NumbersOnce}
 
 -- of each of two lists, so of both
@@ -25,6 +21,7 @@ each-two P [] vs f g i h = g i h
 each-two P (u ∷ us) vs f g zero h = f 0 (omega arith)
 each-two P (u ∷ us) vs f g (suc i) h = each-two P us vs (λ j k. f (suc j) (omega arith)) g i (omega arith)
 
+-- of one unit
 each-one : (P : Unit → Type 0) (u : Unit) → P u → (i : ℕ) → i < length (u ∷ []) → P (getD (u ∷ []) i blank)
 each-one P u p zero h = p
 each-one P u p (suc i) h = absurd (omega arith)
@@ -44,6 +41,7 @@ neither : {A : Type 0} (a b : Option A) → either a b ≡ none → (a ≡ none)
 neither none b e = (refl, e)
 neither (some a) b e = let z : _≡_ {A = ℕ} 0 1 = cc in absurd (omega arith)
 
+-- a test that gave nothing did not hold
 only-none : {A : Type 0} (b : Bool) (a : A) → only b a ≡ none → b ≡ false
 only-none true a e = let z : _≡_ {A = ℕ} 0 1 = cc in absurd (omega arith)
 only-none false a e = refl
@@ -51,9 +49,11 @@ only-none false a e = refl
 abbrev Nowhere : ℕ → List Unit → Type 0
 Nowhere n us = (i : ℕ) → i < length us → numberOf (getD us i blank) ≡ n → ⊥
 
+-- a line that declares no unit
 plain : (n : ℕ) (us : List Unit) → Nowhere n us → Nowhere n (us ++ [])
 plain n us f = subst (Nowhere n) (sym (append-nil us)) f
 
+-- so of all lines
 nowhere : (told : List Line) (n : ℕ) → topOf told (ofUnit n) ≡ none → Nowhere n (unitsOf told)
 unfolding topOf unitsOf opens same
 nowhere [] n e = λ i h. absurd (omega arith)
@@ -68,9 +68,11 @@ nowhere (Page u v top ∷ told) n e = plain n (unitsOf told) (nowhere told n e)
 nowhere (Vc u v w target class outvpi outvci ∷ told) n e = plain n (unitsOf told) (nowhere told n e)
 nowhere (Mc u session ∷ told) n e = plain n (unitsOf told) (nowhere told n e)
 
+-- a line that declares no unit, again
 no-more : (us : List Unit) → Different us → Different (us ++ [])
 no-more us once = subst Different (sym (append-nil us)) once
 
+-- line by line: `unit` only with a new number
 pub numbers-once : NumbersOnce
 unfolding unitsOf
 numbers-once card room [] g = λ i j h k. absurd (omega arith)

@@ -2,13 +2,13 @@
 use Prim.Native.Nat.{ℕ, _<_}
 use native.Mathlib.Omega.{arith}
 use mathlib.Core.Path.{_≡_, refl, sym, ap, subst, _∙_}
-use mathlib.Core.Logic.{_⊎_, inl, inr, ⊎-elim}
+use mathlib.Core.Logic.{_⊎_, ⊎-elim}
 use mathlib.Core.Bool.{Bool, true, false, cond, _&&_}
-use mathlib.Core.List.{List, [], _∷_, _++_, List·Memᴰ as In, List·Memᴰ·head, List·Memᴰ·tail, List·Memᴰ·not-nil, List·Memᴰ·eq-of-singleton, List·Memᴰ·append-cases, Memᴰ·append-left, Memᴰ·append-right, Memᴰ·cast}
+use mathlib.Core.List.{List, [], _∷_, List·Memᴰ as In, List·Memᴰ·head, List·Memᴰ·tail, List·Memᴰ·not-nil, List·Memᴰ·eq-of-singleton, List·Memᴰ·append-cases, Memᴰ·append-left, Memᴰ·append-right, Memᴰ·cast}
 use lib.Dec.{eqb, leb}
-use lib.ListN.{length, getD}
+use lib.ListN.{length}
 use borrow.Author.Tests.{eqb-true}
-use Rattle.bus.specs.Frame.{heard, payload}
+use Rattle.bus.specs.Frame.{payload}
 use Rattle.bus.specs.declared.Heard as H
 use Rattle.bus.specs.declared.Heard.the-variants as frames
 use Rattle.routing.specs.declared.Target as T
@@ -27,7 +27,7 @@ use Rattle.document.specs.Steps.{happensTo, becomes}
 use Rattle.document.proofs.Fixed.{givenOf, given-kept}
 use Rattle.flow.specs.Parts.{Part, rests, arrives, hears, takes, sends, partOf, roomFor, broughtBy, copyIn, queuedBy, broughtIn, sentFrom, queuedIn}
 use Rattle.flow.specs.Order.{over, queuedAll, takenAll, broughtAll, sentAll}
-use Rattle.flow.specs.Street.{declaredAt, Arrived, Addresses, CameFrom, by-bus, by-hand, Streets, RightStreet}
+use Rattle.flow.specs.Street.{declaredAt, Arrived, Addresses, CameFrom, by-bus, by-hand, RightStreet}
 use Rattle.flow.proofs.Turns.{Because, Handed, Sent, does}
 use Rattle.flow.proofs.Kept.{given-at, as-many, four-first, bare, inlet-after, four-after, in-order}
 
@@ -47,6 +47,7 @@ unfolding isQueued
 reaches true fate e = refl
 reaches false fate e = absurd (omega arith)
 
+-- a cell that a hearing puts into a queue
 copied : (lines : List Line) (u : Unit) (h : H.Heard) (bytes : List ℕ) (q : ℕ) (c : Cell) → In c (copyIn lines u h bytes q) → Copy lines u h bytes q c
 unfolding copyIn hearingOf
 copied lines u frames.Length bytes q c m = absurd (List·Memᴰ·not-nil m)
@@ -97,6 +98,7 @@ module _ (lines : List Line) (es : List Event) (d : Shelf) (on : On lines es d) 
   abbrev u : Unit
   u = unitAt d i
 
+  -- its number is that of its line
   number : numberOf u ≡ numberOf (declaredAt lines i)
   number = ap (λ g. g .settings .number) (on .given i)
 
@@ -147,6 +149,7 @@ module _ (lines : List Line) (es : List Event) (d : Shelf) (on : On lines es d) 
       (sym (s .frame-is) ∙ k .frame-is) (reached u h bytes q c refl k)
       (k .cell ∙ (λ j. record { header = k .header; payload = s .payload-is j }))
 
+  -- what comes into a queue is one or the other
   queued-from : (p : Part) → Because d e i p → (q : ℕ) (c : Cell) → In c (queuedBy (d .lines) u p q) → CameFrom lines es i q c
   unfolding queuedBy
   queued-from rests w q c m = absurd (List·Memᴰ·not-nil m)
@@ -160,9 +163,11 @@ module _ (lines : List Line) (es : List Event) (d : Shelf) (on : On lines es d) 
       from-bus v (asHeard r) (r .cell .payload) q c refl (copied (d .lines) v (asHeard r) (r .cell .payload) q c m)
       (record { place = i; inside = within; r = r; rest = rest; oldest = w; frame-is = refl; payload-is = refl })
 
+  -- so of an event
   pub brought-in : (r : Routed) → In r (broughtIn d e i) → Arrived lines es i r
   brought-in r m = brought-from (partOf d e i) (does d e i within .because) r m
 
+  -- and of a queue
   pub queued-in : (q : ℕ) (c : Cell) → In c (queuedIn d e i q) → CameFrom lines es i q c
   queued-in q c m = queued-from (partOf d e i) (does d e i within .because) q c m
 
@@ -197,6 +202,7 @@ module _ (lines : List Line) (all : List Event) where
         (all-brought (happensTo d e .shelf) (on-after d on e here (omega arith)) (omega arith) es (λ x w. sub x (List·Memᴰ·tail w)) r)
         (List·Memᴰ·append-cases (broughtIn d e i) m)
 
+    -- the same of a queue
     all-queued : (d : Shelf) → On lines all d → i < length (d .units) → (es : List Event) → ((e : Event) → In e es → In e all) → (q : ℕ) (c : Cell) → In c (queuedAll d es i q) → CameFrom lines all i q c
     unfolding over
     all-queued d on within [] sub q c m = absurd (List·Memᴰ·not-nil m)
@@ -207,6 +213,7 @@ module _ (lines : List Line) (all : List Event) where
         (all-queued (happensTo d e .shelf) (on-after d on e here (omega arith)) (omega arith) es (λ x w. sub x (List·Memᴰ·tail w)) q c)
         (List·Memᴰ·append-cases (queuedIn d e i q) m)
 
+  -- it begins so
   on-first : On lines all (opened lines)
   on-first =
       record {

@@ -5,12 +5,11 @@ use mathlib.Core.Path.{_≡_, refl, sym, ap, _∙_}
 use mathlib.Core.Bool.{Bool, true, false, cond}
 use mathlib.Core.List.{List, [], _∷_, _++_, map}
 use lib.Dec.{eqb, ltb}
-use lib.ListN.{length, getD, set, length-set, length-map, List·getD-map}
+use lib.ListN.{length, getD, set, length-set, List·getD-map}
 use lib.Seq.{map-set-same}
 use borrow.Author.Tests.{eqb-true, eq-eqb, ne-eqb, ltb-true, ltb-false}
 use Rattle.shelf.specs.Shelves.{placeFrom}
-use Rattle.shelf.specs.declared.Found.{Found}
-use Rattle.shelf.specs.declared.Found.the-variants.{At, Nothing}
+use Rattle.shelf.specs.declared.Found.the-variants.{At}
 use Rattle.line.specs.declared.Line.{Line}
 use Rattle.told.proofs.Grown.{decide}
 use Rattle.document.specs.Counters.{Counter, placeOf, Entry, entries, matches, times, hearingCounts}
@@ -63,6 +62,7 @@ pub same-numbers : (us : List Unit) (place : ℕ) (u : Unit) → numberOf u ≡ 
 same-numbers us place u e i =
     sym (List·getD-map numberOf (set us place u) i blank) ∙ ap (λ l. getD l i 0) (map-set-same numberOf us place u blank e) ∙ List·getD-map numberOf us i blank
 
+-- so none is there twice
 pub same-different : (us : List Unit) (place : ℕ) (u : Unit) → numberOf u ≡ numberOf (getD us place blank) → Different us → Different (set us place u)
 same-different us place u e once i j h k same =
     let l = length-set us place u in
@@ -114,6 +114,7 @@ found-from (u ∷ us) k number p e = pick (eqb (numberOf u) number) refl (found-
     pick true t later e = let q : k ≡ p = cc in (0, omega arith, omega arith, eqb-true (numberOf u) number t)
     pick false t later e = let w = later e in (suc (w .0), omega (arith, w .1), omega (arith, w .2), w .3)
 
+-- from the first place on
 pub found : (us : List Unit) (number p : ℕ) → findIn us number ≡ At p → (p < length us) × (numberOf (getD us p blank) ≡ number)
 found us number p e =
     let w = found-from us 0 number p e in

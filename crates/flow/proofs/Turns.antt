@@ -135,6 +135,7 @@ module _ (d d′ : Shelf) (e : Event) (i place : ℕ) (p : Part) (within : i < l
         because = λ x. x;
       }
 
+  -- at each
   pub one-unit : Does d d′ e i (cond (eqb i place) p rests)
   one-unit = go (eqb i place) refl
     where
@@ -180,6 +181,7 @@ module _ (d : Shelf) (i : ℕ) (within : i < length (d .units)) where
         (λ j apart. getD-set-other (d .units) place j _ blank apart)
         (ap (λ x. entries (numberOf (unitAt d place)) x ++ d .history) (sym (ap (λ x. tookBy x (unitAt d place)) l ∙ ap tookFrom s))) (λ x. x)
 
+    -- by the queue that it is to leave
     took : (l : L.Leaving) → leaving (unitAt d place) ≡ l → Does d (takesBy l d place buffer .shelf) e i (cond (eqb i place) takes rests)
     unfolding takesBy unitBy countsBy leftBy tookBy
     took (leaves.Queue q) l = took-from q l (queueAt (unitAt d place) q) refl
@@ -220,6 +222,7 @@ module _ (d : Shelf) (i : ℕ) (within : i < length (d .units)) where
             ap (λ us. getD us i blank) units
             ∙ heard-unit (d .lines) r without i (let l = length-set (d .units) place (withInlet (unitAt d place) rest) in omega arith)
 
+        -- the sender: it loses the cell, and hears it
         sender-does : i ≡ place → Does d d′ e i (sends r rest)
         unfolding unitBy countsBy
         sender-does q =
@@ -239,6 +242,7 @@ module _ (d : Shelf) (i : ℕ) (within : i < length (d .units)) where
               because = ap (λ j. unitAt d j .inlet) q ∙ oldest;
             }
 
+        -- another: it hears
         hearer-does : (i ≡ place → ⊥) → Does d d′ e i (hears (asHeard r) (r .cell .payload))
         unfolding unitBy countsBy
         hearer-does q =
@@ -256,6 +260,7 @@ module _ (d : Shelf) (i : ℕ) (within : i < length (d .units)) where
               because = inr (record { place = place; inside = inside; r = r; rest = rest; oldest = oldest; frame-is = refl; payload-is = refl });
             }
 
+        -- each
         all-do : Does d d′ e i (cond (eqb i place) (sends r rest) (hears (asHeard r) (r .cell .payload)))
         all-do = go (eqb i place) refl
           where
@@ -275,11 +280,13 @@ module _ (d : Shelf) (i : ℕ) (within : i < length (d .units)) where
           because = λ x. x;
         }
 
+    -- by the cells that wait
     sent-from : (place : ℕ) → place < length (d .units) → (buffer : List ℕ) (inlet : List Routed) → unitAt d place .inlet ≡ inlet → d′ .units ≡ sendsFrom inlet d place buffer .units → d′ .history ≡ sendsFrom inlet d place buffer .happened ++ d .history → Does d d′ e i (sending inlet place i)
     unfolding sendsFrom sending
     sent-from place inside buffer [] oldest units told = idle-does units told
     sent-from place inside buffer (r ∷ rest) oldest units told = all-do place inside r rest oldest units told
 
+    -- by the unit granted
     sent-does : (f : F.Found) → findIn (d .units) (d .granted) ≡ f → (buffer : List ℕ) → d′ .units ≡ sends·out f d buffer .units → d′ .history ≡ sends·out f d buffer .happened ++ d .history → Does d d′ e i (sendingBy f d i)
     unfolding sends·out sendingBy
     sent-does (At place) t buffer units told = sent-from place (found (d .units) (d .granted) place t .0) buffer (unitAt d place .inlet) refl units told

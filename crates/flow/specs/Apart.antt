@@ -1,7 +1,6 @@
 -- Demand: what is one unit's is no other's, and one event moves a cell once. Assumes nothing.
 use Prim.Native.Nat.{ℕ, _<_, _≤_}
 use mathlib.Core.Path.{_≡_}
-use mathlib.Core.List.{List}
 use mathlib.Core.Option.{Option, none, some}
 use lib.ListN.{length}
 use Rattle.document.specs.Counters.{Counter}

@@ -36,6 +36,6 @@ pub record Accounted (d : Shelf) (i : ℕ) : Type 0 where
 abbrev pub NothingLost : Type 0
 NothingLost = (lines : List Line) → Different (unitsOf lines) → (es : List Event) (i : ℕ) → i < length (unitsOf lines) → Accounted (becomes (opened lines) es) i
 
--- "Twice: unit declared again": the lines of a good table have no number twice, so all this holds of every shelf that a good load opens
+-- "unit declared again" is Twice: the lines of a good table have no number twice, so all this holds of every shelf that a good load opens
 abbrev pub NumbersOnce : Type 0
 NumbersOnce = (card : Card) (room : ℕ) (lines : List Line) → Good card room lines → Different (unitsOf lines)

@@ -1,7 +1,7 @@
 -- One unit's part in an event: what the unit in a place does when something happens to the shelf. Assumes nothing.
 use Prim.Native.Nat.{ℕ}
 use mathlib.Core.Bool.{Bool, true, false, cond, _&&_}
-use mathlib.Core.List.{List, [], _∷_, _++_}
+use mathlib.Core.List.{List, [], _∷_}
 use lib.Dec.{eqb, leb}
 use lib.ListN.{length, take}
 use Rattle.bus.specs.Frame.{heard, payload}
@@ -15,7 +15,7 @@ use Rattle.shelf.specs.declared.Found.the-variants.{At, Nothing}
 use Rattle.line.specs.declared.Line.{Line}
 use Rattle.document.specs.Events.{Event, arrive, frame, hear, take as takes·out, count}
 use Rattle.document.specs.Shelf.{Cell, Routed, Unit, Shelf, queueAt, withInlet, findIn, unitAt}
-use Rattle.document.specs.Arrival.{Way, goes, lost, wayOf, arrivalBy}
+use Rattle.document.specs.Arrival.{Way, goes, lost, wayOf}
 use Rattle.document.specs.Hearing.{addressed, hearingOf}
 use Rattle.document.specs.Frame.{asHeard, isQueued}
 use Rattle.document.specs.Take.{leaving}

@@ -2,7 +2,7 @@
 use Prim.Native.Nat.{ℕ, _<_}
 use mathlib.Core.Path.{_≡_}
 use mathlib.Core.Bool.{true}
-use mathlib.Core.List.{List, [], _∷_, List·Memᴰ as In}
+use mathlib.Core.List.{List, List·Memᴰ as In}
 use lib.ListN.{length, getD}
 use Rattle.octets.specs.Octets.{four, part}
 use Rattle.header.specs.Fields.{fields}
