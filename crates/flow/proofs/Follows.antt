@@ -1,0 +1,100 @@
+-- A cell that goes to the bus follows a line of the table. Assumes nothing.
+use Prim.Native.Nat.{ℕ}
+use native.Mathlib.Omega.{arith}
+use mathlib.Core.Path.{_≡_, refl, sym, ap, _∙_}
+use mathlib.Core.Logic.{_⊎_, inl, inr, ⊎-elim}
+use mathlib.Core.Bool.{Bool, true, false, cond, _&&_}
+use mathlib.Core.List.{List, [], _∷_, List·Memᴰ as In, List·Memᴰ·head, List·Memᴰ·tail}
+use mathlib.Core.Option.{Option, none, some}
+use lib.Dec.{eqb, ltb}
+use lib.ListN.{getD}
+use borrow.Author.Tests.{eqb-true}
+use Rattle.octets.specs.Octets.{four, part}
+use Rattle.header.specs.Check.{check}
+use Rattle.shelf.specs.declared.Settings.{Settings}
+use Rattle.line.specs.declared.Line.{Line}
+use Rattle.line.specs.declared.Line.the-variants.{Bus, Unit as L·Unit, Vp, Drop, Page, Vc, Mc}
+use Rattle.told.specs.Told.{only, either}
+use Rattle.promise.specs.Served.{Serving, by-vp, by-drop, by-vc, serves, served}
+use Rattle.answer.specs.declared.Arrival.the-variants.{Hec, Ignored, Misrouted}
+use Rattle.document.specs.Shelf.{Routed}
+use Rattle.document.specs.Arrival.{Way, goes, lost, wayBy, wayFor, wayOf}
+use Rattle.flow.specs.Street.{headerOf, Follows, by-path, by-circuit, LineFollowed}
+
+-- the line that says so
+abbrev lineOf : ℕ → ℕ → ℕ → Serving → Line
+lineOf u v w (by-vp target class outvpi) = Vp u v target class outvpi
+lineOf u v w by-drop = Drop u v
+lineOf u v w (by-vc target class outvpi outvci) = Vc u v w target class outvpi outvci
+
+-- one of two, and one that was asked for
+either-some : {A : Type 0} (a b : Option A) (x : A) → either a b ≡ some x → (a ≡ some x) ⊎ (b ≡ some x)
+either-some none b x e = inr e
+either-some (some a) b x e = inl e
+
+-- one that was asked for, and passed the test
+only-some : {A : Type 0} (b : Bool) (a x : A) → only b a ≡ some x → (b ≡ true) × (a ≡ x)
+only-some true a x e = (refl, cc)
+only-some false a x e = let z : _≡_ {A = ℕ} 0 1 = cc in absurd (omega arith)
+
+-- two tests
+both : (a b : Bool) → (a && b) ≡ true → (a ≡ true) × (b ≡ true)
+both true b e = (refl, e)
+both false b e = let z : _≡_ {A = ℕ} 0 1 = cc in absurd (omega arith)
+
+-- a line that serves is that line
+serves-line : (l : Line) (u v w : ℕ) (x : Serving) → serves l u v w ≡ some x → lineOf u v w x ≡ l
+unfolding serves
+serves-line (Bus bus) u v w x e = let z : _≡_ {A = ℕ} 0 1 = cc in absurd (omega arith)
+serves-line (L·Unit settings limits) u v w x e = let z : _≡_ {A = ℕ} 0 1 = cc in absurd (omega arith)
+serves-line (Vp a b target class outvpi) u v w x e =
+    let o = only-some (eqb u a && eqb v b) (by-vp target class outvpi) x e in
+    let t = both (eqb u a) (eqb v b) (o .0) in
+    ap (lineOf u v w) (sym (o .1)) ∙ (λ i. Vp (eqb-true u a (t .0) i) (eqb-true v b (t .1) i) target class outvpi)
+serves-line (Drop a b) u v w x e =
+    let o = only-some (eqb u a && eqb v b) by-drop x e in
+    let t = both (eqb u a) (eqb v b) (o .0) in
+    ap (lineOf u v w) (sym (o .1)) ∙ (λ i. Drop (eqb-true u a (t .0) i) (eqb-true v b (t .1) i))
+serves-line (Page a b top) u v w x e = let z : _≡_ {A = ℕ} 0 1 = cc in absurd (omega arith)
+serves-line (Vc a b c target class outvpi outvci) u v w x e =
+    let o = only-some ((eqb u a && eqb v b) && eqb w c) (by-vc target class outvpi outvci) x e in
+    let s = both (eqb u a && eqb v b) (eqb w c) (o .0) in
+    let t = both (eqb u a) (eqb v b) (s .0) in
+    ap (lineOf u v w) (sym (o .1)) ∙ (λ i. Vc (eqb-true u a (t .0) i) (eqb-true v b (t .1) i) (eqb-true w c (s .1) i) target class outvpi outvci)
+serves-line (Mc a session) u v w x e = let z : _≡_ {A = ℕ} 0 1 = cc in absurd (omega arith)
+
+-- and it is one of the lines
+served-line : (lines : List Line) (u v w : ℕ) (x : Serving) → served lines u v w ≡ some x → In (lineOf u v w x) lines
+unfolding served
+served-line [] u v w x e = let z : _≡_ {A = ℕ} 0 1 = cc in absurd (omega arith)
+served-line (l ∷ lines) u v w x e =
+    ⊎-elim (λ a. List·Memᴰ·head (serves-line l u v w x a)) (λ b. List·Memᴰ·tail (served-line lines u v w x b))
+    (either-some (serves l u v w) (served lines u v w) x e)
+
+-- a test on the way
+goes-on : (b : Bool) (x y : Way) (r : Routed) → (x ≡ goes r → ⊥) → cond b x y ≡ goes r → y ≡ goes r
+goes-on true x y r ends e = absurd (ends e)
+goes-on false x y r ends e = e
+
+-- the line that serves the cell
+by-line : (lines : List Line) (s : Settings) (bytes : List ℕ) (r : Routed) (o : Option Serving) → served lines (s .number) (headerOf s bytes .vpi) (headerOf s bytes .vci) ≡ o → wayBy o (headerOf s bytes) (part bytes 5 48) ≡ goes r → Follows lines s bytes r
+unfolding wayBy
+by-line lines s bytes r none t e = let z : _≡_ {A = ℕ} 0 1 = cc in absurd (omega arith)
+by-line lines s bytes r (some by-drop) t e = let z : _≡_ {A = ℕ} 0 1 = cc in absurd (omega arith)
+by-line lines s bytes r (some (by-vp target class outvpi)) t e =
+    by-path target class outvpi (served-line lines _ _ _ (by-vp target class outvpi) t) (cc)
+by-line lines s bytes r (some (by-vc target class outvpi outvci)) t e =
+    by-circuit target class outvpi outvci (served-line lines _ _ _ (by-vc target class outvpi outvci) t) (cc)
+
+-- a cell that goes on has passed the other tests
+pub line-followed : LineFollowed
+unfolding wayOf wayFor
+line-followed lines s bytes r e = go (eqb (check (four bytes 0)) (getD bytes 4 0)) e
+  where
+    go : (b : Bool) → cond b (wayFor lines s (headerOf s bytes) (part bytes 5 48)) (lost Hec) ≡ goes r → Follows lines s bytes r
+    go true e =
+        let h = headerOf s bytes in
+        by-line lines s bytes r (served lines (s .number) (h .vpi) (h .vci)) refl
+        (goes-on (ltb (s .top) (h .vpi)) (lost Misrouted) _ r (λ x. let z : _≡_ {A = ℕ} 0 1 = cc in omega arith)
+        (goes-on (eqb (h .vpi) 0 && eqb (h .vci) 0) (lost Ignored) _ r (λ x. let z : _≡_ {A = ℕ} 0 1 = cc in omega arith) e))
+    go false e = let z : _≡_ {A = ℕ} 0 1 = cc in absurd (omega arith)

@@ -1,0 +1,6 @@
+pub mod Parts
+pub mod Lost
+pub mod Order
+pub mod Counted
+pub mod Street
+pub mod Apart

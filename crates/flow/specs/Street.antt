@@ -1,0 +1,66 @@
+-- Demand: every cell goes down the right street. Assumes nothing.
+use Prim.Native.Nat.{ℕ, _<_}
+use mathlib.Core.Path.{_≡_}
+use mathlib.Core.Bool.{true}
+use mathlib.Core.List.{List, List·Memᴰ as In}
+use lib.ListN.{length, getD}
+use Rattle.octets.specs.Octets.{four, part}
+use Rattle.header.specs.Fields.{fields}
+use Rattle.header.specs.declared.Header as H
+use Rattle.bus.specs.Frame.{heard, payload}
+use Rattle.bus.specs.declared.Heard.the-variants as frames
+use Rattle.routing.specs.declared.Target.{Target}
+use Rattle.queueing.specs.Hearing.{queueOf}
+use Rattle.shelf.specs.declared.Settings.{Settings}
+use Rattle.line.specs.declared.Line.{Line}
+use Rattle.line.specs.declared.Line.the-variants.{Vp, Vc}
+use Rattle.document.specs.Events.{Event, arrive, hear}
+use Rattle.document.specs.Shelf.{Cell, Routed, Unit, numberOf, queueAt, blank, unitAt, unitsOf, opened}
+use Rattle.document.specs.Arrival.{goes, routed, wayOf}
+use Rattle.document.specs.Hearing.{addressed}
+use Rattle.document.specs.Steps.{becomes}
+use Rattle.flow.specs.Order.{takenAll, sentAll}
+
+-- the unit in place i, as its `unit` line declares it
+abbrev pub declaredAt : List Line → ℕ → Unit
+declaredAt lines i = getD (unitsOf lines) i blank
+
+-- a cell that waits for the bus: it arrived there, in these events, and the line that serves it gives its target, class and header; "PT and CLP are kept"
+pub record Arrived (lines : List Line) (es : List Event) (place : ℕ) (r : Routed) : Type 0 where
+  pub bytes : List ℕ
+  pub whole : length bytes ≡ 53
+  pub event : In (arrive (numberOf (declaredAt lines place)) bytes) es
+  pub way : wayOf lines (declaredAt lines place .settings) bytes ≡ goes r
+
+-- a target that addresses the unit in place i, and a class whose queue there is q
+pub record Addresses (lines : List Line) (i q : ℕ) (target : Target) (class : ℕ) : Type 0 where
+  pub addresses : addressed lines (declaredAt lines i) target ≡ true
+  pub queue : queueOf (declaredAt lines i .limits) class ≡ q
+
+-- a cell in queue q of the unit in place i: a cell that arrived at some unit and was sent, or that of a frame handed in
+pub data CameFrom (lines : List Line) (es : List Event) (i q : ℕ) (c : Cell) : Type 0 where
+  by-bus : (place : ℕ) (r : Routed) → place < length (unitsOf lines) → Arrived lines es place r → Addresses lines i q (r .target) (r .class) → c ≡ r .cell → CameFrom lines es i q c
+  by-hand : (f : List ℕ) (target : Target) (class header : ℕ) → In (hear (numberOf (declaredAt lines i)) f) es → heard f ≡ frames.Cell target class header → Addresses lines i q target class → c ≡ record { header = header; payload = payload f } → CameFrom lines es i q c
+
+-- "Not addressed: `other`": every cell held and every cell taken was meant for that unit, every cell that waits and every cell sent has arrived there
+pub record Streets (lines : List Line) (es : List Event) (i : ℕ) : Type 0 where
+  pub held : (q : ℕ) (c : Cell) → In c (queueAt (unitAt (becomes (opened lines) es) i) q) → CameFrom lines es i q c
+  pub taken : (q : ℕ) (c : Cell) → In c (takenAll (opened lines) es i q) → CameFrom lines es i q c
+  pub waiting : (r : Routed) → In r (unitAt (becomes (opened lines) es) i .inlet) → Arrived lines es i r
+  pub sent : (r : Routed) → In r (sentAll (opened lines) es i) → Arrived lines es i r
+
+abbrev pub RightStreet : Type 0
+RightStreet = (lines : List Line) (es : List Event) (i : ℕ) → i < length (unitsOf lines) → Streets lines es i
+
+-- the header of a cell, as the link of the unit at which it arrived reads it
+abbrev pub headerOf : Settings → List ℕ → H.Header
+headerOf s bytes = fields (s .link) (four bytes 0)
+
+-- "`vp` unit, VPI, target, class, outgoing VPI", "route, VCI kept"; "`vc` unit, VPI, VCI, target, class, outgoing VPI, outgoing VCI"; "PT and CLP are kept"
+pub data Follows (lines : List Line) (s : Settings) (bytes : List ℕ) (r : Routed) : Type 0 where
+  by-path : (target : Target) (class outvpi : ℕ) → In (Vp (s .number) (headerOf s bytes .vpi) target class outvpi) lines → r ≡ routed target class outvpi (headerOf s bytes .vci) (headerOf s bytes) (part bytes 5 48) → Follows lines s bytes r
+  by-circuit : (target : Target) (class outvpi outvci : ℕ) → In (Vc (s .number) (headerOf s bytes .vpi) (headerOf s bytes .vci) target class outvpi outvci) lines → r ≡ routed target class outvpi outvci (headerOf s bytes) (part bytes 5 48) → Follows lines s bytes r
+
+-- a cell that goes to the bus follows a line of the table: target, class, outgoing VPI and VCI are that line's, PT, CLP and payload the cell's
+abbrev pub LineFollowed : Type 0
+LineFollowed = (lines : List Line) (s : Settings) (bytes : List ℕ) (r : Routed) → wayOf lines s bytes ≡ goes r → Follows lines s bytes r
