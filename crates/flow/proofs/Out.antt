@@ -16,7 +16,7 @@ use Rattle.document.specs.Shelf.{Cell, Routed, Unit, queueAt, unitAt, opened}
 use Rattle.document.specs.Take.{leaving}
 use Rattle.document.proofs.Fixed.{given-stays}
 use Rattle.flow.specs.Parts.{Part, rests, arrives, hears, takes, sends, partOf, sentBy, oldestIn, takenBy}
-use Rattle.flow.specs.Order.{HandedOut, NoneOut, Framed, Idle}
+use Rattle.flow.specs.Order.{HandedOut, Framed}
 use Rattle.flow.specs.Out.{reached, RightlyTaken, TakenRight, RightlySent, SentRight}
 use Rattle.flow.proofs.Turns.{does}
 use Rattle.flow.proofs.Moves.{HasIt}
