@@ -8,3 +8,4 @@ pub mod Bytes
 pub mod Examples
 pub mod Apart
 pub mod Follows
+pub mod Out

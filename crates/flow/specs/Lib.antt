@@ -4,3 +4,4 @@ pub mod Order
 pub mod Counted
 pub mod Street
 pub mod Apart
+pub mod Out
