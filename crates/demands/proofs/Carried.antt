@@ -1,0 +1,72 @@
+-- The three demands are met. Assumes nothing.
+use Rattle.soundness.proofs.Facts.{sound-iff}
+use Rattle.promise.proofs.Refusals as tables
+use Rattle.promise.proofs.Values.{starred-hold}
+use Rattle.promise.proofs.Sheets.{check-sheet}
+use Rattle.running.proofs.Refused.{refused-iff, refusal-changes-nothing}
+use Rattle.running.proofs.Kept.{soundness-kept, never-state}
+use Rattle.running.proofs.Contracts.{steps, determined}
+use Rattle.refining.proofs.Refined.{refines, counters-are-history, too-wide, same-card}
+use Rattle.flow.proofs.Kept.{nothing-lost, in-order, counters-true}
+use Rattle.flow.proofs.Once.{numbers-once}
+use Rattle.flow.proofs.Bytes.{taken-handed, sent-framed, lowest-first}
+use Rattle.flow.proofs.Streets.{right-street}
+use Rattle.flow.proofs.Follows.{line-followed}
+use Rattle.flow.proofs.Apart.{once-only}
+use Rattle.flow.proofs.Out.{taken-right, sent-right}
+use Rattle.fates.proofs.Fated.{fate-iff}
+use Rattle.fates.proofs.Damages.{damaged-iff}
+use Rattle.fates.proofs.Holding.{held-means-held}
+use Rattle.fates.proofs.Going.{frames-go-on}
+use Rattle.fates.proofs.Cleaned.{clean-table-clean-bus}
+use Rattle.fates.proofs.Isolated.{isolation}
+use Rattle.witness.proofs.Witnessed.{all-run, refusals, spoiled-state}
+use Rattle.demands.specs.Demands.{Demand1, Demand2, Demand3, Witnessed}
+
+pub demand-1 : Demand1
+demand-1 =
+    record {
+      table-refused-iff = tables.refused-iff;
+      either-way = tables.either-way;
+      refused-table-zeroes = tables.refused;
+      refused-iff = refused-iff;
+      sound-iff = sound-iff;
+      refusal-changes-nothing = refusal-changes-nothing;
+      soundness-kept = soundness-kept;
+      never-state = never-state;
+      steps = steps;
+      determined = determined;
+    }
+
+pub demand-2 : Demand2
+demand-2 =
+    record {
+      starred-hold = starred-hold;
+      check-sheet = check-sheet;
+      refines = refines;
+      fate-iff = fate-iff;
+      damaged-iff = damaged-iff;
+      held-means-held = held-means-held;
+      nothing-lost = nothing-lost;
+      counters-are-history = counters-are-history;
+      counters-true = counters-true;
+      numbers-once = numbers-once;
+      frames-go-on = frames-go-on;
+      clean-table-clean-bus = clean-table-clean-bus;
+      in-order = in-order;
+      taken-handed = taken-handed;
+      sent-framed = sent-framed;
+      lowest-first = lowest-first;
+      right-street = right-street;
+      line-followed = line-followed;
+      once-only = once-only;
+      taken-right = taken-right;
+      sent-right = sent-right;
+      isolation = isolation;
+    }
+
+pub demand-3 : Demand3
+demand-3 = record { too-wide = too-wide; same-card = same-card }
+
+pub witnessed : Witnessed
+witnessed = record { all-run = all-run; refusals = refusals; spoiled = spoiled-state }

@@ -1,0 +1,1 @@
+// The three demands, each sentence as a theorem, in one place. It has no function of its own.
