@@ -4,7 +4,7 @@ use Rattle.promise.proofs.Refusals as tables
 use Rattle.promise.proofs.Values.{starred-hold}
 use Rattle.promise.proofs.Sheets.{check-sheet}
 use Rattle.running.proofs.Refused.{refused-iff, refusal-changes-nothing}
-use Rattle.running.proofs.Kept.{soundness-kept, never-state}
+use Rattle.running.proofs.Kept.{soundness-kept, refused-table-zeroes, never-state}
 use Rattle.running.proofs.Contracts.{steps, determined}
 use Rattle.refining.proofs.Refined.{refines, counters-are-history, too-wide, same-card}
 use Rattle.flow.proofs.Kept.{nothing-lost, in-order, counters-true}
@@ -20,7 +20,7 @@ use Rattle.fates.proofs.Holding.{held-means-held}
 use Rattle.fates.proofs.Going.{frames-go-on}
 use Rattle.fates.proofs.Cleaned.{clean-table-clean-bus}
 use Rattle.fates.proofs.Isolated.{isolation}
-use Rattle.witness.proofs.Witnessed.{all-run, refusals, spoiled-state}
+use Rattle.witness.proofs.Witnessed.{all-run, refusals, spoiled-state, beyond-loaded}
 use Rattle.demands.specs.Demands.{Demand1, Demand2, Demand3, Witnessed}
 
 pub demand-1 : Demand1
@@ -28,7 +28,8 @@ demand-1 =
     record {
       table-refused-iff = tables.refused-iff;
       either-way = tables.either-way;
-      refused-table-zeroes = tables.refused;
+      table-loaded-iff = tables.loaded-iff;
+      refused-table-zeroes = refused-table-zeroes;
       refused-iff = refused-iff;
       sound-iff = sound-iff;
       refusal-changes-nothing = refusal-changes-nothing;
@@ -69,4 +70,4 @@ pub demand-3 : Demand3
 demand-3 = record { too-wide = too-wide; same-card = same-card }
 
 pub witnessed : Witnessed
-witnessed = record { all-run = all-run; refusals = refusals; spoiled = spoiled-state }
+witnessed = record { all-run = all-run; refusals = refusals; spoiled = spoiled-state; beyond-loaded = beyond-loaded }

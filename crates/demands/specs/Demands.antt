@@ -1,5 +1,5 @@
 -- The three demands: each sentence, and the statement that carries it. Assumes nothing.
-use Prim.Native.Nat.{ℕ, _<_}
+use Prim.Native.Nat.{ℕ, _*_, _<_}
 use mathlib.Core.Path.{_≡_}
 use mathlib.Core.Logic.{_⊎_, _↔_}
 use mathlib.Core.Bool.{true}
@@ -7,17 +7,18 @@ use mathlib.Core.List.{List}
 use lib.Dec.{T}
 use Rattle.routing.specs.Routing.{check}
 use Rattle.card.specs.declared.Card.{Card}
-use Rattle.record.specs.Record.{cleared}
+use Rattle.record.specs.Record.{size}
 use Rattle.shelf.specs.declared.Shelf.{Shelf}
 use Rattle.soundness.specs.State.{soundOf, Sound}
 use Rattle.line.specs.declared.Line.{Line}
-use Rattle.table.specs.declared.Outcome.the-variants.{Refused}
-use Rattle.table.specs.Load.{refusal, load, loaded}
+use Rattle.told.specs.Told.{total}
+use Rattle.table.specs.declared.Outcome.the-variants.{Loaded, Refused}
+use Rattle.table.specs.Load.{load}
 use Rattle.promise.specs.Refusals.{Accepts, Refuses}
 use Rattle.promise.specs.Sheet.{sheet}
 use Rattle.promise.specs.Starred.{starred, all-hold}
 use Rattle.running.specs.Refusing.{RefusedIff, RefusalChangesNothing}
-use Rattle.running.specs.Keeping.{SoundnessKept, NeverState}
+use Rattle.running.specs.Keeping.{SoundnessKept, RefusedTableZeroes, NeverState}
 use Rattle.running.specs.Contracts.{Steps, Determined}
 use Rattle.refining.specs.Refines.{Refines, CountersAreHistory}
 use Rattle.refining.specs.Cards.{TooWide, SameCard}
@@ -33,7 +34,7 @@ use Rattle.fates.specs.Held.{HeldMeansHeld}
 use Rattle.fates.specs.Frames.{FramesGoOn}
 use Rattle.fates.specs.Clean.{CleanTableCleanBus}
 use Rattle.fates.specs.Isolation.{Isolation}
-use Rattle.witness.specs.Witness.{AllRun, Refusals, Spoiled}
+use Rattle.witness.specs.Witness.{AllRun, Refusals, Spoiled, BeyondLoaded}
 
 -- 1. "Every entry point takes every input, finishes, and does nothing undefined": that is Rattle's own theorem of each function, and the six of `entry` have no `requires`
 pub record Demand1 : Type 0 where
@@ -42,9 +43,10 @@ pub record Demand1 : Type 0 where
       (load card text memory store rows .outcome ≡ Refused number line) ↔ Refuses card text memory store rows number line
   pub either-way : (card : Card) (text memory : List ℕ) (store rows : ℕ) →
       ((told : List Line) × Accepts card text memory store rows told) ⊎ ((number : ℕ) × (line : ℕ) × Refuses card text memory store rows number line)
-  -- "A refused table leaves the translation memory zeroed", with a fresh 16 bus
-  pub refused-table-zeroes : (card : Card) (text memory : List ℕ) (store rows number line : ℕ) → Refuses card text memory store rows number line →
-      (load card text memory store rows ≡ refusal (Refused number line)) × (loaded card text memory store rows ≡ cleared memory)
+  pub table-loaded-iff : (card : Card) (text memory : List ℕ) (store rows used : ℕ) →
+      (load card text memory store rows .outcome ≡ Loaded used) ↔ ((told : List Line) × Accepts card text memory store rows told × (used ≡ size * total told))
+  -- "A refused table leaves the translation memory zeroed", gives back a fresh 16 bus, touches neither store nor rows
+  pub refused-table-zeroes : RefusedTableZeroes
   -- "a bad .. frame, cell, buffer or shelf state is refused with a fixed number": each of 8 to 10, over every event; State item by item
   pub refused-iff : RefusedIff
   pub sound-iff : (card : Card) (shelf : Shelf) (store rows : ℕ) → (soundOf card shelf store rows ≡ true) ↔ Sound card shelf store rows
@@ -100,3 +102,4 @@ pub record Witnessed : Type 0 where
   pub all-run : AllRun
   pub refusals : Refusals
   pub spoiled : Spoiled
+  pub beyond-loaded : BeyondLoaded

@@ -106,7 +106,7 @@ given-kept d (hear unit f) =
     (λ number. refl)
 given-kept d (take unit buffer) =
     at-unit (Keeps d) (findIn (d .units) unit) (eqb (length buffer) 53) _ _ (λ place. took (leaving (unitAt d place)) d place buffer) (λ number. refl)
-given-kept d (count unit) = at-unit (Keeps d) (findIn (d .units) unit) (eqb 0 0) _ _ (λ place. refl) (λ number. refl)
+given-kept d (count unit) = at-unit (Keeps d) (findIn (d .units) unit) true _ _ (λ place. refl) (λ number. refl)
 
 -- over every sequence of events
 pub given-stays : (d : Shelf) (es : List Event) → given (becomes d es) ≡ given d

@@ -60,7 +60,7 @@ withInlet u inlet = record { settings = u .settings; limits = u .limits; inlet =
 abbrev pub withQueue : Unit → ℕ → List Cell → Unit
 withQueue u q cells = record { settings = u .settings; limits = u .limits; inlet = u .inlet; queues = set (u .queues) q cells }
 
--- the place of the unit with a number, the unit in a place, and the shelf with another unit there
+-- the place of the unit with a number, and the unit in a place
 abbrev pub findIn : List Unit → ℕ → Found
 findIn us number = placeFrom 0 (map numberOf us) number
 

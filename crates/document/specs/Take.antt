@@ -34,7 +34,7 @@ marks u = u .limits .mark && congested (u .limits .mode) u
 abbrev pub handed : Unit → Cell → List ℕ
 handed u c = lineCell (outgoing (u .settings .link) (marks u) (c .header)) (c .payload)
 
--- what is left when a take has been at a unit: what it says, the unit, the bytes, what the history counts
+-- what is left when a take has been at a unit: what it says, the shelf with its history, the bytes
 pub record Took : Type 0 where
   pub answer : A.Answer
   pub shelf : Shelf

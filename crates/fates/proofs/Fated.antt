@@ -32,7 +32,7 @@ use Rattle.answer.specs.declared.Answer.the-variants.{Arrived, Heard}
 use Rattle.document.specs.Events.{answers}
 use Rattle.document.specs.Counters.{entries, arrivalCounts, hearingCounts}
 use Rattle.document.specs.Shelf.{Unit as D·Unit, numberOf, unitAt}
-use Rattle.document.specs.Arrival.{goes, lost, wayBy, wayFor, wayOf, arrivalBy, arrivalOf, arrived}
+use Rattle.document.specs.Arrival.{lost, wayBy, wayFor, wayOf, arrivalBy, arrivalOf, arrived}
 use Rattle.document.specs.Hearing.{addressed, fateIn, hearingOf, handedIn}
 use Rattle.document.specs.Steps.{admitted, happensTo}
 use Rattle.fates.specs.Fates.{headerAt, Zeros, lineFor, Routes, Goes, ArrivalIs, Has, LineIs, Addressed, Fits, room, limitOf, heldOf, HearingIs, ArrivalFateIff, HearingFateIff, FateCounted, FateIff}

@@ -100,7 +100,7 @@ full-kept d (hear unit f) full = at-unit (λ s. Full (s .shelf)) (D.findIn (d .u
 full-kept d (take unit buffer) full =
     at-unit (λ s. Full (s .shelf)) (D.findIn (d .units) unit) (eqb (length buffer) 53) _ _
     (λ place. ap (λ a. length (a .asks)) (took (T.leaving (D.unitAt d place)) d place buffer) ∙ full) (λ number. full)
-full-kept d (count unit) full = at-unit (λ s. Full (s .shelf)) (D.findIn (d .units) unit) (eqb 0 0) _ _ (λ place. full) (λ number. full)
+full-kept d (count unit) full = at-unit (λ s. Full (s .shelf)) (D.findIn (d .units) unit) true _ _ (λ place. full) (λ number. full)
 
 -- over every sequence
 full-stays : (d : D.Shelf) (es : List Event) → Full d → Full (document.becomes d es)

@@ -309,6 +309,6 @@ does d (takes·out unit buffer) i within =
     (λ place inside named right. took d i within (takes·out unit buffer) place inside buffer (leaving (unitAt d place)) refl) (λ k. still d (takes·out unit buffer) i)
 does d (count unit) i within = count-does (findIn (d .units) unit)
   where
-    count-does : (f : F.Found) → Does d (admitted f (eqb 0 0) (λ place. step (counts (countersOf (d .history) (numberOf (unitAt d place)))) d []) (λ number. refused d number []) .shelf) (count unit) i rests
+    count-does : (f : F.Found) → Does d (admitted f true (λ place. step (counts (countersOf (d .history) (numberOf (unitAt d place)))) d []) (λ number. refused d number []) .shelf) (count unit) i rests
     count-does (At place) = still d (count unit) i
     count-does Nothing = still d (count unit) i

@@ -1,7 +1,6 @@
 -- What the requests of a sound shelf are once they are renewed. Assumes nothing.
 use Prim.Native.Nat.{ℕ, zero, suc, _+_, _<_, _≤_}
 use native.Mathlib.Omega.{arith}
-use native.Mathlib.Numerals.{unary-clauses}
 use mathlib.Core.Path.{_≡_, refl, sym, ap, subst, _∙_}
 use mathlib.Core.Logic.{_⊎_, inl, inr, ⊎-elim}
 use mathlib.Core.Bool.{Bool, true, false, cond}
@@ -16,7 +15,7 @@ use Rattle.store.proofs.Slots.{by-lt}
 use Rattle.shelf.specs.Shelves.{declared, blank, numberOf}
 use Rattle.shelf.specs.declared.Unit as U
 use Rattle.shelf.specs.declared.Shelf.{Shelf}
-use Rattle.soundness.specs.State.{UnitSound, DeclaredIn, Sound}
+use Rattle.soundness.specs.State.{DeclaredIn, Sound}
 use Rattle.framing.specs.Requests.{asksNow, askingOf, askingNow, requests}
 use Rattle.running.proofs.Changed.{set-or}
 

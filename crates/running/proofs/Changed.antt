@@ -10,10 +10,9 @@ use lib.ListN.{length, length-set, getD, set, length-take}
 use lib.Seq.{getD-set-same, getD-set-other, set-out, take-set-lt}
 use borrow.Author.Tests.{eqb-true, eqb-false, ltb-true, ltb-false}
 use Rattle.card.specs.declared.Card.{Card}
-use Rattle.outlet.specs.Outlets.{Given, RingFits, RingsFit, queue, capacity, empty}
+use Rattle.outlet.specs.Outlets.{Given, RingFits, RingsFit, capacity, empty}
 use Rattle.outlet.specs.declared.Ring.{Ring}
 use Rattle.outlet.specs.declared.Outlet.{Outlet}
-use Rattle.arbiter.specs.Arbitration.{nobody, besides}
 use Rattle.shelf.specs.Shelves.{declared, blank, numberOf}
 use Rattle.shelf.specs.declared.Unit as U
 use Rattle.shelf.specs.declared.Shelf.{Shelf}

@@ -1,7 +1,7 @@
 -- A copy of a cell at a unit: what it leaves of the unit and of the store. Assumes nothing.
 use Prim.Native.Nat.{ℕ, _+_, _<_, _≤_}
 use native.Mathlib.Omega.{arith}
-use mathlib.Core.Path.{_≡_, refl, sym, ap, subst, _∙_}
+use mathlib.Core.Path.{_≡_, refl, subst}
 use mathlib.Core.Bool.{Bool, true, false, cond}
 use mathlib.Core.List.{List}
 use lib.ListN.{length}
@@ -19,7 +19,7 @@ use Rattle.store.proofs.Rounds.{pushed-fits}
 use Rattle.store.proofs.Slots.{start-inside}
 use Rattle.shelf.specs.declared.Unit as U
 use Rattle.answer.specs.declared.Hearing.the-variants.{Other}
-use Rattle.admit.specs.Admission.{withQueue, Housed}
+use Rattle.admit.specs.Admission.{Housed}
 use Rattle.hearing.specs.Hearings as hearing
 use Rattle.hearing.specs.declared.Plan as P
 use Rattle.hearing.specs.declared.Plan.the-variants as plans

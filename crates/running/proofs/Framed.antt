@@ -8,14 +8,14 @@ use mathlib.Core.List.{List, [], _∷_}
 use lib.Dec.{eqb}
 use lib.ListN.{length, length-take, length-set, getD, set, take}
 use lib.Seq.{getD-set-same, getD-set-other}
-use borrow.Author.Tests.{eqb-true, eqb-false, ne-eqb}
+use borrow.Author.Tests.{eqb-false, ne-eqb}
 use Rattle.header.specs.Fields.{highest as highestOf}
 use Rattle.header.specs.declared.Link.the-variants.{Nni}
 use Rattle.card.specs.declared.Card.{Card}
 use Rattle.card.specs.declared.Card.the-variants.{Wide}
-use Rattle.arbiter.specs.Arbitration.{nobody, besides, highest, turn, lastAt, cyclic, noGrant, grantTo, granted, arbiterOf}
+use Rattle.arbiter.specs.Arbitration.{nobody, besides, highest, turn, noGrant, grantTo, granted, arbiterOf}
 use Rattle.arbiter.specs.declared.Grant.{Grant}
-use Rattle.arbiter.proofs.Grants.{turn-first, turn-unit, top-most}
+use Rattle.arbiter.proofs.Grants.{turn-first, turn-unit}
 use Rattle.arbiter.proofs.Requests.{same-or}
 use Rattle.bus.specs.Frame.{heard}
 use Rattle.store.specs.Places.{cellAt, inletSlot}

@@ -1,10 +1,10 @@
 -- Soundness is kept by every event. Assumes nothing.
-use Prim.Native.Nat.{ℕ, _+_, _<_, _≤_, min}
+use Prim.Native.Nat.{ℕ, _<_, _≤_}
 use native.Mathlib.Omega.{arith}
 use mathlib.Core.Path.{_≡_, refl, sym, ap, subst, _∙_}
 use mathlib.Core.Bool.{Bool, true, false, cond, false≢true}
 use mathlib.Core.List.{List, [], _∷_, _++_}
-use lib.Dec.{eqb, leb}
+use lib.Dec.{eqb}
 use lib.ListN.{length, length-append, length-take, length-drop, take, drop}
 use borrow.Author.Tests.{eqb-true, leb-false}
 use Rattle.octets.specs.Octets.{part, be2, be4}
@@ -22,7 +22,7 @@ use Rattle.queueing.proofs.Leaves.{leaving-iff}
 use Rattle.store.specs.Places.{putAt, inletSlot}
 use Rattle.store.specs.Rings.{tail, pushed, popped}
 use Rattle.store.proofs.Rounds.{pushed-fits, popped-fits}
-use Rattle.shelf.specs.Shelves.{declared, findIn}
+use Rattle.shelf.specs.Shelves.{declared}
 use Rattle.shelf.specs.declared.Unit as U
 use Rattle.shelf.specs.declared.Shelf.{Shelf}
 use Rattle.shelf.proofs.Finding.{find-at}
@@ -36,7 +36,7 @@ use Rattle.answer.specs.declared.Arrival.the-variants.{Inletfull, Queued}
 use Rattle.admit.specs.Admission.{admitted, decided, unitAt, withUnit, withQueue, Housed}
 use Rattle.admit.specs.declared.Admitted as A
 use Rattle.admit.specs.declared.Admitted.the-variants.{At, Refused}
-use Rattle.admit.proofs.Laws.{LetIn, at-let-in, let-in-housed}
+use Rattle.admit.proofs.Laws.{at-let-in, let-in-housed}
 use Rattle.arriving.specs.Arriving as arriving
 use Rattle.arriving.specs.declared.Way.{Way}
 use Rattle.arriving.specs.declared.Way.the-variants.{Bus, Lost}
@@ -44,11 +44,12 @@ use Rattle.arriving.proofs.Leaves.{inlet-inside}
 use Rattle.hearing.specs.Hearings as hearing
 use Rattle.taking.specs.Takes as taking
 use Rattle.framing.specs.Frames as framing
-use Rattle.loading.specs.Loads.{loadDone}
+use Rattle.loading.specs.Loads.{answerOf, doneOf, loadDone}
+use Rattle.promise.proofs.Refusals.{refused as table-refused}
 use Rattle.promise.proofs.Loads.{load-sound}
 use Rattle.document.specs.Events.{Event, arrive, frame, hear, take as takes, count, numberSaid}
 use Rattle.running.specs.Events.{World, happens}
-use Rattle.running.specs.Keeping.{soundIn, SoundnessKept, run, loaded, NeverState}
+use Rattle.running.specs.Keeping.{soundIn, SoundnessKept, run, loaded, RefusedTableZeroes, NeverState}
 use Rattle.running.specs.Refusing.{known, fits}
 use Rattle.running.proofs.Refused.{refused-iff}
 use Rattle.running.proofs.Framed.{frame-shelf, frame-store}
@@ -201,3 +202,10 @@ never-state card text memory store rows es e =
     not-state card (run card (loaded card text memory store rows) es) e
     (runs-kept card (loaded card text memory store rows) es
     (ap (soundOf card (done .reply .shelf) (length store)) (length-settled rows (done .rises) (done .rises .to)) ∙ load-sound card text memory (length store) (length rows)))
+
+-- a refused table: the load is `refusal`, whose shelf has no units, so that no row is settled
+pub refused-table-zeroes : RefusedTableZeroes
+unfolding answerOf settledTo
+refused-table-zeroes card text memory store rows number line r =
+    let k = table-refused card text memory (length store) (length rows) number line r in
+    (ap (λ x. answerOf (x .outcome)) (k .0), λ t. record { shelf = k .0 t .shelf; memory = k .1 t; store = store; rows = settled rows (doneOf (k .0 t) .rises) })

@@ -1,6 +1,6 @@
 -- Refusals 8 to 10 over every event. Assumes nothing.
 use Prim.Native.Nat.{ℕ}
-use mathlib.Core.Path.{_≡_, refl, sym, ap, subst, _∙_}
+use mathlib.Core.Path.{_≡_, refl, sym, ap, _∙_}
 use mathlib.Core.Bool.{Bool, true, false, cond}
 use mathlib.Core.List.{List, []}
 use lib.Dec.{eqb}
@@ -32,7 +32,7 @@ use Rattle.entry.specs.Counts.{counted}
 use Rattle.entry.specs.declared.Counted.the-variants as Counted
 use Rattle.answer.specs.declared.Arrival.the-variants.{Inletfull, Queued}
 use Rattle.answer.specs.declared.Answer.the-variants as answer
-use Rattle.document.specs.Events.{Event, arrive, frame, hear, take, count, bytesOf, answers, counts, numberSaid}
+use Rattle.document.specs.Events.{Event, arrive, frame, hear, take, count, bytesOf, answers, numberSaid}
 use Rattle.running.specs.Events.{World, Outcome, ended, countSaid, happens}
 use Rattle.running.specs.Refusing.{there, known, fits, refusal, RefusedIff, RefusalChangesNothing}
 

@@ -1,12 +1,11 @@
 -- A frame has been sent and heard: what is left of the units and of the store. Assumes nothing.
-use Prim.Native.Nat.{ℕ, zero, suc, _+_, _<_, _≤_}
+use Prim.Native.Nat.{ℕ, suc, _+_, _<_, _≤_}
 use native.Mathlib.Omega.{arith}
 use mathlib.Core.Path.{_≡_, refl, sym, ap, subst, _∙_}
 use mathlib.Core.Logic.{_⊎_, inl, inr, ⊎-elim}
-use mathlib.Core.Bool.{true, cond}
 use mathlib.Core.List.{List, [], _∷_}
 use lib.Dec.{eqb}
-use lib.ListN.{length, length-set, length-take, getD, set}
+use lib.ListN.{length, length-set, length-take, getD}
 use borrow.Author.Tests.{eq-eqb}
 use Rattle.arbiter.specs.Arbitration.{besides}
 use Rattle.bus.specs.declared.Heard as H
@@ -20,7 +19,7 @@ use Rattle.shelf.specs.declared.Shelf.{Shelf}
 use Rattle.shelf.proofs.Finding.{declared-at}
 use Rattle.admit.specs.Admission.{unitAt, withUnit, withInlet, Housed}
 use Rattle.hearing.specs.Hearings.{copyOf, storeOf}
-use Rattle.framing.specs.Sending.{silence, after, heardFrom, storeFrom, heardByAll, cellOut}
+use Rattle.framing.specs.Sending.{silence, after, heardFrom, storeFrom, heardByAll}
 use Rattle.framing.specs.declared.Listened.{Listened}
 use Rattle.running.proofs.Changed.{set-or}
 use Rattle.running.proofs.Copies.{Copied, copied, store-kept}

@@ -12,7 +12,7 @@ use Rattle.shelf.specs.declared.Found.the-variants.{At, Nothing}
 use Rattle.soundness.specs.State.{soundOf}
 use Rattle.answer.specs.declared.Answer.the-variants.{Refused}
 use Rattle.document.specs.Events.{Event, arrive, frame, hear, take, count, bytesOf, answers, numberSaid}
-use Rattle.running.specs.Events.{World, Outcome, happens}
+use Rattle.running.specs.Events.{World, happens}
 
 unfoldable pub there : F.Found → Bool
 there (At place) = true

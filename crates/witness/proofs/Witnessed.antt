@@ -4,7 +4,7 @@ use native.Mathlib.Omega.{arith}
 use mathlib.Core.Path.{_≡_, refl, sym, ap, subst, _∙_}
 use mathlib.Core.Logic.{⊎-elim}
 use mathlib.Core.Bool.{true, false, cond}
-use mathlib.Core.List.{List, [], map}
+use mathlib.Core.List.{List, [], _∷_, map}
 use lib.Dec.{ltb}
 use lib.ListN.{length, getD, take, drop, replicate, length-replicate}
 use Rattle.card.specs.Cards.{holds as card-holds, narrowHolds}
@@ -20,7 +20,8 @@ use Rattle.judge.specs.Judge.{judgeBus, judgeUnit, judgeVp, judgeDrop, judgePag
 use Rattle.told.specs.Told.{same as same-whose, opens, gives as gives-record, hearsBy, topOf, total, recordOf, hearsIn, declare, joinAt, shelfBy, shelfOf}
 use Rattle.told.specs.Lines.{judge, run, Good}
 use Rattle.table.specs.declared.Outcome.the-variants as outcome
-use Rattle.line.specs.declared.Line.the-variants.{Bus}
+use Rattle.line.specs.declared.Line.{Line}
+use Rattle.line.specs.declared.Line.the-variants.{Bus, Unit as L·Unit, Vp, Drop, Page, Vc, Mc}
 use Rattle.told.proofs.Grown.{decide}
 use Rattle.promise.specs.Narrow.{tooWide, FirstWide}
 use Rattle.promise.proofs.Cards.{narrow-refuses-iff}
@@ -30,18 +31,22 @@ use Rattle.table.specs.Load.{readingsOf, isLong, ranOf, loadingOf, load}
 use Rattle.counters.specs.declared.Counters as C
 use Rattle.answer.specs.declared.Answer.the-variants.{Loaded, Unloaded, Refused}
 use Rattle.loading.specs.Loads.{answerOf}
-use Rattle.soundness.specs.State.{soundOf}
+use Rattle.outlet.specs.Outlets.{capacity, given, ringFits, queueFits, ringsFit}
+use Rattle.soundness.specs.State.{every, among, noneRepeated, framed, settingsGiven, asksKnown, arbiterKnown, soundOf}
 use Rattle.soundness.proofs.Facts.{sound-iff}
-use Rattle.shelf.specs.Shelves.{fresh, findIn, placeFrom}
+use Rattle.shelf.specs.Shelves.{declared, fresh, findIn, placeFrom}
+use Rattle.shelf.specs.declared.Shelf.{Shelf}
+use Rattle.shelf.specs.declared.Found.{Found}
+use Rattle.shelf.specs.declared.Found.the-variants.{At, Nothing}
 use Rattle.promise.specs.Refusals.{linesOf, readThen, Accepts}
 use Rattle.promise.specs.Starred.{path}
-use Rattle.promise.proofs.Refusals.{accepted}
+use Rattle.promise.proofs.Refusals.{accepted, refused, either-way}
 use Rattle.document.specs.Events.{Event, Said, answers}
 use Rattle.document.specs.Shelf.{opened}
 use Rattle.document.specs.Cases.{table}
 use Rattle.document.proofs.Cases.{arrivals-hold, heard-holds, discards-hold, frames-hold, refusals-hold}
 use Rattle.refining.proofs.Refined.{refines}
-use Rattle.witness.specs.Witness.{text, answerTo, saidTo, Runs, AllRun, Refusals, Spoiled, spoiled}
+use Rattle.witness.specs.Witness.{text, answerTo, saidTo, Runs, AllRun, Refusals, Spoiled, spoiled, BeyondLoaded}
 
 -- the text is read as the table's lines
 read : linesOf text ≡ readThen table []
@@ -143,3 +148,31 @@ pub spoiled-state : Spoiled
 spoiled-state card e =
     let eight : refusal card spoiled e ≡ 8 = ap (λ b. cond b (cond (known (fresh 17) e) (cond (fits e) 0 10) 9) 8) (unsound card) in
     ap (λ o. o .said) (refusal-changes-nothing card spoiled e (λ z. omega (arith, z, eight))) ∙ ap (λ n. answers (Refused n)) eight
+
+-- a shelf that was loaded has no frame behind it
+joined-frame : (shelf : Shelf) (f : Found) (session : ℕ) → joinAt shelf f session .frame ≡ shelf .frame
+unfolding joinAt
+joined-frame shelf (At i) session = refl
+joined-frame shelf Nothing session = refl
+
+shelf-frame : (told : List Line) → shelfOf told .frame ≡ 0
+unfolding shelfOf shelfBy declare
+shelf-frame [] = refl
+shelf-frame (Bus bus ∷ told) = refl
+shelf-frame (L·Unit settings limits ∷ told) = shelf-frame told
+shelf-frame (Vp u v target class outvpi ∷ told) = shelf-frame told
+shelf-frame (Drop u v ∷ told) = shelf-frame told
+shelf-frame (Page u v top ∷ told) = shelf-frame told
+shelf-frame (Vc u v w target class outvpi outvci ∷ told) = shelf-frame told
+shelf-frame (Mc u session ∷ told) = joined-frame (shelfOf told) (findIn (declared (shelfOf told)) u) session ∙ shelf-frame told
+
+loaded-frame : (card : Card) (text memory : List ℕ) (store rows : ℕ) → load card text memory store rows .shelf .frame ≡ 0
+loaded-frame card text memory store rows =
+    ⊎-elim
+    (λ a. ap (λ x. x .shelf .frame) (accepted card text memory store rows (a .0) (a .1) .0) ∙ shelf-frame (a .0))
+    (λ r. ap (λ x. x .shelf .frame) (refused card text memory store rows (r .0) (r .1) (r .2) .0))
+    (either-way card text memory store rows)
+
+pub beyond-loaded : BeyondLoaded
+unfolding soundOf framed settingsGiven given capacity ringFits queueFits ringsFit card-holds narrowHolds every among noneRepeated asksKnown arbiterKnown
+beyond-loaded = (refl, λ card text memory store rows e. let z = ap (λ s. s .frame) e in omega (arith, z, loaded-frame card text memory store rows))

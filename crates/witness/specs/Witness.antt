@@ -1,11 +1,18 @@
 -- That the promises are not empty: a table, and runs in which every fate and every refusal occurs. Assumes nothing.
 use Prim.Native.Nat.{ℕ}
 use mathlib.Core.Path.{_≡_}
+use mathlib.Core.Bool.{true, false}
 use mathlib.Core.List.{List, [], _∷_, _++_, map}
-use lib.ListN.{length, replicate}
+use lib.ListN.{length, set, replicate}
 use Rattle.card.specs.declared.Card.{Card}
 use Rattle.card.specs.declared.Card.the-variants.{Narrow, Wide}
-use Rattle.shelf.specs.Shelves.{fresh}
+use Rattle.header.specs.declared.Link.the-variants.{Uni}
+use Rattle.outlet.specs.Outlets.{empty, one}
+use Rattle.arbiter.specs.Arbitration.{nobody}
+use Rattle.shelf.specs.Shelves.{blank, fresh}
+use Rattle.shelf.specs.declared.Shelf.{Shelf}
+use Rattle.soundness.specs.State.{soundOf}
+use Rattle.table.specs.Load.{load}
 use Rattle.counters.specs.declared.Counters as C
 use Rattle.answer.specs.declared.Answer.the-variants.{Loaded, Unloaded, Refused}
 use Rattle.answer.specs.declared.Answer as A
@@ -75,3 +82,27 @@ spoiled = record { shelf = fresh 17; memory = []; store = []; rows = [] }
 
 abbrev pub Spoiled : Type 0
 Spoiled = (card : Card) (e : Event) → happens card spoiled e .said ≡ answers (Refused 8)
+
+-- sound shelves are not only those that loading gives back: a unit with two cells from the last place of its inlet on, one of them granted and the other asking, three cells in its queue, frame 65,535
+abbrev pub running : Shelf
+running =
+    record {
+      bus = 16;
+      count = 1;
+      units = set (replicate 32 blank) 0
+          (record {
+            settings = record { number = 4; link = Uni; top = 5; priority = 2 };
+            outlet = record { limits = one 100 false .limits; queues = record { head = 122; count = 3 } ∷ empty ∷ empty ∷ empty ∷ [] };
+            inlet = record { head = 3; count = 2 };
+            place = 0;
+            sessions = replicate 4 0;
+          });
+      arbiter = record { last = nobody ∷ 4 ∷ nobody ∷ []; asks = set (replicate 32 0) 4 2 };
+      granted = 4;
+      frame = 65535;
+    }
+
+abbrev pub BeyondLoaded : Type 0
+BeyondLoaded =
+    (soundOf Narrow running 8192 1 ≡ true)
+    × ((card : Card) (text memory : List ℕ) (store rows : ℕ) → load card text memory store rows .shelf ≡ running → ⊥)
