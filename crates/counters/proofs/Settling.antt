@@ -5,15 +5,15 @@ use native.Mathlib.Nat.{le-antisymm, eq-or-lt-of-le}
 use native.Mathlib.Omega.{arith}
 use mathlib.Core.Path.{_≡_, refl, sym, _∙_, ap}
 use mathlib.Core.Logic.{_⊎_, ⊎-elim}
-use mathlib.Core.Bool.{Bool, true, false, not, _||_, cond, false≢true}
+use mathlib.Core.Bool.{Bool, true, false, cond}
 use mathlib.Core.List.{List}
-use lib.Dec.{leb, eqb}
+use lib.Dec.{leb}
 use lib.ListN.{length, getD, set, length-set}
 use lib.Seq.{getD-set-same, getD-set-other}
-use borrow.Author.Tests.{le-leb, lt-leb, leb-true, eqb-true, not-false}
+use borrow.Author.Tests.{le-leb, lt-leb, leb-true, ne-eqb}
 use Rattle.answer.specs.declared.Rises.{Rises}
 use Rattle.counters.specs.declared.Counters.{Counters}
-use Rattle.counters.specs.Counting.{value, zero, raised, rowAfter, touches, settledTo, settled}
+use Rattle.counters.specs.Counting.{value, zero, raised, rowAfter, riseAt, rowBy, settledTo, settled}
 
 -- each counter rises by its own bit, and no other
 pub raised-value : (c : Counters) (n k : ℕ) → k < 13 → value (raised c n) k ≡ (value c k + n / 2 ^ k % 2) % 2 ^ 32
@@ -77,16 +77,81 @@ raised-none c f =
       taken = same (c .taken) (f .taken) i;
     }
 
-neither : (a b : Bool) → (a || b) ≡ false → (a ≡ false) × (b ≡ false)
-neither true b h = absurd (false≢true (sym h))
-neither false b h = (refl, h)
+-- a set of counters has no more than thirteen bits
+low-set : (c : Counters) (n : ℕ) → raised c (n % 8192) ≡ raised c n
+unfolding raised
+low-set c n =
+    λ i. record {
+      arrived = (c .arrived + bit₀ i) % 2 ^ 32;
+      hec = (c .hec + bit₁ i) % 2 ^ 32;
+      ignored = (c .ignored + bit₂ i) % 2 ^ 32;
+      misrouted = (c .misrouted + bit₃ i) % 2 ^ 32;
+      inletfull = (c .inletfull + bit₄ i) % 2 ^ 32;
+      sent = (c .sent + bit₅ i) % 2 ^ 32;
+      unheard = (c .unheard + bit₆ i) % 2 ^ 32;
+      damaged = (c .damaged + bit₇ i) % 2 ^ 32;
+      queued = (c .queued + bit₈ i) % 2 ^ 32;
+      full = (c .full + bit₉ i) % 2 ^ 32;
+      clp = (c .clp + bit₁₀ i) % 2 ^ 32;
+      wide = (c .wide + bit₁₁ i) % 2 ^ 32;
+      taken = (c .taken + bit₁₂ i) % 2 ^ 32;
+    }
+  where
+    bit₀ : n % 8192 / 1 % 2 ≡ n / 1 % 2
+    bit₀ = omega arith
 
--- so a row that nothing touches stays
-pub untouched : (c : Counters) (rises : Rises) (i : ℕ) → Fitting c → touches rises i ≡ false → rowAfter c rises i ≡ c
-unfolding touches rowAfter
-untouched c rises i f h =
-    let none-of : (rises .anew ≡ false) × (not (eqb (getD (rises .each) i 0) 0) ≡ false) = neither (rises .anew) (not (eqb (getD (rises .each) i 0) 0)) h in
-    rw (none-of .0, eqb-true (getD (rises .each) i 0) 0 (not-false (eqb (getD (rises .each) i 0) 0) (none-of .1))) (raised-none c f)
+    bit₁ : n % 8192 / 2 % 2 ≡ n / 2 % 2
+    bit₁ = omega arith
+
+    bit₂ : n % 8192 / 4 % 2 ≡ n / 4 % 2
+    bit₂ = omega arith
+
+    bit₃ : n % 8192 / 8 % 2 ≡ n / 8 % 2
+    bit₃ = omega arith
+
+    bit₄ : n % 8192 / 16 % 2 ≡ n / 16 % 2
+    bit₄ = omega arith
+
+    bit₅ : n % 8192 / 32 % 2 ≡ n / 32 % 2
+    bit₅ = omega arith
+
+    bit₆ : n % 8192 / 64 % 2 ≡ n / 64 % 2
+    bit₆ = omega arith
+
+    bit₇ : n % 8192 / 128 % 2 ≡ n / 128 % 2
+    bit₇ = omega arith
+
+    bit₈ : n % 8192 / 256 % 2 ≡ n / 256 % 2
+    bit₈ = omega arith
+
+    bit₉ : n % 8192 / 512 % 2 ≡ n / 512 % 2
+    bit₉ = omega arith
+
+    bit₁₀ : n % 8192 / 1024 % 2 ≡ n / 1024 % 2
+    bit₁₀ = omega arith
+
+    bit₁₁ : n % 8192 / 2048 % 2 ≡ n / 2048 % 2
+    bit₁₁ = omega arith
+
+    bit₁₂ : n % 8192 / 4096 % 2 ≡ n / 4096 % 2
+    bit₁₂ = omega arith
+
+-- the one number of a row says what becomes of it
+pub row-by : (c : Counters) (rises : Rises) (i : ℕ) → rowBy c (riseAt rises i) ≡ rowAfter c rises i
+unfolding riseAt rowAfter rowBy
+row-by c rises i = by-anew (rises .anew)
+  where
+    n : ℕ
+    n = getD (rises .each) i 0
+
+    by-anew : (b : Bool) → rowBy c (cond b 8192 (n % 8192)) ≡ cond b zero (raised c n)
+    by-anew true = refl
+    by-anew false = rw (ne-eqb (n % 8192) 8192 (omega arith)) (low-set c n)
+
+-- so a row whose number is 0 stays
+pub untouched : (c : Counters) (rises : Rises) (i : ℕ) → Fitting c → riseAt rises i ≡ 0 → rowAfter c rises i ≡ c
+unfolding rowBy
+untouched c rises i f h = sym (row-by c rises i) ∙ rw h (raised-none c f)
 
 module _ (rows : List Counters) (rises : Rises) where
   -- the rows once the places before i are done

@@ -1,6 +1,6 @@
 -- The thirteen counters of a unit, and what an event does to the rows of them. Assumes nothing.
 use Prim.Native.Nat.{ℕ, zero as none, suc, _+_, _/_, _%_, _^_}
-use mathlib.Core.Bool.{Bool, _||_, not, cond}
+use mathlib.Core.Bool.{cond}
 use mathlib.Core.List.{List, [], _∷_}
 use lib.Dec.{leb, eqb}
 use lib.ListN.{getD, set}
@@ -61,9 +61,12 @@ raised c n =
 unfoldable pub rowAfter : Counters → Rises → ℕ → Counters
 rowAfter c rises i = cond (rises .anew) zero (raised c (getD (rises .each) i 0))
 
--- whether a row has anything to become: it starts anew, or some counter rises
-unfoldable pub touches : Rises → ℕ → Bool
-touches rises i = rises .anew || not (eqb (getD (rises .each) i 0) 0)
+-- the same in one number: the set of counters that rise, or 8,192, above every such set; 0 where the row stays
+unfoldable pub riseAt : Rises → ℕ → ℕ
+riseAt rises i = cond (rises .anew) 8192 (getD (rises .each) i 0 % 8192)
+
+unfoldable pub rowBy : Counters → ℕ → Counters
+rowBy c n = cond (eqb n 8192) zero (raised c n)
 
 -- the rows before place n, from the first that changes, are done; the others are as they were
 unfoldable pub settledTo : List Counters → Rises → ℕ → List Counters

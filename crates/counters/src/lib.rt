@@ -5,7 +5,7 @@ use answer::Rises;
 ghost use mathlib.Core.Path.{_≡_};
 ghost use Prim.Native.Nat.{_<_, _≤_};
 ghost use lib.ListN.{length, getD};
-ghost use Rattle.counters.specs.Counting.{zero as zeros, tick as ticked, raised as raisedBy, rowAfter, touches, settled};
+ghost use Rattle.counters.specs.Counting.{zero as zeros, tick as ticked, raised as raisedBy, riseAt, rowBy, settled};
 
 pub struct Counters {
     pub arrived: u32,
@@ -77,15 +77,28 @@ impl Counters {
     }
 }
 
-// What becomes of the row c at place i.
-pub fn row_after(c: Counters, rises: Rises, i: usize) -> Counters
+// A row starts anew: above every set of counters.
+const ANEW: u16 = 8192;
+
+// What becomes of the row at place i, in one number: the counters that rise in it, or ANEW.
+pub fn rise_at(rises: Rises, i: usize) -> u16
     requires { ⌜ i < 32 ⌝ }
-    ensures { λ r. ⌜ r ≡ rowAfter c rises i ⌝ }
+    ensures { λ r. ⌜ r ≡ riseAt rises i ⌝ }
 {
     if rises.anew {
+        return ANEW;
+    }
+    rises.each[i] % ANEW
+}
+
+// The row c after that.
+pub fn row_by(c: Counters, rise: u16) -> Counters
+    ensures { λ r. ⌜ r ≡ rowBy c rise ⌝ }
+{
+    if rise == ANEW {
         return Counters::zero();
     }
-    c.raised(rises.each[i])
+    c.raised(rise)
 }
 
 pub fn rises_of(done: Done) -> Rises
@@ -113,16 +126,8 @@ pub fn last(rises: Rises) -> usize
     rises.to
 }
 
-// Whether the row at place i starts anew or has a counter raised; else it stays as it is.
-pub fn touched(rises: Rises, i: usize) -> bool
-    requires { ⌜ i < 32 ⌝ }
-    ensures { λ r. ⌜ r ≡ touches rises i ⌝ }
-{
-    let anew = rises.anew;
-    anew | (rises.each[i] != 0)
-}
-
-// The only function that writes counters. It is given no more than the rises: a shelf beside them would be copied through it.
+// The only function that writes counters. It is given no more than the rises: a shelf beside them would be copied through it. They are read
+// once for each row, and a row in which nothing rises is left alone.
 pub fn settle(rows: &mut [Counters], rises: Rises)
     requires { ⌜ (rises .to ≤ 32) × (rises .to ≤ length (now rows)) ⌝ }
     ensures { λ _. ⌜ now (rows .exit) ≡ settled (now (rows .entry)) rises ⌝ }
@@ -131,8 +136,9 @@ pub fn settle(rows: &mut [Counters], rises: Rises)
     let mut i = first(rises);
     while i < n {
         let c = rows[i];
-        if touched(rises, i) {
-            rows[i] = row_after(c, rises, i);
+        let rise = rise_at(rises, i);
+        if rise != 0 {
+            rows[i] = row_by(c, rise);
         }
         i += 1;
     }

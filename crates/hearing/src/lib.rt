@@ -99,9 +99,10 @@ pub fn slot_of(outlet: Outlet, place: usize, queue: u8) -> usize
     ensures { λ r. ⌜ r ≡ slotOf outlet place queue ⌝ }
 {
     let limits = outlet.limits;
-    let queues = outlet.queues;
-    let ring = queues[queue as usize];
-    let tail = store::tail(ring, outlet::capacity(limits, queue));
+    let tail = store::tail(
+        outlet::queue(outlet, queue),
+        outlet::capacity(limits, queue),
+    );
     store::outlet_at(place, limits, queue, tail)
 }
 

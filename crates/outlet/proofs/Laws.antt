@@ -2,10 +2,11 @@
 use mathlib.Core.Path.{_≡_, refl, sym, _∙_}
 use mathlib.Core.Bool.{Bool, true, false, _&&_}
 use mathlib.Core.Logic.{_↔_}
+use mathlib.Core.List.{List, map}
 use Prim.Native.Nat.{ℕ, zero, suc, _+_, _-_, _≤_, _<_}
 use native.Mathlib.Omega.{arith}
 use lib.Dec.{leb, ltb, eqb·suc-zero}
-use lib.ListN.{getD, List·getD-eq-default}
+use lib.ListN.{length, getD, length-map, List·getD-eq-default}
 use borrow.Author.Tests.{ne-eqb}
 use Rattle.outlet.proofs.Truth.{le-iff, lt-iff, eq-iff, and-iff}
 use Rattle.outlet.specs.Outlets.{capacities, capacity, givenIn, given, GivenIn, Given, within, nothing, ringFits, RingFits, queueFits, ringsFit, outletFits, RingsFit, empty, queue, fresh}
@@ -14,6 +15,10 @@ use Rattle.outlet.specs.declared.Mode.the-variants.{One, Four}
 use Rattle.outlet.specs.declared.Limits.{Limits}
 use Rattle.outlet.specs.declared.Ring.{Ring}
 use Rattle.outlet.specs.declared.Outlet.{Outlet}
+
+-- the length of an array of structs, as the code's relation has it
+pub length-mapped : (X Y : Type 0) (f : X → Y) (l : List X) (n : ℕ) → length (map f l) ≡ n → length l ≡ n
+length-mapped X Y f l n p = sym (length-map l f) ∙ p
 
 -- in mode one there is one queue, and in mode four there are four
 pub one-other : (l q : ℕ) → (q ≡ 0 → ⊥) → getD (capacities One l) q 0 ≡ 0

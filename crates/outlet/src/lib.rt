@@ -1,7 +1,7 @@
 // A unit's outlet: its limits as a `unit` line gives them, its queues, their capacities.
 ghost use mathlib.Core.Path.{_≡_};
 ghost use Prim.Native.Nat.{_-_};
-ghost use Rattle.outlet.specs.Outlets.{empty as emptyOf, fresh as freshOf, one as oneOf, four as fourOf, capacity as capacityOf, given as givenBy, within as isWithin, nothing as isNothing, outletFits};
+ghost use Rattle.outlet.specs.Outlets.{empty as emptyOf, fresh as freshOf, one as oneOf, four as fourOf, capacity as capacityOf, queue as queueOf, given as givenBy, within as isWithin, nothing as isNothing, outletFits};
 
 pub enum Mode {
     One,
@@ -114,6 +114,21 @@ pub fn capacity(limits: Limits, queue: u8) -> u8
             3 => Outlet::ABR,
             _ => 0,
         },
+    }
+}
+
+// The queue with a number; an empty one where there is none. Not `queues[q]`: a place that is computed would be read from memory only after
+// all that was written there.
+pub fn queue(outlet: Outlet, q: u8) -> Ring
+    ensures { λ r. ⌜ r ≡ queueOf outlet q ⌝ }
+{
+    let queues = outlet.queues;
+    match q {
+        0 => queues[0],
+        1 => queues[1],
+        2 => queues[2],
+        3 => queues[3],
+        _ => empty(),
     }
 }
 

@@ -29,7 +29,7 @@ fn settle(rows: [Counters; 40], done: Done) -> After
     let mut i = counters::first(rises);
     while i < n {
         let c = rs[i];
-        rs[i] = counters::row_after(c, rises, i);
+        rs[i] = counters::row_by(c, counters::rise_at(rises, i));
         i += 1;
     }
     owned::joined(counters::reply_of(done), rs)

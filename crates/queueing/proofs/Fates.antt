@@ -1,13 +1,11 @@
 -- What each fate of a copy says, in plain facts. Assumes nothing.
-use mathlib.Core.Path.{_≡_, refl, sym, ap, subst, _∙_}
+use mathlib.Core.Path.{_≡_, refl, ap, subst, _∙_}
 use mathlib.Core.Logic.{_↔_, _⊎_, ⊎-elim}
 use mathlib.Core.Bool.{Bool, true, false, _&&_, cond}
-use mathlib.Core.List.{List, map}
 use Prim.Native.Nat.{ℕ, _<_}
 use native.Mathlib.Nat.{mod-lt, mod-eq-of-lt}
 use native.Mathlib.Omega.{arith}
 use lib.Dec.{eqb, leb}
-use lib.ListN.{length, length-map}
 use borrow.Author.Tests.{ltb-true, leb-true, leb-false, eqb-true, lt-ltb, le-leb, lt-leb, eq-eqb, ne-eqb}
 use Rattle.header.specs.declared.Link.{Link}
 use Rattle.header.specs.declared.Link.the-variants.{Uni, Nni}
@@ -19,10 +17,6 @@ use Rattle.outlet.specs.declared.Outlet.{Outlet}
 use Rattle.queueing.specs.Hearing.{queueIn, queueOf, limitOf, limit, held, busVpi, busClp, tooWide, fateAt, fate, TooWide, FateAt, FateIn, FateOf}
 use Rattle.queueing.specs.declared.Fate.{Fate}
 use Rattle.queueing.specs.declared.Fate.the-variants.{Wide, Full, Clp, Queued}
-
--- the length of an array of structs, as the code's relation has it
-pub length-mapped : (X Y : Type 0) (f : X → Y) (l : List X) (n : ℕ) → length (map f l) ≡ n → length l ≡ n
-length-mapped X Y f l n p = sym (length-map l f) ∙ p
 
 -- queues and limits in each mode
 pub queue-lt : (limits : Limits) (class : ℕ) → queueOf limits class < 4

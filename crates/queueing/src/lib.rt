@@ -55,14 +55,8 @@ pub fn limit(limits: Limits, queue: u8) -> u8
 pub fn held(outlet: Outlet, queue: u8) -> u8
     ensures { λ r. ⌜ r ≡ heldIn outlet queue ⌝ }
 {
-    let queues = outlet.queues;
-    let q = queue as usize;
-    if q < 4 {
-        let ring = queues[q];
-        ring.count
-    } else {
-        0
-    }
+    let ring = outlet::queue(outlet, queue);
+    ring.count
 }
 
 // Whether a queue is at its limit or above.

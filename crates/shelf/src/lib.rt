@@ -21,8 +21,8 @@ pub struct Settings {
 
 pub struct Unit {
     pub settings: Settings,
-    pub outlet: Outlet,
     pub inlet: Ring,
+    pub outlet: Outlet,
     // the byte of the memory where its VPI records start
     pub place: u32,
     // the sessions that it hears: session s is bit s % 64 of number s / 64
@@ -56,8 +56,8 @@ impl Unit {
     {
         Unit {
             settings,
-            outlet: Outlet::fresh(limits),
             inlet: outlet::empty(),
+            outlet: Outlet::fresh(limits),
             place,
             sessions: [0; 4],
         }

@@ -6,7 +6,7 @@ use Rattle.octets.specs.Octets.{splice}
 use Rattle.outlet.specs.Outlets.{RingFits}
 use Rattle.store.specs.Places.{slotAt, inletSlot, putAt}
 use lib.ListN.{length}
-use Rattle.shelf.proofs.Finding.{length-mapped}
+use Rattle.outlet.proofs.Laws.{length-mapped}
 use Rattle.admit.specs.Admission.{unitAt}
 use Rattle.arriving.specs.Arriving.{wayOf, arrived, doneBy, storeBy}
 use Rattle.arriving.proofs.Leaves.{lost-done, lost-store, full-done, full-store, queued-done, queued-store, inlet-inside}

@@ -7,7 +7,7 @@ use lib.ListN.{length, length-set, getD, set, drop}
 use lib.Seq.{set-out}
 use borrow.Author.Needs.{needs}
 use Rattle.shelf.specs.Shelves.{declared, numberOf}
-use Rattle.shelf.proofs.Finding.{length-mapped}
+use Rattle.outlet.proofs.Laws.{length-mapped}
 use Rattle.admit.proofs.Laws.{nowhere}
 use Rattle.framing.specs.Requests.{asksNow, askingOf, askingNow}
 use Rattle.framing.proofs.Turns.{none-left, asked, asks-none}

@@ -10,9 +10,9 @@ use Rattle.octets.specs.Octets.{splice}
 use Rattle.store.specs.Places.{putAt}
 use Rattle.shelf.specs.Shelves.{declared}
 use Rattle.shelf.specs.declared.Shelf.{Shelf}
-use Rattle.shelf.proofs.Finding.{length-mapped}
+use Rattle.outlet.proofs.Laws.{length-mapped}
 use Rattle.admit.proofs.Laws.{nowhere, copied}
-use Rattle.admit.specs.Admission.{Housed, withUnit}
+use Rattle.admit.specs.Admission.{Housed}
 use Rattle.answer.specs.declared.Hearing.the-variants.{Queued}
 use Rattle.hearing.specs.Hearings.{fateBy, copyWith, copyBy, copyOf, storeBy, storeOf}
 use Rattle.hearing.proofs.Plans.{plan-queue, outlet-inside, lost-copy, lost-store, queued-copy, queued-store}

@@ -4,7 +4,7 @@ use native.Mathlib.Omega.{arith}
 use mathlib.Core.Path.{_≡_, sym, ap, subst, _∙_}
 use lib.ListN.{length, getD}
 use Rattle.octets.specs.Octets.{part}
-use Rattle.shelf.proofs.Finding.{length-mapped}
+use Rattle.outlet.proofs.Laws.{length-mapped}
 use Rattle.admit.specs.Admission.{Housed, withUnit, withInlet}
 use Rattle.admit.proofs.Laws.{nowhere, copied, cell-length}
 use Rattle.hearing.proofs.Plans.{before-parity}

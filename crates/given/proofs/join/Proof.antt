@@ -1,7 +1,7 @@
 -- `given::join` meets its contract. Assumes nothing.
 use mathlib.Core.Path.{_≡_, sym, ap, _∙_}
 use lib.ListN.{length}
-use Rattle.shelf.proofs.Finding.{length-mapped}
+use Rattle.outlet.proofs.Laws.{length-mapped}
 use Rattle.verdict.proofs.Owning.{found-in}
 use Rattle.told.specs.Told.{joinAt}
 use Rattle.given.proofs.Leaves.{hearing-more, joined}

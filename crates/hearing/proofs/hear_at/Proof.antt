@@ -2,7 +2,7 @@
 use Rattle.hearing.specs.Hearings.{copyOf, storeOf, heardBy}
 use mathlib.Core.Path.{_≡_, sym, ap, subst, _∙_}
 use lib.ListN.{length, take}
-use Rattle.shelf.proofs.Finding.{length-mapped}
+use Rattle.outlet.proofs.Laws.{length-mapped}
 use Rattle.admit.specs.Admission.{withUnit, Housed}
 use Rattle.answer.specs.Answers.{row, ends}
 use Rattle.answer.specs.declared.Answer.the-variants.{Heard}

@@ -2,7 +2,7 @@
 use mathlib.Core.Path.{_≡_, ap, _∙_}
 use mathlib.Core.List.{[], _∷_}
 use lib.ListN.{length}
-use Rattle.shelf.proofs.Finding.{length-mapped}
+use Rattle.outlet.proofs.Laws.{length-mapped}
 use Rattle.hearing.proofs.Plans.{withQueues, grown-all}
 use borrow.Author.Needs.{needs}
 use Rattle.hearing.proofs.queued_up.Statement.{statement}

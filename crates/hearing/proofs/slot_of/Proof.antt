@@ -7,11 +7,8 @@ use borrow.Author.Needs.{needs}
 use Rattle.hearing.proofs.slot_of.Statement.{statement}
 use Rattle.hearing.proofs.slot_of.Tie as tie
 
-mul-ring : tie.Need-mul-ring
-mul-ring c = search needs
-
-array-copy-out-ring : tie.Need-array-copy-out-ring
-array-copy-out-ring c = search needs
+queue-requires : tie.Need-queue-requires
+queue-requires c κs = search needs
 
 capacity-requires : tie.Need-capacity-requires
 capacity-requires c κs = search needs
@@ -24,16 +21,15 @@ outlet-at-requires c κs = search needs
 
 returns : tie.Need-returns
 returns c =
-    let a = c .before .before .before .before .before .before .args in
+    let a = c .before .before .before .before .before .args in
     c .outlet-at .ensures
-    ∙ ap (λ p. slotAt (a .place) (outletSlot (a .outlet .limits) (a .queue) p)) (c .before .tail .ensures ∙ ap (tail (queue (a .outlet) (a .queue))) (c .before .before .capacity .ensures))
+    ∙ ap (λ p. slotAt (a .place) (outletSlot (a .outlet .limits) (a .queue) p)) (c .before .tail .ensures ∙ (λ i. tail (c .before .before .before .queue .ensures i) (c .before .before .capacity .ensures i)))
 
 pub slot-of-spec : {M : Type 1} → statement M
 slot-of-spec =
     tie.close
     (tie.spec
-    mul-ring
-    array-copy-out-ring
+    queue-requires
     capacity-requires
     tail-requires
     outlet-at-requires

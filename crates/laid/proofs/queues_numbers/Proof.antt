@@ -1,12 +1,11 @@
 -- `laid::queues_numbers` meets its contract. Assumes nothing.
 use mathlib.Core.Path.{_≡_, ap, _∙_}
 use mathlib.Core.List.{[], _∷_}
-use Prim.Native.Nat.{ℕ, _<_}
 use lib.ListN.{length, getD}
 use Rattle.octets.proofs.Parts.{getD-any}
 use Rattle.outlet.specs.declared.Ring.{Ring}
 use Rattle.outlet.specs.Outlets.{empty}
-use Rattle.shelf.proofs.Finding.{length-mapped}
+use Rattle.outlet.proofs.Laws.{length-mapped}
 use native.Mathlib.Omega.{arith}
 use borrow.Author.Needs.{needs}
 use Rattle.laid.proofs.queues_numbers.Statement.{statement}

@@ -6,7 +6,7 @@ use lib.Seq.{take-all}
 use Rattle.octets.specs.Octets.{cat}
 use Rattle.hex.specs.Writing.{Wrote}
 use Rattle.hex.proofs.Splices.{then}
-use Rattle.shelf.proofs.Finding.{length-mapped}
+use Rattle.outlet.proofs.Laws.{length-mapped}
 use Rattle.laid.specs.Laid.{unitText}
 use Rattle.laid.proofs.Written.{no-units, next-unit}
 use native.Mathlib.Omega.{arith}

@@ -2,7 +2,7 @@
 use mathlib.Core.Path.{_≡_, _∙_}
 use native.Mathlib.Omega.{arith}
 use lib.ListN.{length}
-use Rattle.shelf.proofs.Finding.{length-mapped}
+use Rattle.outlet.proofs.Laws.{length-mapped}
 use Rattle.owned.proofs.Found.{found, past}
 use borrow.Author.Needs.{needs}
 use Rattle.owned.proofs.count.Statement.{statement}

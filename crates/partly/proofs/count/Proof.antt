@@ -1,7 +1,7 @@
 -- `partly::count` meets its contract. Assumes nothing.
 use mathlib.Core.Path.{_≡_, sym, ap, _∙_}
 use lib.ListN.{length}
-use Rattle.shelf.proofs.Finding.{length-mapped}
+use Rattle.outlet.proofs.Laws.{length-mapped}
 use Rattle.owned.proofs.Found.{found, past}
 use Rattle.entry.specs.Counts.{countOf}
 use Rattle.admit.specs.Admission.{counted as placeOf}

@@ -3,9 +3,9 @@ use mathlib.Core.Path.{_≡_, sym, ap, _∙_}
 use mathlib.Core.Logic.{_⊎_, inl, inr}
 use Prim.Native.Nat.{_≤_, _<_, _-_}
 use lib.ListN.{length}
-use Rattle.counters.specs.Counting.{settledTo, settled}
-use Rattle.counters.proofs.Settling.{settled-none, settled-end}
-use Rattle.shelf.proofs.Finding.{length-mapped}
+use Rattle.counters.specs.Counting.{rowBy, settledTo, settled}
+use Rattle.counters.proofs.Settling.{row-by, settled-none, settled-end}
+use Rattle.outlet.proofs.Laws.{length-mapped}
 use Rattle.partly.proofs.Laws.{turned}
 use native.Mathlib.Omega.{arith}
 use borrow.Author.Needs.{needs}
@@ -41,8 +41,11 @@ mul-c c = search needs
 array-copy-out-c : tie.Need-array-copy-out-c Inv-loop μ-loop
 array-copy-out-c c = search needs
 
-row-after-requires : tie.Need-row-after-requires Inv-loop μ-loop
-row-after-requires c κs = search needs
+rise-at-requires : tie.Need-rise-at-requires Inv-loop μ-loop
+rise-at-requires c κs = search needs
+
+row-by-requires : tie.Need-row-by-requires Inv-loop μ-loop
+row-by-requires c κs = search needs
 
 mul-rs : tie.Need-mul-rs Inv-loop μ-loop
 mul-rs c = search needs
@@ -58,10 +61,10 @@ loop-less c = search needs
 
 loop-again : tie.Need-loop-again Inv-loop μ-loop
 loop-again c =
-    let l = c .before .before .before .loop in
-    let long : length (c .before .before .before .before .before .before .before .args .rows) ≡ 40 = search (needs, length-mapped) in
-    let g : l .i < length (c .before .before .before .before .before .before .before .args .rows) = omega arith in
-    (l .inv .0, l .inv .1, omega arith, inl (omega arith), turned _ _ _ _ _ _ (l .inv .2) g (l .inv .4) (c .row-after .ensures))
+    let l = c .before .before .before .before .loop in
+    let long : length (c .before .before .before .before .before .before .before .before .args .rows) ≡ 40 = search (needs, length-mapped) in
+    let g : l .i < length (c .before .before .before .before .before .before .before .before .args .rows) = omega arith in
+    (l .inv .0, l .inv .1, omega arith, inl (omega arith), turned _ _ _ _ _ _ (l .inv .2) g (l .inv .4) (c .row-by .ensures ∙ ap (rowBy _) (c .before .rise-at .ensures) ∙ row-by _ _ _))
 
 reply-of-requires : tie.Need-reply-of-requires Inv-loop μ-loop
 reply-of-requires c κs = search needs
@@ -86,7 +89,8 @@ settle-spec =
     loop-holds
     mul-c
     array-copy-out-c
-    row-after-requires
+    rise-at-requires
+    row-by-requires
     mul-rs
     array-set-from-rs
     add-i

@@ -1,7 +1,7 @@
 -- `setting::units_with` meets its contract. Assumes nothing.
 use lib.ListN.{length}
 use mathlib.Core.Path.{_≡_}
-use Rattle.shelf.proofs.Finding.{length-mapped}
+use Rattle.outlet.proofs.Laws.{length-mapped}
 use Rattle.setting.proofs.Laws.{unit-set, unit-past}
 use native.Mathlib.Omega.{arith}
 use borrow.Author.Needs.{needs}

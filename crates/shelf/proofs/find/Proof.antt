@@ -3,7 +3,8 @@ use Prim.Native.Nat.{_≤_, _-_, min}
 use mathlib.Core.Path.{_≡_, refl, sym, _∙_}
 use lib.ListN.{drop, length}
 use Rattle.shelf.specs.Shelves.{declared, numbers, placeFrom, findIn}
-use Rattle.shelf.proofs.Finding.{length-mapped, here, later, nowhere}
+use Rattle.outlet.proofs.Laws.{length-mapped}
+use Rattle.shelf.proofs.Finding.{here, later, nowhere}
 use native.Mathlib.Omega.{arith}
 use borrow.Author.Needs.{needs}
 use Rattle.shelf.proofs.find.Statement.{statement}

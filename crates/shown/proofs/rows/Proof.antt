@@ -7,7 +7,7 @@ use Rattle.hex.specs.Writing.{Wrote}
 use Rattle.hex.proofs.Splices.{then}
 use Rattle.shown.specs.Lines.{rowFields}
 use Rattle.shown.proofs.Written.{no-rows, next-row}
-use Rattle.shelf.proofs.Finding.{length-mapped}
+use Rattle.outlet.proofs.Laws.{length-mapped}
 use native.Mathlib.Omega.{arith}
 use borrow.Author.Needs.{needs}
 use Rattle.shown.proofs.rows.Statement.{statement}

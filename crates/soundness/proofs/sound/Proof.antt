@@ -5,7 +5,7 @@ use mathlib.Core.Bool.{true}
 use borrow.Author.Tests.{not-true, not-false}
 use lib.ListN.{length}
 use Rattle.shelf.specs.Shelves.{blank}
-use Rattle.shelf.proofs.Finding.{length-mapped}
+use Rattle.outlet.proofs.Laws.{length-mapped}
 use Rattle.soundness.specs.State.{framed, soundOf}
 use Rattle.soundness.proofs.Pass.{left, pass-sound, unframed, misfit, stopped, passed, ended, number-below, framed-iff}
 use native.Mathlib.Omega.{arith}

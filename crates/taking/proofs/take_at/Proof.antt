@@ -8,7 +8,7 @@ use Rattle.octets.specs.Octets.{part}
 use Rattle.queueing.specs.Taking.{leaving}
 use Rattle.store.specs.Places.{cellAt}
 use Rattle.shelf.specs.declared.Unit as U
-use Rattle.shelf.proofs.Finding.{length-mapped}
+use Rattle.outlet.proofs.Laws.{length-mapped}
 use Rattle.answer.specs.declared.Answer.the-variants.{Taken, Empty}
 use Rattle.answer.specs.Answers.{ends}
 use Rattle.admit.specs.Admission.{unitAt, withUnit, Housed}

@@ -4,7 +4,7 @@ use mathlib.Core.Bool.{true, false}
 use lib.ListN.{length}
 use Rattle.octets.proofs.Parts.{getD-any}
 use Rattle.shelf.specs.Shelves.{blank}
-use Rattle.shelf.proofs.Finding.{length-mapped}
+use Rattle.outlet.proofs.Laws.{length-mapped}
 use Rattle.verdict.specs.Owners.{ownerAt, ownerOf}
 use Rattle.verdict.proofs.Owning.{found-in}
 use native.Mathlib.Omega.{arith}
