@@ -71,7 +71,7 @@ hearingRises hearing.Full = #full
 hearingRises hearing.Clp = #clp
 hearingRises hearing.Queued = #queued
 
--- 01's words, as bytes: "one of hec, ignored, misrouted, inletfull, queued"
+-- 01's words for the fates, as bytes: of an arrival
 unfoldable pub arrivalWord : Ar.Arrival → List ℕ
 arrivalWord arrival.Hec = 104 ∷ 101 ∷ 99 ∷ []
 arrivalWord arrival.Ignored = 105 ∷ 103 ∷ 110 ∷ 111 ∷ 114 ∷ 101 ∷ 100 ∷ []
@@ -79,7 +79,7 @@ arrivalWord arrival.Misrouted = 109 ∷ 105 ∷ 115 ∷ 114 ∷ 111 ∷ 117 ∷ 
 arrivalWord arrival.Inletfull = 105 ∷ 110 ∷ 108 ∷ 101 ∷ 116 ∷ 102 ∷ 117 ∷ 108 ∷ 108 ∷ []
 arrivalWord arrival.Queued = 113 ∷ 117 ∷ 101 ∷ 117 ∷ 101 ∷ 100 ∷ []
 
--- "damaged, other, wide, full, clp, queued"
+-- of a frame that is heard
 unfoldable pub hearingWord : He.Hearing → List ℕ
 hearingWord hearing.Damaged = 100 ∷ 97 ∷ 109 ∷ 97 ∷ 103 ∷ 101 ∷ 100 ∷ []
 hearingWord hearing.Other = 111 ∷ 116 ∷ 104 ∷ 101 ∷ 114 ∷ []

@@ -7,7 +7,7 @@ use Rattle.words.specs.Decimals.{decimal}
 use Rattle.answer.specs.Answers.{arrivalWord, hearingWord}
 use Rattle.answer.specs.declared.Answer as An
 use Rattle.answer.specs.declared.Answer.the-variants.{Loaded, Unloaded, Refused, Arrived, Framed, Heard, Taken, Empty}
-use Rattle.phrases.specs.Fates.{who}
+use Rattle.phrases.specs.Phrases.{who}
 
 abbrev pub wOk : List ℕ
 wOk = 111 ∷ 107 ∷ []

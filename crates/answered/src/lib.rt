@@ -10,7 +10,7 @@ ghost use Rattle.answer.specs.Answers.{arrivalWord, hearingWord};
 ghost use Rattle.hex.specs.Writing.{Wrote};
 ghost use Rattle.hex.specs.Hex.{hexOf};
 ghost use Rattle.words.specs.Decimals.{decimal};
-ghost use Rattle.phrases.specs.Fates.{tabbed, fields, who};
+ghost use Rattle.phrases.specs.Phrases.{tabbed, fields, who};
 ghost use Rattle.answered.specs.Answers.{wRefused, wOk, wEmpty, byteAt, headerBytes, answerFields};
 
 // Writes that something is refused.

@@ -126,7 +126,7 @@ pub fn count_line(s: &[u8]) -> Reading
     }
 }
 
-// A `state` line of the field at this place of the table; none past its end.
+// A `state` line of the field at this place of the table.
 fn state_in(f: usize, s: &[u8]) -> Reading
     requires { ⌜ f < 21 ⌝ }
     ensures { λ r. ⌜ r ≡ stateIn f (fieldsOf (now (s .entry))) ⌝ }

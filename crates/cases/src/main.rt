@@ -1,4 +1,4 @@
-// Document 01's listing and its values on each side of a line, and data sheet 004's worked examples, through the six entry points.
+// Document 01's listing and its values on each side of a line, and data sheet 004's worked examples, through `owned`.
 use answer::Answer;
 use answer::Arrival;
 use answer::Hearing;
@@ -236,35 +236,35 @@ fn frame_of(class: u8, header: u32) -> [u8; 57] {
 fn step(w: World, memory: &[u8], store: &mut [u8], letter: u8) -> World {
     match letter {
         // a good cell arrives at unit 0, one with a wrong check; at a unit that is not declared; one byte short
-        65 => arrive(w, memory, store, 0, &cell_of(5243408, 43, 165)),
-        66 => arrive(w, memory, store, 0, &cell_of(273678864, 79, 165)),
-        67 => arrive(w, memory, store, 9, &cell_of(5243408, 43, 165)),
-        68 => arrive(w, memory, store, 0, &[0; 52]),
+        b'A' => arrive(w, memory, store, 0, &cell_of(5243408, 43, 165)),
+        b'B' => arrive(w, memory, store, 0, &cell_of(273678864, 79, 165)),
+        b'C' => arrive(w, memory, store, 9, &cell_of(5243408, 43, 165)),
+        b'D' => arrive(w, memory, store, 0, &[0; 52]),
         // a frame
-        70 => frame(w, store, &mut [238; 57]),
+        b'F' => frame(w, store, &mut [238; 57]),
         // unit 0 hears a cell of each class with CLP 0, and with CLP 1
-        48 => hear(w, store, 0, &frame_of(0, 16)),
-        49 => hear(w, store, 0, &frame_of(1, 16)),
-        50 => hear(w, store, 0, &frame_of(2, 16)),
-        51 => hear(w, store, 0, &frame_of(3, 16)),
-        52 => hear(w, store, 0, &frame_of(0, 17)),
-        53 => hear(w, store, 0, &frame_of(1, 17)),
-        54 => hear(w, store, 0, &frame_of(2, 17)),
-        55 => hear(w, store, 0, &frame_of(3, 17)),
+        b'0' => hear(w, store, 0, &frame_of(0, 16)),
+        b'1' => hear(w, store, 0, &frame_of(1, 16)),
+        b'2' => hear(w, store, 0, &frame_of(2, 16)),
+        b'3' => hear(w, store, 0, &frame_of(3, 16)),
+        b'4' => hear(w, store, 0, &frame_of(0, 17)),
+        b'5' => hear(w, store, 0, &frame_of(1, 17)),
+        b'6' => hear(w, store, 0, &frame_of(2, 17)),
+        b'7' => hear(w, store, 0, &frame_of(3, 17)),
         // at an NNI, by VPI: to a unit that nobody declared, to all, to a UNI with VPI 256, dropped, without a record; VPI 0 with VCI 0
-        97 => arrive(w, memory, store, 0, &sound_cell(1048592)),
-        98 => arrive(w, memory, store, 0, &sound_cell(2097168)),
-        99 => arrive(w, memory, store, 0, &sound_cell(4194320)),
-        100 => arrive(w, memory, store, 0, &sound_cell(5242896)),
-        101 => arrive(w, memory, store, 0, &sound_cell(6291472)),
-        102 => arrive(w, memory, store, 0, &sound_cell(0)),
+        b'a' => arrive(w, memory, store, 0, &sound_cell(1048592)),
+        b'b' => arrive(w, memory, store, 0, &sound_cell(2097168)),
+        b'c' => arrive(w, memory, store, 0, &sound_cell(4194320)),
+        b'd' => arrive(w, memory, store, 0, &sound_cell(5242896)),
+        b'e' => arrive(w, memory, store, 0, &sound_cell(6291472)),
+        b'f' => arrive(w, memory, store, 0, &sound_cell(0)),
         // a frame of bad parity, one for another unit, 57 zero bytes
-        122 => hear(w, store, 0, &[1; 57]),
-        111 => hear(w, store, 3, &frame_of(1, 16)),
-        90 => hear(w, store, 0, &[0; 57]),
+        b'z' => hear(w, store, 0, &[1; 57]),
+        b'o' => hear(w, store, 3, &frame_of(1, 16)),
+        b'Z' => hear(w, store, 0, &[0; 57]),
         // a cell is taken at units 3 and 0
-        83 => take(w, store, 3),
-        84 => take(w, store, 0),
+        b'S' => take(w, store, 3),
+        b'T' => take(w, store, 0),
         _ => w,
     }
 }

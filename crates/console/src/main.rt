@@ -393,7 +393,7 @@ fn say_shelf(w: World, out: &mut [u8], at: usize) -> usize
     laid::shelf(out, at, shelf)
 }
 
-// What changes the world alone, or an event, or what is told.
+// A command. It goes from `act` on to `call`, `hand_out` and `tell` until one of them knows it: one match over all of them takes the prover too long.
 fn act(
     w: World,
     memory: &mut [u8],
@@ -511,6 +511,7 @@ fn tell(
         },
         Command::ShowRows => moved(w, say_rows(w, out, at)),
         Command::ShowShelf => moved(w, say_shelf(w, out, at)),
+        // all others are done by now
         _ => moved(w, at),
     }
 }

@@ -45,14 +45,15 @@ fn texts() {
     tried(b"bus 32, wide", Card::Wide, b"bus\t32\n", &mut m, 0, 0);
 }
 
-fn wide(byte: u8) -> u64 {
+// A call and no cast: of a result it is known that it is a byte.
+fn as_number(byte: u8) -> u64 {
     byte as u64
 }
 
 // Prints the byte at a place, where there is one.
 fn byte(memory: &[u8], at: usize) {
     if at < memory.len() {
-        io::print_decimal(1, wide(memory[at]));
+        io::print_decimal(1, as_number(memory[at]));
         io::write_all(1, b"\n");
     }
 }

@@ -16,7 +16,7 @@ use Rattle.event.specs.declared.Named.the-variants.{Unit, Nothing}
 use Rattle.event.specs.declared.Event as Ev
 use Rattle.event.specs.declared.Event.the-variants.{Arrive, Frame, Take, Count, Bad}
 
--- any number is a unit, "however large": one above 254 is 255, which no table declares
+-- any number is a unit (docs/DECISIONS.md): one above 254 is 255, which no table declares
 abbrev pub unitFrom : Num.Numeral → Nam.Named
 unitFrom (Is n) = Unit n
 unitFrom Above = Unit 255
@@ -53,6 +53,6 @@ eventIn fs =
     (cond (same (fieldOf 1 fs) wTake) (on (unitOf (fieldOf 2 fs)) Take) (cond (same (fieldOf 1 fs) wCount) (on (unitOf (fieldOf 2 fs)) Count) Bad))
     Bad))
 
--- "Fields are parted by one tab."
+-- its fields are parted by tabs, which the listing has as blanks: "tabs shown as blanks"
 abbrev pub eventOf : List ℕ → Ev.Event
 eventOf text = eventIn (fieldsOf text)

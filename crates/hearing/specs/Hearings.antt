@@ -72,7 +72,7 @@ queuedUp u q = withQueue u q (pushed (queue (u .outlet) q))
 
 -- the unit afterwards and the fate; a queued copy is behind the others in its queue
 unfoldable pub copyBy : Plan → U.Unit → Copy
-copyBy (Queue q) u = copyWith (withQueue u q (pushed (queue (u .outlet) q))) Queued
+copyBy (Queue q) u = copyWith (queuedUp u q) Queued
 copyBy (Lost fate) u = copyWith u fate
 
 unfoldable pub storeBy : Plan → U.Unit → ℕ → List ℕ → Cell → List ℕ

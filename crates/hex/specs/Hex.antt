@@ -1,4 +1,4 @@
--- Bytes as pairs of hex digits: "Hex in either case is read, capitals are written." Assumes nothing.
+-- "Bytes are pairs of hex digits, read in either case, written in capitals" (docs/CONSOLE.md; so the bench too). Assumes nothing.
 use Prim.Native.Nat.{ℕ, _+_, _*_, _-_, _/_, _%_}
 use mathlib.Core.Bool.{Bool, true, false, _&&_, cond}
 use mathlib.Core.List.{List, [], _∷_}

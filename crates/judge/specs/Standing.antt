@@ -15,7 +15,6 @@ use Rattle.shelf.specs.declared.Found.{Found}
 use Rattle.shelf.specs.declared.Found.the-variants.{At, Nothing}
 use Rattle.line.specs.declared.Line.{Line}
 use Rattle.line.specs.declared.Line.the-variants.{Bus, Unit as L·Unit, Vp, Drop, Page, Vc, Mc}
-use Rattle.verdict.specs.declared.Owner.{Owner}
 use Rattle.verdict.specs.declared.Paged.{Paged}
 use Rattle.verdict.specs.declared.Verdict.{Verdict}
 use Rattle.verdict.specs.declared.Verdict.the-variants.{Fine, Order}
@@ -23,7 +22,7 @@ use Rattle.verdict.specs.Verdicts.{asked, pageIn}
 use Rattle.verdict.specs.Owners.{ownerOf, ownedBy, spot}
 use Rattle.judge.specs.Judge.{judgeBus, judgeUnit, judgeVp, judgeDrop, judgePage, judgeVc, judgeMc}
 
--- the place of the VCI's record in the page that stands at a VPI
+-- what stands in a page's record for a VCI; nothing where there is no page
 abbrev pub second : (ℕ → Got) → Paged → ℕ → Got
 second stands page vci = cond (page .known) (stands (page .place + size * vci)) Got·Nothing
 

@@ -70,14 +70,14 @@ fn queues_numbers(queues: [Ring; 4]) -> [u64; 8]
     let q2 = queues[2];
     let q3 = queues[3];
     [
-        wide(q0.head),
-        wide(q0.count),
-        wide(q1.head),
-        wide(q1.count),
-        wide(q2.head),
-        wide(q2.count),
-        wide(q3.head),
-        wide(q3.count),
+        as_number(q0.head),
+        as_number(q0.count),
+        as_number(q1.head),
+        as_number(q1.count),
+        as_number(q2.head),
+        as_number(q2.count),
+        as_number(q3.head),
+        as_number(q3.count),
     ]
 }
 
@@ -87,7 +87,8 @@ fn inlet_numbers(inlet: Ring, place: u32) -> [u64; 3]
     [inlet.head as u64, inlet.count as u64, place as u64]
 }
 
-fn wide(b: u8) -> u64
+// A call and no cast: of a result it is known that it is a byte.
+fn as_number(b: u8) -> u64
     ensures { λ r. ⌜ r ≡ b ⌝ }
 {
     b as u64
@@ -101,7 +102,7 @@ fn put_octets(out: &mut [u8], at: usize, bytes: &[u8]) -> usize
     let mut next = at;
     let mut i: usize = 0;
     while i < bytes.len() {
-        next = words::put_number(out, next, wide(bytes[i]));
+        next = words::put_number(out, next, as_number(bytes[i]));
         i += 1;
     }
     next
@@ -193,8 +194,8 @@ fn front(out: &mut [u8], at: usize, shelf: Shelf) -> usize
     let last = arbiter.last;
     let asks = arbiter.asks;
     let first = put_first(out, at, shelf.bus, shelf.count, shelf.granted, shelf.frame);
-    let granted = put_last(out, first, last);
-    put_asks(out, granted, asks)
+    let lasts = put_last(out, first, last);
+    put_asks(out, lasts, asks)
 }
 
 // Every field: the units' 768 numbers behind the front.

@@ -1,4 +1,4 @@
-// The commands of the console as values, and the lines of those that lend, poke and show (docs/CONSOLE.md).
+// The commands of the console as values, and the lines of those that choose a card, lend, poke and show (docs/CONSOLE.md).
 use card::Card;
 use fields::Num;
 use fields::Octet;

@@ -28,7 +28,7 @@ use Rattle.text.specs.Text.{fieldsOf, fieldOf, same}
 use Rattle.ranged.specs.Ranged.{num, aim, numberIn, aimIn}
 use Rattle.unitline.specs.Units.{settingsOf, limitsOf}
 
--- Each kind of line, "leftmost fault first". "`bus` 16 or 32."
+-- Each kind of line; 02, W5: "leftmost fault first". "`bus` 16 or 32."
 unfoldable pub busLine : List (List ℕ) → Reading
 busLine fs = num (numberIn fs 2 16 32) Bad λ n. cond (eqb n 16) (Good (Bus n)) (cond (eqb n 32) (Good (Bus n)) (Bad (Range 2)))
 
@@ -125,7 +125,7 @@ wordOf w =
     (cond (same w wUnit) (Known K·Unit)
     (cond (same w wVp) (Known K·Vp) (wordAfter w)))
 
--- "tried as Newline, Word, Fields, then 23 or 24 by field"
+-- 02, W5: "tried as Newline, Word, Fields, then 23 or 24 by field"
 unfoldable pub spoken : Word → List (List ℕ) → Reading
 spoken Unknown fs = Bad Unspoken
 spoken (Known kind) fs = cond (eqb (length fs) (countOf kind)) (lineOf kind fs) (Bad Fields)

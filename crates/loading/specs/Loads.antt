@@ -13,6 +13,7 @@ use Rattle.table.specs.declared.Outcome.the-variants as outcome
 use Rattle.table.specs.declared.Loading.{Loading}
 use Rattle.table.specs.Load.{load, loaded}
 
+-- "`ok` and bytes used, or `refused`, number and line"
 unfoldable pub answerOf : O.Outcome → A.Answer
 answerOf (outcome.Loaded used) = Loaded used
 answerOf (outcome.Refused number line) = Unloaded number line

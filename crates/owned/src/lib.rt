@@ -106,14 +106,28 @@ pub fn load(card: Card, text: &[u8], memory: &mut [u8], store: &[u8], rows: [Cou
     joined(reply, rs)
 }
 
-pub fn count(card: Card, shelf: Shelf, store: &[u8], rows: [Counters; 40], unit: u8) -> Counted
-    ensures { λ r. ⌜ r ≡ countOf (placeOf card shelf (length (now (store .entry))) 40 unit) rows ⌝ }
+// The calls that `entry::count` makes, of the first so many rows: no rows are lent, which would be a walk by hand.
+pub fn count_among(
+    card: Card,
+    shelf: Shelf,
+    store: &[u8],
+    rows: [Counters; 40],
+    lent: usize,
+    unit: u8,
+) -> Counted
+    ensures { λ r. ⌜ r ≡ countOf (placeOf card shelf (length (now (store .entry))) lent unit) rows ⌝ }
 {
-    let place = admit::counted(card, shelf, store, 40, unit);
+    let place = admit::counted(card, shelf, store, lent, unit);
     let at = entry::row_at(place);
     if at < 40 {
         let row = rows[at];
         return entry::counted_at(place, row);
     }
     entry::counted_at(place, Counters::zero())
+}
+
+pub fn count(card: Card, shelf: Shelf, store: &[u8], rows: [Counters; 40], unit: u8) -> Counted
+    ensures { λ r. ⌜ r ≡ countOf (placeOf card shelf (length (now (store .entry))) 40 unit) rows ⌝ }
+{
+    count_among(card, shelf, store, rows, 40, unit)
 }

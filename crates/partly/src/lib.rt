@@ -1,5 +1,6 @@
 // The entry points for a program that keeps 40 rows in an array and lends the first so many of them: rows go in by value and come back.
 // Where all 40 are lent the public entry points do the work, through `owned`; else the rooms do it, and the rows are settled by value.
+// A count is the same for both.
 use answer::Done;
 use card::Card;
 use counters::Counters;
@@ -143,14 +144,5 @@ pub fn count(
 ) -> Counted
     ensures { λ r. ⌜ r ≡ countOf (placeOf card shelf (length (now (store .entry))) lent unit) rows ⌝ }
 {
-    if lent == 40 {
-        return owned::count(card, shelf, store, rows, unit);
-    }
-    let place = admit::counted(card, shelf, store, lent, unit);
-    let at = entry::row_at(place);
-    if at < 40 {
-        let row = rows[at];
-        return entry::counted_at(place, row);
-    }
-    entry::counted_at(place, Counters::zero())
+    owned::count_among(card, shelf, store, rows, lent, unit)
 }

@@ -8,7 +8,8 @@ use Rattle.octets.specs.Octets.{cat}
 use Rattle.hex.specs.Writing.{Wrote}
 use Rattle.words.specs.Decimals.{decimal}
 use Rattle.hex.proofs.Splices.{then, cat-snoc}
-use Rattle.phrases.specs.Fates.{tabbed, fields, who}
+use Rattle.arbiter.specs.Arbitration.{nobody}
+use Rattle.phrases.specs.Phrases.{tabbed, fields, who}
 
 one-field : (f : List ℕ) → tabbed f ≡ fields (f ∷ [])
 unfolding cat
@@ -22,10 +23,10 @@ one b b₁ k p f w = rw (← one-field f) w
 pub more : (b b₁ b₂ : List ℕ) (k p q : ℕ) (fs : List (List ℕ)) (g : List ℕ) → Wrote b k (fields fs) p b₁ → Wrote b₁ p (tabbed g) q b₂ → p ≤ length b → Wrote b k (fields (fs ++ g ∷ [])) q b₂
 more b b₁ b₂ k p q fs g w x room = rw (cat-snoc tabbed fs g) (then b b₁ b₂ (fields fs) (tabbed g) k p q w x room)
 
-pub who-nobody : (n : ℕ) → n ≡ 255 → who n ≡ 45 ∷ []
+pub who-nobody : (n : ℕ) → n ≡ nobody → who n ≡ 45 ∷ []
 unfolding who
-who-nobody n e = simp (eq-eqb n 255 e)
+who-nobody n e = simp (eq-eqb n nobody e)
 
-pub who-number : (n : ℕ) → (n ≡ 255 → ⊥) → who n ≡ decimal n
+pub who-number : (n : ℕ) → (n ≡ nobody → ⊥) → who n ≡ decimal n
 unfolding who
-who-number n e = simp (ne-eqb n 255 e)
+who-number n e = simp (ne-eqb n nobody e)

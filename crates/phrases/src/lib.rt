@@ -1,6 +1,7 @@
 // A fate, a unit or nobody, and the counters, as the fields of an answer's line.
 use answer::Arrival;
 use answer::Hearing;
+use arbiter::NOBODY;
 use counters::Counters;
 ghost use mathlib.Core.Path.{_≡_};
 ghost use Prim.Native.Nat.{_+_, _≤_};
@@ -8,10 +9,7 @@ ghost use lib.ListN.{length};
 ghost use Rattle.answer.specs.Answers.{arrivalWord, hearingWord};
 ghost use Rattle.counters.specs.Counting.{listed as listedOf};
 ghost use Rattle.hex.specs.Writing.{Wrote};
-ghost use Rattle.phrases.specs.Fates.{tabbed, who};
-
-// Nobody, where a unit stands.
-const NOBODY: u8 = 255;
+ghost use Rattle.phrases.specs.Phrases.{tabbed, who};
 
 // Writes a tab and a text.
 pub fn put_field(out: &mut [u8], at: usize, text: &[u8]) -> usize

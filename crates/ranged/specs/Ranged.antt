@@ -15,7 +15,7 @@ use Rattle.ranged.specs.declared.Num.the-variants.{Is, NoNum}
 use Rattle.ranged.specs.declared.Aim.{Aim}
 use Rattle.ranged.specs.declared.Aim.the-variants.{At, NoAim}
 
--- The number that the text s of field f says, from lo to hi: "23 Number (a number, also after `u` or `m`, not in the decimal form
+-- The number that the text s of field f says, from lo to hi. 02, W5: "23 Number (a number, also after `u` or `m`, not in the decimal form
 -- given), 24 Range (everything else in a field)"
 unfoldable pub ranged : ℕ → ℕ → ℕ → List ℕ → Num
 ranged f lo hi s =

@@ -3,7 +3,6 @@ use arbiter::Arbiter;
 use arbiter::NOBODY;
 use header::Link;
 use outlet::Limits;
-use outlet::Mode;
 use outlet::Outlet;
 use outlet::Ring;
 ghost use mathlib.Core.Path.{_≡_};
@@ -73,14 +72,13 @@ impl Unit {
             top: 0,
             priority: 0,
         };
-        let limits = Limits {
-            mode: Mode::One,
-            cbrlength: 0,
-            cbrlimit: 0,
-            vbrlimit: 0,
-            mark: false,
-        };
-        Unit::declared(settings, limits, 0)
+        Unit {
+            settings,
+            inlet: outlet::empty(),
+            outlet: Outlet::one(0, false),
+            place: 0,
+            sessions: [0; 4],
+        }
     }
 }
 

@@ -1,31 +1,15 @@
--- A unit or nobody, and rows written one behind the other. Assumes nothing.
-use mathlib.Core.Path.{_≡_, refl}
-use mathlib.Core.Bool.{Bool, true, false, cond}
-use mathlib.Core.List.{List, [], _∷_, _++_}
+-- Rows written one behind the other. Assumes nothing.
+use mathlib.Core.Path.{_≡_}
+use mathlib.Core.List.{List, [], _++_}
 use Prim.Native.Nat.{ℕ, _+_, _≤_, _<_}
 use native.Mathlib.Numerals.{add-one}
-use lib.Dec.{eqb}
 use lib.ListN.{length, getD, take}
 use lib.Seq.{take-suc}
 use Rattle.octets.specs.Octets.{cat}
 use Rattle.hex.specs.Writing.{Wrote}
 use Rattle.hex.proofs.Splices.{nothing, then, cat-snoc}
 use Rattle.counters.specs.declared.Counters.{Counters}
-use Rattle.words.specs.Decimals.{decimal}
-use Rattle.phrases.specs.Fates.{tabbed, who}
-use Rattle.shown.specs.Lines.{unitField, rowFields}
-
--- the field of a unit is the tab and who it is
-unit-field : (n : ℕ) → tabbed (who n) ≡ unitField n
-unfolding who unitField
-unit-field n = go (eqb n 255)
-  where
-    go : (b : Bool) → 9 ∷ cond b (45 ∷ []) (decimal n) ≡ cond b (9 ∷ 45 ∷ []) (9 ∷ decimal n)
-    go true = refl
-    go false = refl
-
-pub as-unit : (b b₁ : List ℕ) (k p n : ℕ) → Wrote b k (tabbed (who n)) p b₁ → Wrote b k (unitField n) p b₁
-as-unit b b₁ k p n w = rw (← unit-field n) w
+use Rattle.shown.specs.Lines.{rowFields}
 
 pub no-rows : (b : List ℕ) (k : ℕ) → Wrote b k (cat rowFields []) k b
 unfolding cat

@@ -1,14 +1,13 @@
 -- The answer lines of docs/CONSOLE.md up to their newline, as bytes. Assumes nothing.
 use Prim.Native.Nat.{ℕ}
-use mathlib.Core.Bool.{cond}
 use mathlib.Core.List.{List, [], _∷_, _++_}
-use lib.Dec.{eqb}
 use lib.ListN.{take}
 use Rattle.octets.specs.Octets.{be4, cat}
 use Rattle.words.specs.Decimals.{numberField, numberFields}
 use Rattle.hex.specs.Hex.{hexOf}
 use Rattle.answer.specs.declared.Answer as A
 use Rattle.answer.specs.declared.Answer.the-variants.{Loaded, Unloaded, Refused, Arrived, Framed, Heard, Taken, Empty}
+use Rattle.phrases.specs.Phrases.{tabbed, who}
 use Rattle.answer.specs.Answers.{arrivalWord, hearingWord}
 use Rattle.counters.specs.declared.Counters.{Counters}
 use Rattle.counters.specs.Counting.{listed}
@@ -58,26 +57,18 @@ tCount = 99 ∷ 111 ∷ 117 ∷ 110 ∷ 116 ∷ []
 abbrev pub tShowRows : List ℕ
 tShowRows = 115 ∷ 104 ∷ 111 ∷ 119 ∷ 9 ∷ 114 ∷ 111 ∷ 119 ∷ 115 ∷ []
 
--- ` -`
-abbrev pub tNobody : List ℕ
-tNobody = 9 ∷ 45 ∷ []
-
--- "SENDER and GRANTED are `-` where there is none": 255 is nobody
-unfoldable pub unitField : ℕ → List ℕ
-unitField n = cond (eqb n 255) tNobody (numberField n)
-
--- `frame NUMBER SENDER GRANTED COPIES`
+-- `frame NUMBER SENDER GRANTED COPIES`: "SENDER and GRANTED are `-` where there is none"
 abbrev pub frameText : ℕ → ℕ → ℕ → ℕ → List ℕ
-frameText number sender granted copies = (((tFrame ++ numberField number) ++ unitField sender) ++ unitField granted) ++ numberField copies
+frameText number sender granted copies = (((tFrame ++ numberField number) ++ tabbed (who sender)) ++ tabbed (who granted)) ++ numberField copies
 
 -- what an event answers, but for its buffer; the word is that of an event that is refused
 unfoldable pub saidText : List ℕ → ℕ → A.Answer → List ℕ
 saidText word unit (Loaded used) = tLoadOk ++ numberField used
 saidText word unit (Unloaded number line) = (tLoadRefused ++ numberField number) ++ numberField line
 saidText word unit (Refused number) = word ++ (tRefused ++ numberField number)
-saidText word unit (Arrived fate) = (tArrive ++ numberField unit) ++ (9 ∷ arrivalWord fate)
+saidText word unit (Arrived fate) = (tArrive ++ numberField unit) ++ tabbed (arrivalWord fate)
 saidText word unit (Framed number sender granted copies) = frameText number sender granted copies
-saidText word unit (Heard fate) = (tHear ++ numberField unit) ++ (9 ∷ hearingWord fate)
+saidText word unit (Heard fate) = (tHear ++ numberField unit) ++ tabbed (hearingWord fate)
 saidText word unit Taken = (tTake ++ numberField unit) ++ tCell
 saidText word unit Empty = (tTake ++ numberField unit) ++ tEmpty
 

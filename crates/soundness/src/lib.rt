@@ -2,7 +2,6 @@
 use arbiter::NOBODY;
 use card::Ask;
 use card::Card;
-use header::Link;
 use shelf::Settings;
 use shelf::Shelf;
 use shelf::Unit;

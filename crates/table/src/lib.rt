@@ -125,7 +125,7 @@ fn read_lines(card: Card, text: &[u8], memory: &mut [u8]) -> Progress
     let mut p = begin();
     let mut from: usize = 0;
     while from < text.len() {
-        let end = text::field_end(text, from, 10);
+        let end = text::field_end(text, from, b'\n');
         let reading = line::read(&text[from..end], end < text.len());
         p = step(card, room, memory, p, reading);
         let verdict = p.verdict;

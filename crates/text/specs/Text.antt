@@ -13,16 +13,16 @@ at fs k = getD fs k []
 abbrev pub push : ℕ → List (List ℕ) → List (List ℕ)
 push b fs = (b ∷ at fs 0) ∷ tail fs
 
--- "fields parted by one tab": one field more than there are tabs
+-- "each line ended by a newline, fields parted by one tab": one field more than there are bytes that part them
 unfoldable pub split : ℕ → List ℕ → List (List ℕ)
-split tab [] = [] ∷ []
-split tab (b ∷ r) = cond (eqb b tab) ([] ∷ split tab r) (push b (split tab r))
+split parting [] = [] ∷ []
+split parting (b ∷ r) = cond (eqb b parting) ([] ∷ split parting r) (push b (split parting r))
 
 -- the fields of a line: a tab is byte 9
 abbrev pub fieldsOf : List ℕ → List (List ℕ)
 fieldsOf text = split 9 text
 
--- field f, "counted from the word as 1"
+-- field f; 02, W5: "counted from the word as 1"
 abbrev pub fieldOf : ℕ → List (List ℕ) → List ℕ
 fieldOf f fs = at fs (f - 1)
 

@@ -7,14 +7,14 @@ ghost use Rattle.text.specs.Digits.{digits as digitsOf, decimalOf};
 
 const TAB: u8 = b'\t';
 
-// Where the field that starts at from ends: at the next tab, or at the end.
-pub fn field_end(s: &[u8], from: usize, tab: u8) -> usize
+// Where the field that starts at from ends: at the next byte that parts fields, or at the end.
+pub fn field_end(s: &[u8], from: usize, parting: u8) -> usize
     requires { ⌜ from ≤ length (now s) ⌝ }
-    ensures { λ r. ⌜ (r ≡ from + length (at (split tab (drop from (now (s .entry)))) 0)) × (r ≤ length (now (s .entry))) ⌝ }
+    ensures { λ r. ⌜ (r ≡ from + length (at (split parting (drop from (now (s .entry)))) 0)) × (r ≤ length (now (s .entry))) ⌝ }
 {
     let mut i = from;
     while i < s.len() {
-        if s[i] == tab {
+        if s[i] == parting {
             return i;
         }
         i += 1;

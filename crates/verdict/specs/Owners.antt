@@ -20,6 +20,7 @@ ownerAt shelf Nothing = record { known = false; unit = getD (shelf .units) 0 bla
 unfoldable pub ownerOf : Shelf → ℕ → Owner
 ownerOf shelf u = ownerAt shelf (findIn (declared shelf) u)
 
+-- "unit not declared before use"
 unfoldable pub ownedBy : Owner → (U.Unit → Verdict) → Verdict
 ownedBy o rest = cond (o .known) (rest (o .unit)) (Order 2)
 

@@ -1,4 +1,4 @@
-// Small things in text: words and decimal numbers, read from a slice and written into one.
+// Small things in text: a text or a decimal number written into a slice, a number read from one.
 ghost use mathlib.Core.Path.{_≡_};
 ghost use Prim.Native.Nat.{_+_, _*_, _≤_};
 ghost use lib.ListN.{length};

@@ -9,7 +9,7 @@ use Rattle.event.specs.Names.{wArrive, wFrame, wTake, wCount}
 use Rattle.event.specs.declared.Event as Ev
 use Rattle.event.specs.declared.Event.the-variants.{Arrive, Frame, Take, Count, Bad}
 use Rattle.answer.specs.declared.Answer as An
-use Rattle.phrases.specs.Fates.{fields}
+use Rattle.phrases.specs.Phrases.{fields}
 use Rattle.answered.specs.Answers.{answerFields}
 use Rattle.written.specs.declared.Outcome as Ou
 use Rattle.written.specs.declared.Outcome.the-variants.{Nothing, Answered, Counted}

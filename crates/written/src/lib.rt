@@ -19,7 +19,7 @@ pub enum Outcome {
 }
 
 // The longest line is shorter.
-pub const ROOM: usize = 512;
+const ROOM: usize = 512;
 
 // Writes a unit and its thirteen counters.
 fn put_counters(out: &mut [u8], at: usize, unit: u8, c: Counters) -> usize

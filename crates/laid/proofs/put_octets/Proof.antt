@@ -21,11 +21,11 @@ abbrev μ-loop : tie.MeasureT-loop
 loop-holds : tie.Need-loop-holds Inv-loop μ-loop
 loop-holds c = (omega arith, omega arith, refl, no-fields (c .before .before .args .out .now) (c .before .before .args .at))
 
-shared-slice-read-wide : tie.Need-shared-slice-read-wide Inv-loop μ-loop
-shared-slice-read-wide c = search needs
+shared-slice-read-as-number : tie.Need-shared-slice-read-as-number Inv-loop μ-loop
+shared-slice-read-as-number c = search needs
 
-wide-requires : tie.Need-wide-requires Inv-loop μ-loop
-wide-requires c κs = search needs
+as-number-requires : tie.Need-as-number-requires Inv-loop μ-loop
+as-number-requires c κs = search needs
 
 put-number-requires : tie.Need-put-number-requires Inv-loop μ-loop
 put-number-requires c κs = search needs
@@ -41,7 +41,7 @@ loop-again c =
     let l = c .before .before .before .before .before .before .before .loop in
     let a = c .before .before .before .before .before .before .before .before .before .before .args in
     let t = one-more (a .bytes .now) (l .i) (c .before .before .before .before .before .before .loop-test .taken) in
-    (omega arith, omega arith, search needs, rw (t, ← (c .before .before .before .wide .ensures)) (then _ _ _ _ _ _ _ _ (l .inv .3) (c .before .before .put-number .ensures .0) (omega arith)))
+    (omega arith, omega arith, search needs, rw (t, ← (c .before .before .before .as-number .ensures)) (then _ _ _ _ _ _ _ _ (l .inv .3) (c .before .before .put-number .ensures .0) (omega arith)))
 
 same-length : tie.Need-same-length Inv-loop μ-loop
 same-length c = search needs
@@ -60,8 +60,8 @@ put-octets-spec =
     Inv-loop
     μ-loop
     loop-holds
-    shared-slice-read-wide
-    wide-requires
+    shared-slice-read-as-number
+    as-number-requires
     put-number-requires
     add-i
     loop-less

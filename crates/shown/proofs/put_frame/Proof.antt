@@ -1,6 +1,5 @@
 -- `shown::put_frame` meets its contract. Assumes nothing.
 use Rattle.hex.proofs.Splices.{then}
-use Rattle.shown.proofs.Written.{as-unit}
 use native.Mathlib.Omega.{arith}
 use borrow.Author.Needs.{needs}
 use Rattle.shown.proofs.put_frame.Statement.{statement}
@@ -25,7 +24,7 @@ same-length : tie.Need-same-length
 same-length c = search needs
 
 returns : tie.Need-returns
-returns c = (then _ _ _ _ _ _ _ _ (then _ _ _ _ _ _ _ _ (then _ _ _ _ _ _ _ _ (c .before .before .before .before .before .before .before .before .before .before .before .before .before .before .say .ensures .0) (as-unit _ _ _ _ _ (c .before .before .before .before .before .before .before .before .before .before .put-who .ensures .0)) (omega arith)) (as-unit _ _ _ _ _ (c .before .before .before .before .before .before .put-who2 .ensures .0)) (omega arith)) (c .before .before .put-number .ensures .0) (omega arith), omega arith)
+returns c = (then _ _ _ _ _ _ _ _ (then _ _ _ _ _ _ _ _ (then _ _ _ _ _ _ _ _ (c .before .before .before .before .before .before .before .before .before .before .before .before .before .before .say .ensures .0) (c .before .before .before .before .before .before .before .before .before .before .put-who .ensures .0) (omega arith)) (c .before .before .before .before .before .before .put-who2 .ensures .0) (omega arith)) (c .before .before .put-number .ensures .0) (omega arith), omega arith)
 
 pub put-frame-spec : {M : Type 1} → statement M
 put-frame-spec =

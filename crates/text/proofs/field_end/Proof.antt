@@ -25,7 +25,7 @@ returns : tie.Need-returns Inv-loop μ-loop
 returns c =
     let l = c .before .before .before in
     let a = l .before .args in
-    omega (arith, end-tab (a .tab) (a .s .now) (l .loop .i) (c .before .before .loop-test .taken) (c .if1 .taken))
+    omega (arith, end-tab (a .parting) (a .s .now) (l .loop .i) (c .before .before .loop-test .taken) (c .if1 .taken))
 
 add-i : tie.Need-add-i Inv-loop μ-loop
 add-i c = search needs
@@ -37,13 +37,13 @@ loop-again : tie.Need-loop-again Inv-loop μ-loop
 loop-again c =
     let l = c .before .before .before in
     let a = l .before .args in
-    omega (arith, end-byte (a .tab) (a .s .now) (l .loop .i) (c .before .before .loop-test .taken) (c .if1 .left))
+    omega (arith, end-byte (a .parting) (a .s .now) (l .loop .i) (c .before .before .loop-test .taken) (c .if1 .left))
 
 returns-2 : tie.Need-returns-2 Inv-loop μ-loop
 returns-2 c =
     let l = c .before in
     let a = l .before .args in
-    omega (arith, end-end (a .tab) (a .s .now) (l .loop .i) (c .loop-test .left))
+    omega (arith, end-end (a .parting) (a .s .now) (l .loop .i) (c .loop-test .left))
 
 pub field-end-spec : {M : Type 1} → statement M
 field-end-spec =

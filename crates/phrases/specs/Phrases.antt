@@ -4,6 +4,7 @@ use mathlib.Core.Bool.{cond}
 use mathlib.Core.List.{List, [], _∷_}
 use lib.Dec.{eqb}
 use Rattle.octets.specs.Octets.{cat}
+use Rattle.arbiter.specs.Arbitration.{nobody}
 use Rattle.words.specs.Decimals.{decimal}
 
 -- a field behind the tab that parts it from the one before, and several
@@ -13,6 +14,6 @@ tabbed field = 9 ∷ field
 abbrev pub fields : List (List ℕ) → List ℕ
 fields fs = cat tabbed fs
 
--- a unit's number, or `-` for nobody, who is 255
+-- a unit's number, or `-` for nobody
 unfoldable pub who : ℕ → List ℕ
-who n = cond (eqb n 255) (45 ∷ []) (decimal n)
+who n = cond (eqb n nobody) (45 ∷ []) (decimal n)
