@@ -1,5 +1,5 @@
 -- What a capacity is, what the tests of an outlet say, and that a fresh outlet passes them. Assumes nothing.
-use mathlib.Core.Path.{_≡_, refl, sym, _∙_}
+use mathlib.Core.Path.{_≡_, refl, sym, subst, _∙_}
 use mathlib.Core.Bool.{Bool, true, false, _&&_}
 use mathlib.Core.Logic.{_↔_}
 use mathlib.Core.List.{List, map}
@@ -9,7 +9,7 @@ use lib.Dec.{leb, ltb, eqb·suc-zero}
 use lib.ListN.{length, getD, length-map, List·getD-eq-default}
 use borrow.Author.Tests.{ne-eqb}
 use Rattle.outlet.proofs.Truth.{le-iff, lt-iff, eq-iff, and-iff}
-use Rattle.outlet.specs.Outlets.{capacities, capacity, givenIn, given, GivenIn, Given, within, nothing, ringFits, RingFits, queueFits, ringsFit, outletFits, RingsFit, empty, queue, fresh}
+use Rattle.outlet.specs.Outlets.{capacities, capacity, givenIn, given, GivenIn, Given, within, nothing, ringFits, RingFits, queueFits, ringsFit, outletFits, RingsFit, empty, queue, fresh, one, four}
 use Rattle.outlet.specs.declared.Mode.{Mode}
 use Rattle.outlet.specs.declared.Mode.the-variants.{One, Four}
 use Rattle.outlet.specs.declared.Limits.{Limits}
@@ -127,3 +127,13 @@ fits-four outlet e =
     (sym
     (λ i. fits-within (queue outlet 0) 2 (omega arith) i && fits-within (queue outlet 1) l (omega arith) i
     && fits-within (queue outlet 2) (89 - l) (omega arith) i && fits-within (queue outlet 3) 32 (omega arith) i)))
+
+-- a fresh outlet is the one of its mode
+pub fresh-one : (limits : Limits) → limits .mode ≡ One → Given limits → one (limits .vbrlimit) (limits .mark) ≡ fresh limits
+fresh-one limits m g =
+    let none : GivenIn One (limits .cbrlength) (limits .cbrlimit) (limits .vbrlimit) = subst (λ mode. GivenIn mode (limits .cbrlength) (limits .cbrlimit) (limits .vbrlimit)) m g in
+    λ i. fresh (record { mode = sym m i; cbrlength = sym (none .0) i; cbrlimit = sym (none .1) i; vbrlimit = limits .vbrlimit; mark = limits .mark })
+
+pub fresh-four : (limits : Limits) → limits .mode ≡ Four → four (limits .cbrlength) (limits .cbrlimit) (limits .vbrlimit) (limits .mark) ≡ fresh limits
+fresh-four limits m =
+    λ i. fresh (record { mode = sym m i; cbrlength = limits .cbrlength; cbrlimit = limits .cbrlimit; vbrlimit = limits .vbrlimit; mark = limits .mark })

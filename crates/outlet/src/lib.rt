@@ -1,7 +1,7 @@
 // A unit's outlet: its limits as a `unit` line gives them, its queues, their capacities.
 ghost use mathlib.Core.Path.{_≡_};
 ghost use Prim.Native.Nat.{_-_};
-ghost use Rattle.outlet.specs.Outlets.{empty as emptyOf, fresh as freshOf, one as oneOf, four as fourOf, capacity as capacityOf, queue as queueOf, given as givenBy, within as isWithin, nothing as isNothing, outletFits};
+ghost use Rattle.outlet.specs.Outlets.{empty as emptyOf, fresh as freshOf, one as oneOf, four as fourOf, capacity as capacityOf, queue as queueOf, given as givenBy, Given, within as isWithin, nothing as isNothing, outletFits};
 
 pub enum Mode {
     One,
@@ -50,7 +50,7 @@ impl Outlet {
     pub const ABR: u8 = 32;
 
     // All queues empty.
-    pub fn fresh(limits: Limits) -> Outlet
+    fn idle(limits: Limits) -> Outlet
         ensures { λ r. ⌜ r ≡ freshOf limits ⌝ }
     {
         Outlet {
@@ -63,7 +63,7 @@ impl Outlet {
     pub fn one(vbrlimit: u8, mark: bool) -> Outlet
         ensures { λ r. ⌜ r ≡ oneOf vbrlimit mark ⌝ }
     {
-        Outlet::fresh(Limits {
+        Outlet::idle(Limits {
             mode: Mode::One,
             cbrlength: 0,
             cbrlimit: 0,
@@ -76,13 +76,30 @@ impl Outlet {
     pub fn four(cbrlength: u8, cbrlimit: u8, vbrlimit: u8, mark: bool) -> Outlet
         ensures { λ r. ⌜ r ≡ fourOf cbrlength cbrlimit vbrlimit mark ⌝ }
     {
-        Outlet::fresh(Limits {
+        Outlet::idle(Limits {
             mode: Mode::Four,
             cbrlength,
             cbrlimit,
             vbrlimit,
             mark,
         })
+    }
+
+    // A fresh outlet with limits that a `unit` line gave.
+    pub fn fresh(limits: Limits) -> Outlet
+        requires { ⌜ Given limits ⌝ }
+        ensures { λ r. ⌜ r ≡ freshOf limits ⌝ }
+    {
+        let mode = limits.mode;
+        match mode {
+            Mode::One => Outlet::one(limits.vbrlimit, limits.mark),
+            Mode::Four => Outlet::four(
+                limits.cbrlength,
+                limits.cbrlimit,
+                limits.vbrlimit,
+                limits.mark,
+            ),
+        }
     }
 }
 

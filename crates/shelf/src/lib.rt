@@ -7,6 +7,7 @@ use outlet::Outlet;
 use outlet::Ring;
 ghost use mathlib.Core.Path.{_≡_};
 ghost use Prim.Native.Nat.{min};
+ghost use Rattle.outlet.specs.Outlets.{Given};
 ghost use Rattle.shelf.specs.Shelves.{blank as blankOf, unit as unitOf, fresh as freshOf, declared as declaredIn, findIn};
 ghost use Rattle.shelf.specs.Sessions.{hears as hearsIt, withSession};
 
@@ -51,6 +52,7 @@ impl Unit {
 
     // A freshly declared unit: all queues empty, no session heard.
     pub fn declared(settings: Settings, limits: Limits, place: u32) -> Unit
+        requires { ⌜ Given limits ⌝ }
         ensures { λ r. ⌜ r ≡ unitOf settings limits place ⌝ }
     {
         Unit {

@@ -129,12 +129,14 @@ module _ (card : Card) (memory₀ text : List ℕ) (told : List Line) (from : �
   verdict-is (Read l) h = verdict-line l (h l refl)
   verdict-is (Bad wrong) h = refl
 
-  -- there is a place for a unit that it declares
-  pub placed : (r : Reading) → ((l : Line) → r ≡ Read l → Ranged l) → verdictIn card room memory p r ≡ Fine → Places (p .shelf) r
+  -- there is a place for a unit that it declares, and its limits are in their ranges
+  pub placed : (r : Reading) → ((l : Line) → r ≡ Read l → InRange l) → verdictIn card room memory p r ≡ Fine → Places (p .shelf) r
   placed (Read (Bus bus)) h e = tt
   placed (Read (L·Unit settings limits)) h e =
-      let k = place-left card room told settings limits (sym (verdict-line (L·Unit settings limits) (h (L·Unit settings limits) refl)) ∙ e) (h (L·Unit settings limits) refl) (shelved card room told (b .good) (b .ranges)) in
-      subst (λ q. q .shelf .count < 32) (sym (b .come)) k
+      let given = h (L·Unit settings limits) refl in
+      let within = ranged (L·Unit settings limits) given in
+      let k = place-left card room told settings limits (sym (verdict-line (L·Unit settings limits) within) ∙ e) within (shelved card room told (b .good) (b .ranges)) in
+      (subst (λ q. q .shelf .count < 32) (sym (b .come)) k, given .limits-in)
   placed (Read (Vp u v target class outvpi)) h e = tt
   placed (Read (Drop u v)) h e = tt
   placed (Read (Page u v top)) h e = tt
@@ -191,11 +193,11 @@ module _ (card : Card) (memory₀ text : List ℕ) (told : List Line) (from : �
   abbrev verdict : Verdict
   verdict = verdictIn card (usable memory₀) memory p r
 
-  in-range : (l : Line) → r ≡ Read l → Ranged l
-  in-range l k = ranged l (read-in-range (take (e - from) (drop from text)) (ltb e (length text)) (sym is ∙ k))
+  in-range : (l : Line) → r ≡ Read l → InRange l
+  in-range l k = read-in-range (take (e - from) (drop from text)) (ltb e (length text)) (sym is ∙ k)
 
   by-lines : verdict ≡ verdictOn card (usable memory₀) told r
-  by-lines = verdict-is card memory₀ text told from p memory b r in-range
+  by-lines = verdict-is card memory₀ text told from p memory b r (λ l k. ranged l (in-range l k))
 
   pub step-places : verdict ≡ Fine → Places (p .shelf) r
   step-places = placed card memory₀ text told from p memory b r in-range
@@ -238,7 +240,7 @@ module _ (card : Card) (memory₀ text : List ℕ) (told : List Line) (from : �
     on-by (Read l) k = (
       l ∷ told,
       turn card memory₀ text told from p memory b e l (omega arith) was-ended (line-is ∙ ap (λ x. x ∷ readingsOf (split 10 (drop (e + 1) text))) k)
-          (sym (ap (verdictOn card (usable memory₀) told) k) ∙ sym by-lines ∙ fine-is verdict fine) (in-range l k),
+          (sym (ap (verdictOn card (usable memory₀) told) k) ∙ sym by-lines ∙ fine-is verdict fine) (ranged l (in-range l k)),
     )
     on-by (Bad wrong) k = absurd (false≢true (sym (ap (λ x. isFine (verdictIn card (usable memory₀) memory p x)) k) ∙ fine))
 

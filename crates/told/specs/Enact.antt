@@ -8,6 +8,7 @@ use Rattle.record.specs.Record.{size, recordAt, written}
 use Rattle.record.specs.declared.Record as R
 use Rattle.record.specs.declared.Record.the-variants.{Drop as R·Drop, Route, Page as R·Page}
 use Rattle.record.specs.declared.Got.{Got}
+use Rattle.outlet.specs.Outlets.{Given}
 use Rattle.shelf.specs.declared.Shelf.{Shelf}
 use Rattle.line.specs.declared.Reading.{Reading}
 use Rattle.line.specs.declared.Reading.the-variants.{Good, Bad}
@@ -59,10 +60,10 @@ abbrev pub memoryIn : Card → List ℕ → Shelf → ℕ → Reading → List �
 memoryIn card memory shelf used (Good l) = memoryBy card memory shelf used l
 memoryIn card memory shelf used (Bad wrong) = memory
 
--- there is a place for a unit that it declares
+-- there is a place for a unit that it declares, and a `unit` line could give its limits
 abbrev pub Places : Shelf → Reading → Type 0
 Places shelf (Good (Bus bus)) = Unit {0}
-Places shelf (Good (L·Unit settings limits)) = shelf .count < 32
+Places shelf (Good (L·Unit settings limits)) = (shelf .count < 32) × Given limits
 Places shelf (Good (Vp u v target class outvpi)) = Unit {0}
 Places shelf (Good (Drop u v)) = Unit {0}
 Places shelf (Good (Page u v top)) = Unit {0}

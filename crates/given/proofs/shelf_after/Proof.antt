@@ -15,10 +15,10 @@ enum-known-line-2 : tie.Need-enum-known-line-2
 enum-known-line-2 c = search needs
 
 declared-requires : tie.Need-declared-requires
-declared-requires c κs = search needs
+declared-requires c κs = (rw (c .before .line2 .given .1) at (c .before .before .before .pre)) .1
 
 declare-requires : tie.Need-declare-requires
-declare-requires c κs = rw (c .before .before .line2 .given .1) at (c .before .before .before .before .pre)
+declare-requires c κs = (rw (c .before .before .line2 .given .1) at (c .before .before .before .before .pre)) .0
 
 enum-told : tie.Need-enum-told
 enum-told c = search needs

@@ -1,13 +1,31 @@
 -- `outlet::Outlet::fresh` meets its contract. Assumes nothing.
+use mathlib.Core.Path.{_∙_}
+use Rattle.outlet.proofs.Laws.{fresh-one, fresh-four}
 use borrow.Author.Needs.{needs}
 use Rattle.outlet.proofs.Outlet.fresh.Statement.{statement}
 use Rattle.outlet.proofs.Outlet.fresh.Tie as tie
 
-empty-requires : tie.Need-empty-requires
-empty-requires c κs = search needs
+enum-told : tie.Need-enum-told
+enum-told c = search needs
+
+one-requires : tie.Need-one-requires
+one-requires c κs = search needs
+
+enum-told-2 : tie.Need-enum-told-2
+enum-told-2 c = search needs
+
+four-requires : tie.Need-four-requires
+four-requires c κs = search needs
 
 returns : tie.Need-returns
-returns c = simp (c .empty .ensures)
+returns c =
+    let s = c .before .before .before in
+    c .one .ensures ∙ fresh-one (s .args .limits) (c .before .enum-told .given .1) (s .pre)
+
+returns-2 : tie.Need-returns-2
+returns-2 c =
+    let s = c .before .before .before in
+    c .four .ensures ∙ fresh-four (s .args .limits) (c .before .enum-told2 .given .1)
 
 pub fresh-spec : {M : Type 1} → statement M
-fresh-spec = tie.close (tie.spec empty-requires returns)
+fresh-spec = tie.close (tie.spec enum-told one-requires enum-told-2 four-requires returns returns-2)
