@@ -1,4 +1,4 @@
--- What is one unit's is no other's, and a cell is sent once and copied once. Assumes nothing.
+-- What is one unit's is no other's, and no cell goes out twice. Assumes nothing.
 use Prim.Native.Nat.{ℕ, _+_, _≤_}
 use native.Mathlib.Omega.{arith}
 use mathlib.Core.Path.{_≡_, refl, ap, subst, _∙_}

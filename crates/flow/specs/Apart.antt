@@ -1,4 +1,4 @@
--- Promise: what is one unit's is no other's, and a cell is sent once and copied once. Assumes nothing.
+-- Promise: what is one unit's is no other's, and no cell goes out twice. Assumes nothing.
 use Prim.Native.Nat.{ℕ, _<_, _≤_}
 use mathlib.Core.Path.{_≡_}
 use mathlib.Core.Bool.{Bool}
@@ -23,7 +23,7 @@ pub record Untouched (d d′ : Shelf) (i : ℕ) : Type 0 where
 abbrev pub Isolation : Type 0
 Isolation = (d : Shelf) → Different (d .units) → (e : Event) (unit i : ℕ) → named e ≡ some unit → i < length (d .units) → (numberOf (unitAt d i) ≡ unit → ⊥) → Untouched d (happensTo d e .shelf) i
 
--- of the cells that meet any test, no more are sent than arrive and are routed, and no more leave a queue than frames bring there that address the unit
+-- of the cells that meet a test, whatever it is, no more are sent than arrived and were routed, and no more leave a queue than came to it in frames that address the unit
 pub record Once (lines : List Line) (es : List Event) (i : ℕ) : Type 0 where
   pub cells : (test : Routed → Bool) → length (among test (sentAll (opened lines) es i)) ≤ length (among test (over (λ d e. routedAt d e i) (opened lines) es))
   pub copies : (q : ℕ) (test : Cell → Bool) →

@@ -19,8 +19,8 @@ unfoldable pub occurs : List Counter → ℕ → ℕ
 occurs [] k = 0
 occurs (c ∷ cs) k = cond (eqb (placeOf c) k) (suc (occurs cs k)) (occurs cs k)
 
--- each of the thirteen is what the events counted at the unit in place i. In cells: those that arrived, were sent, were queued and were taken; and "each copy on the bus
--- meets exactly one fate at each unit it addresses"
+-- of the unit in place i: each of the thirteen says how often the events counted it there. Some of them in cells: those that arrived, were sent, were queued, were taken; and
+-- "each copy on the bus meets exactly one fate at each unit it addresses"
 pub record Counted (lines : List Line) (es : List Event) (i : ℕ) : Type 0 where
   pub each : (c : Counter) → happened (becomes (opened lines) es) i c ≡ occurs (over (λ d e. countedAt d e i) (opened lines) es) (placeOf c)
   pub arrivals : happened (becomes (opened lines) es) i arrived ≡ length (over (λ d e. arrivedAt d e i) (opened lines) es)

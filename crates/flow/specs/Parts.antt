@@ -149,12 +149,13 @@ takenBy u (hears h bytes) q = []
 takenBy u takes q = oldestIn (leaving u) u q
 takenBy u (sends r rest) q = []
 
--- what it counts: a cell taken, if it holds one
+-- what it counts when it is asked for a cell
 unfoldable pub tookBy : L.Leaving → List Counter
 tookBy (leaves.Queue q) = taken ∷ []
 tookBy leaves.Empty = []
 
--- an arrival and its fate; the fate of a copy; a cell taken; a cell sent, `unheard` if it addresses none of the units, and the sender's own copy
+-- and whatever its part: an arrival and its fate; the fate of a copy; a cell taken; a cell sent, and its own copy of it; who rests counts nothing.
+-- "A sent cell addressing no declared unit also counts `unheard` at its sender"
 unfoldable pub countsBy : List Line → List Unit → Unit → Part → List Counter
 countsBy lines us u rests = []
 countsBy lines us u (arrives c) = arrivalCounts (arrivalOf lines u c)
