@@ -1,9 +1,9 @@
--- What is one unit's is no other's, and one event moves a cell once. Assumes nothing.
-use Prim.Native.Nat.{ℕ, _≤_}
+-- What is one unit's is no other's, and no cell goes out twice. Assumes nothing.
+use Prim.Native.Nat.{ℕ, _+_, _≤_}
 use native.Mathlib.Omega.{arith}
-use mathlib.Core.Path.{_≡_, refl, ap, _∙_}
+use mathlib.Core.Path.{_≡_, refl, ap, subst, _∙_}
 use mathlib.Core.Bool.{Bool, true, false, cond, _&&_}
-use mathlib.Core.List.{List, [], _∷_}
+use mathlib.Core.List.{List, [], _∷_, _++_}
 use mathlib.Core.Option.{some}
 use lib.Dec.{eqb, leb}
 use lib.ListN.{length}
@@ -11,24 +11,26 @@ use borrow.Author.Tests.{eqb-true}
 use Rattle.shelf.specs.declared.Found as F
 use Rattle.shelf.specs.declared.Found.the-variants.{At, Nothing}
 use Rattle.bus.specs.declared.Heard as H
+use Rattle.bus.specs.declared.Heard.the-variants as frames
+use Rattle.queueing.specs.Hearing.{queueOf}
 use Rattle.line.specs.declared.Line.{Line}
 use Rattle.answer.specs.declared.Hearing as A
 use Rattle.answer.specs.declared.Hearing.the-variants as hearing
 use Rattle.document.specs.Counters.{placeOf, times}
-use Rattle.document.specs.Events.{Event, arrive, frame, hear, take, count}
-use Rattle.document.specs.Shelf.{Unit, Shelf, numberOf, withInlet, findIn, unitAt}
+use Rattle.document.specs.Events.{Event, arrive, frame, hear, take, count, named}
+use Rattle.document.specs.Shelf.{Cell, Routed, Unit, Shelf, numberOf, withInlet, findIn, unitAt, opened}
 use Rattle.document.specs.Arrival.{Way, goes, lost, wayOf}
-use Rattle.document.specs.Hearing.{hearingOf}
+use Rattle.document.specs.Hearing.{addressed, fateIn, hearingOf}
 use Rattle.document.specs.Frame.{asHeard, isQueued}
 use Rattle.document.specs.Steps.{happensTo}
 use Rattle.document.proofs.Fixed.{given-kept}
-use Rattle.flow.specs.Parts.{Part, rests, arrives, hears, takes, sends, onlyAt, partOf, roomFor, broughtBy, copyIn, queuedBy}
-use Rattle.flow.specs.Lost.{inAll}
-use Rattle.flow.specs.Apart.{named, Isolation, OnceOnly}
-use Rattle.flow.proofs.Times.{occurs, found}
-use Rattle.flow.proofs.Turns.{does, unitBy, countsBy}
-use Rattle.flow.proofs.Moves.{heard-all}
-use Rattle.flow.proofs.Kept.{number-at}
+use Rattle.flow.specs.Parts.{Part, rests, arrives, hears, takes, sends, onlyAt, partOf, among, roomFor, routedIn, routedBy, routedAt, broughtBy, broughtIn, copyIn, copyFor, queuedBy, queuedIn, meantBy, meantFor, countsBy}
+use Rattle.flow.specs.Counted.{occurs}
+use Rattle.flow.specs.Order.{over, takenAll, sentAll}
+use Rattle.flow.specs.Apart.{Isolation, OnceOnly}
+use Rattle.flow.proofs.Times.{found}
+use Rattle.flow.proofs.Turns.{does, unitBy, for-inlet}
+use Rattle.flow.proofs.Kept.{number-at, in-order}
 
 -- a unit that is not named rests
 not-named : (d : Shelf) (unit i : ℕ) → (numberOf (unitAt d i) ≡ unit → ⊥) → (f : F.Found) → findIn (d .units) unit ≡ f → (right : Bool) (p : Part) → onlyAt f right i p ≡ rests
@@ -62,52 +64,89 @@ isolation d once e unit i n within other =
       counters = λ c.
           let a = ap (λ m. times (d′ .history) m c) (number-at d d′ (given-kept d e) i) in
           let b = w .counted once c in
-          let x = ap (λ p. occurs (countsBy (d .lines) (unitAt d i) (w .someone) p) (placeOf c)) r in
+          let x = ap (λ p. occurs (countsBy (d .lines) (d .units) (unitAt d i) p) (placeOf c)) r in
           omega (arith, a, b, x);
     }
 
--- at most one
-room-one : (w : Way) (u : Unit) → length (roomFor w u) ≤ 1
-unfolding roomFor
-room-one (lost fate) u = omega arith
-room-one (goes r) u = go (leb 4 (length (u .inlet)))
+-- of two lists, one behind the other, as many meet a test as of both
+module _ {A : Type 0} (test : A → Bool) where
+  abbrev meet : List A → ℕ
+  meet xs = length (among test xs)
+
+  meet-append : (xs ys : List A) → meet (xs ++ ys) ≡ meet xs + meet ys
+  unfolding among
+  meet-append [] ys = omega arith
+  meet-append (x ∷ xs) ys = go (test x) (meet-append xs ys)
+    where
+      go : (b : Bool) → meet (xs ++ ys) ≡ meet xs + meet ys → length (cond b (x ∷ among test (xs ++ ys)) (among test (xs ++ ys))) ≡ length (cond b (x ∷ among test xs) (among test xs)) + meet ys
+      go true e = omega arith
+      go false e = e
+
+  -- what left first is no more than what came
+  no-more : (xs ys zs : List A) → xs ≡ ys ++ zs → meet ys ≤ meet xs
+  no-more xs ys zs e = let a = ap meet e ∙ meet-append ys zs in omega arith
+
+  -- no more in each event, so no more in all
+  over-no-more : (f g : Shelf → Event → List A) → ((d : Shelf) (e : Event) → meet (f d e) ≤ meet (g d e)) → (d : Shelf) (es : List Event) → meet (over f d es) ≤ meet (over g d es)
+  unfolding over
+  over-no-more f g one d [] = omega arith
+  over-no-more f g one d (e ∷ es) =
+      let d′ = happensTo d e .shelf in
+      omega (arith, one d e, over-no-more f g one d′ es, meet-append (f d e) (over f d′ es), meet-append (g d e) (over g d′ es))
+
+-- an inlet takes no more than is routed
+room-routed : (test : Routed → Bool) (w : Way) (u : Unit) → meet test (roomFor w u) ≤ meet test (routedIn w)
+unfolding roomFor routedIn among
+room-routed test (lost fate) u = omega arith
+room-routed test (goes r) u = go (leb 4 (length (u .inlet)))
   where
-    go : (b : Bool) → length (cond b [] (r ∷ [])) ≤ 1
+    go : (b : Bool) → meet test (cond b [] (r ∷ [])) ≤ meet test (r ∷ [])
     go true = omega arith
     go false = omega arith
 
--- into an inlet, whatever the part
-brought-one : (lines : List Line) (u : Unit) (p : Part) → length (broughtBy lines u p) ≤ 1
-unfolding broughtBy
-brought-one lines u rests = omega arith
-brought-one lines u (arrives c) = room-one (wayOf lines (u .settings) c) u
-brought-one lines u (hears h bytes) = omega arith
-brought-one lines u takes = omega arith
-brought-one lines u (sends r rest) = omega arith
+-- whatever the part
+brought-routed : (test : Routed → Bool) (lines : List Line) (u : Unit) (p : Part) → meet test (broughtBy lines u p) ≤ meet test (routedBy lines u p)
+unfolding broughtBy routedBy
+brought-routed test lines u rests = omega arith
+brought-routed test lines u (arrives c) = room-routed test (wayOf lines (u .settings) c) u
+brought-routed test lines u (hears h bytes) = omega arith
+brought-routed test lines u takes = omega arith
+brought-routed test lines u (sends r rest) = omega arith
 
--- a fate is `queued` once or not
-queued-one : (fate : A.Hearing) → isQueued fate ≤ 1
-unfolding isQueued
-queued-one hearing.Damaged = omega arith
-queued-one hearing.Other = omega arith
-queued-one hearing.Wide = omega arith
-queued-one hearing.Full = omega arith
-queued-one hearing.Clp = omega arith
-queued-one hearing.Queued = omega arith
+-- a queue takes no more than is meant for it
+copy-meant : (test : Cell → Bool) (lines : List Line) (u : Unit) (h : H.Heard) (bytes : List ℕ) (q : ℕ) → meet test (copyIn lines u h bytes q) ≤ meet test (copyFor lines u h bytes q)
+unfolding copyIn copyFor hearingOf isQueued among
+copy-meant test lines u frames.Length bytes q = omega arith
+copy-meant test lines u frames.Damaged bytes q = omega arith
+copy-meant test lines u (frames.Cell target class header) bytes q = go (addressed lines u target) (fateIn u (queueOf (u .limits) class) header) (eqb q (queueOf (u .limits) class)) _
+  where
+    either : (a b : Bool) (cells : List Cell) → meet test (cond (a && b) cells []) ≤ meet test (cond b cells [])
+    either true b cells = omega arith
+    either false b cells = omega arith
 
--- a hearing
-heard-one : (lines : List Line) (u : Unit) (h : H.Heard) (bytes : List ℕ) → inAll (copyIn lines u h bytes) ≤ 1
-heard-one lines u h bytes = omega (arith, heard-all lines u h bytes, queued-one (hearingOf lines u h))
+    go : (a : Bool) (fate : A.Hearing) (b : Bool) (cells : List Cell) → meet test (cond (eqb (isQueued (cond a fate hearing.Other)) 1 && b) cells []) ≤ meet test (cond (a && b) cells [])
+    go true fate b cells = either (eqb (isQueued fate) 1) b cells
+    go false fate b cells = omega arith
 
--- into an outlet, whatever the part
-copies-one : (lines : List Line) (u : Unit) (p : Part) → inAll (queuedBy lines u p) ≤ 1
-unfolding queuedBy
-copies-one lines u rests = omega arith
-copies-one lines u (arrives c) = omega arith
-copies-one lines u (hears h bytes) = heard-one lines u h bytes
-copies-one lines u takes = omega arith
-copies-one lines u (sends r rest) = heard-one lines (withInlet u rest) (asHeard r) (r .cell .payload)
+-- whatever the part
+queued-meant : (test : Cell → Bool) (lines : List Line) (u : Unit) (p : Part) (q : ℕ) → meet test (queuedBy lines u p q) ≤ meet test (meantBy lines u p q)
+unfolding queuedBy meantBy copyFor
+queued-meant test lines u rests q = omega arith
+queued-meant test lines u (arrives c) q = omega arith
+queued-meant test lines u (hears h bytes) q = copy-meant test lines u h bytes q
+queued-meant test lines u takes q = omega arith
+queued-meant test lines u (sends r rest) q =
+    subst (λ b. meet test (copyIn lines (withInlet u rest) (asHeard r) (r .cell .payload) q) ≤ meet test (cond (b && eqb q (queueOf (u .limits) (r .class))) (record { header = r .cell .header; payload = r .cell .payload } ∷ []) []))
+    (for-inlet lines u rest (r .target)) (copy-meant test lines (withInlet u rest) (asHeard r) (r .cell .payload) q)
 
--- and so of an event
+-- so over every sequence of events
 pub once-only : OnceOnly
-once-only d e i = (brought-one (d .lines) (unitAt d i) (partOf d e i), copies-one (d .lines) (unitAt d i) (partOf d e i))
+once-only lines es i within =
+    let w = in-order lines es i within in
+    let d = opened lines in
+    record {
+      cells = λ test.
+          omega (arith, no-more test _ (sentAll d es i) _ (w .inlet), over-no-more test (λ x e. broughtIn x e i) (λ x e. routedAt x e i) (λ x e. brought-routed test (x .lines) (unitAt x i) (partOf x e i)) d es);
+      copies = λ q test.
+          omega (arith, no-more test _ (takenAll d es i q) _ (w .queues q), over-no-more test (λ x e. queuedIn x e i q) (λ x e. meantFor x e i q) (λ x e. queued-meant test (x .lines) (unitAt x i) (partOf x e i) q) d es);
+    }

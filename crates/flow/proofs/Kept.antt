@@ -7,16 +7,16 @@ use lib.ListN.{length, getD, length-map, length-append, List·getD-map}
 use Rattle.line.specs.declared.Line.{Line}
 use Rattle.line.specs.declared.Line.the-variants.{Bus, Unit as L·Unit, Vp, Drop, Page, Vc, Mc}
 use Rattle.document.specs.Events.{Event}
-use Rattle.document.specs.Counters.{Counter, arrived, hec, ignored, misrouted, inletfull, sent, damaged, queued, full, clp, wide, taken, placeOf, times}
+use Rattle.document.specs.Counters.{Counter, arrived, hec, ignored, misrouted, inletfull, sent, queued, full, clp, wide, taken, placeOf, times}
 use Rattle.document.specs.Shelf.{Cell, Unit, Shelf, numberOf, queueAt, blank, unitAt, unitsBy, unitsOf, opened}
 use Rattle.document.specs.Steps.{happensTo, becomes}
 use Rattle.document.proofs.Fixed.{givenOf, given, given-kept}
-use Rattle.flow.specs.Parts.{Part, rests, arrives, hears, takes, sends, partOf, arrivedAt, damagedAt, addressedAt, broughtIn, sentFrom, queuedIn, takenFrom}
+use Rattle.flow.specs.Parts.{Part, rests, arrives, hears, takes, sends, partOf, countedAt, arrivedAt, addressedAt, broughtIn, sentFrom, queuedIn, takenFrom}
 use Rattle.flow.specs.Lost.{Different, inAll, happened, Accounted, NothingLost}
-use Rattle.flow.specs.Counted.{CountersTrue}
+use Rattle.flow.specs.Counted.{occurs, CountersTrue}
 use Rattle.flow.specs.Order.{over, queuedAll, takenAll, broughtAll, sentAll, InOrder}
-use Rattle.flow.proofs.Times.{occurs}
-use Rattle.flow.proofs.Turns.{Because, Does, does, countsBy}
+use Rattle.flow.proofs.Times.{occurs-append}
+use Rattle.flow.proofs.Turns.{Because, Does, does}
 use Rattle.flow.proofs.Moves.{HasIt, queue-step, inlet-step, many-step, counts-in, counts-out, counts-come}
 
 -- A. what no event changes
@@ -77,15 +77,15 @@ module _ (d : Shelf) (e : Event) (i : ℕ) (within : i < length (d .units)) (fou
       sym (length-append (unitAt d i .inlet) (broughtIn d e i)) ∙ ap length inlet-after ∙ length-append (sentFrom d e i) (unitAt d′ i .inlet)
 
   -- what is counted
-  counted : Different (d .units) → (c : Counter) → times (d′ .history) (numberOf (unitAt d′ i)) c ≡ occurs (countsBy (d .lines) (unitAt d i) (w .someone) (partOf d e i)) (placeOf c) + times (d .history) (numberOf (unitAt d i)) c
+  counted : Different (d .units) → (c : Counter) → times (d′ .history) (numberOf (unitAt d′ i)) c ≡ occurs (countedAt d e i) (placeOf c) + times (d .history) (numberOf (unitAt d i)) c
   counted once c = ap (λ n. times (d′ .history) n c) (number-at d d′ (given-kept d e) i) ∙ w .counted once c
 
   -- so the sums still hold
   pub accounted-after : Different (d .units) → Accounted d i → Accounted d′ i
   accounted-after once a =
       let f = counted once in
-      let x = counts-in (d .lines) (unitAt d i) (w .someone) (partOf d e i) four in
-      let y = counts-out (d .lines) (unitAt d i) (w .someone) (partOf d e i) four in
+      let x = counts-in (d .lines) (d .units) (unitAt d i) (partOf d e i) four in
+      let y = counts-out (d .lines) (d .units) (unitAt d i) (partOf d e i) four in
       record {
         arrivals = omega (arith, f arrived, f hec, f ignored, f misrouted, f inletfull, f sent, x .0, x .1, waiting-after, a .arrivals);
         copies = omega (arith, f queued, f taken, y .0, y .1, held-after 0, held-after 1, held-after 2, held-after 3, a .copies);
@@ -224,36 +224,41 @@ module _ (f : ℕ → Shelf → Event → List Cell) where
   all-next : (d : Shelf) (e : Event) (es : List Event) → inAll (λ q. over (f q) d (e ∷ es)) ≡ inAll (λ q. f q d e) + inAll (λ q. over (f q) (happensTo d e .shelf) es)
   all-next d e es = omega (arith, over-next (f 0) d e es, over-next (f 1) d e es, over-next (f 2) d e es, over-next (f 3) d e es)
 
+-- what it counts
+occurs-next : (i : ℕ) (c : Counter) (d : Shelf) (e : Event) (es : List Event) → occurs (over (λ x e. countedAt x e i) d (e ∷ es)) (placeOf c) ≡ occurs (countedAt d e i) (placeOf c) + occurs (over (λ x e. countedAt x e i) (happensTo d e .shelf) es) (placeOf c)
+unfolding over
+occurs-next i c d e es = occurs-append (countedAt d e i) (over (λ x e. countedAt x e i) (happensTo d e .shelf) es) (placeOf c)
+
 -- what one event raises each counter by
 module _ (i : ℕ) (d : Shelf) (e : Event) (v : Fit i d) (once : Different (d .units)) where
-  abbrev rose : (c : Counter) → happened (happensTo d e .shelf) i c ≡ occurs (countsBy (d .lines) (unitAt d i) (does d e i (v .within) .someone) (partOf d e i)) (placeOf c) + happened d i c
+  abbrev rose : (c : Counter) → happened (happensTo d e .shelf) i c ≡ occurs (countedAt d e i) (placeOf c) + happened d i c
   rose c = counted d e i (v .within) (v .four) once c
 
   -- what comes to a unit
-  rose-come : (happened (happensTo d e .shelf) i arrived ≡ length (arrivedAt d e i) + happened d i arrived) × (happened (happensTo d e .shelf) i damaged ≡ length (damagedAt d e i) + happened d i damaged) × (happened (happensTo d e .shelf) i wide + happened (happensTo d e .shelf) i full + happened (happensTo d e .shelf) i clp + happened (happensTo d e .shelf) i queued ≡ length (addressedAt d e i) + (happened d i wide + happened d i full + happened d i clp + happened d i queued))
+  rose-come : (happened (happensTo d e .shelf) i arrived ≡ length (arrivedAt d e i) + happened d i arrived) × (happened (happensTo d e .shelf) i wide + happened (happensTo d e .shelf) i full + happened (happensTo d e .shelf) i clp + happened (happensTo d e .shelf) i queued ≡ length (addressedAt d e i) + (happened d i wide + happened d i full + happened d i clp + happened d i queued))
   rose-come =
-      let x = counts-come (d .lines) (unitAt d i) (does d e i (v .within) .someone) (partOf d e i) in
-      (omega (arith, rose arrived, x .0), omega (arith, rose damaged, x .1), omega (arith, rose wide, rose full, rose clp, rose queued, x .2))
+      let x = counts-come (d .lines) (d .units) (unitAt d i) (partOf d e i) in
+      (omega (arith, rose arrived, x .0), omega (arith, rose wide, rose full, rose clp, rose queued, x .1))
 
   -- what it sends
   rose-sent : happened (happensTo d e .shelf) i sent ≡ length (sentFrom d e i) + happened d i sent
-  rose-sent = omega (arith, rose sent, counts-in (d .lines) (unitAt d i) (does d e i (v .within) .someone) (partOf d e i) (v .four) .1)
+  rose-sent = omega (arith, rose sent, counts-in (d .lines) (d .units) (unitAt d i) (partOf d e i) (v .four) .1)
 
   -- what goes into its queues and out of them
   rose-copies : (happened (happensTo d e .shelf) i queued ≡ inAll (queuedIn d e i) + happened d i queued) × (happened (happensTo d e .shelf) i taken ≡ inAll (takenFrom d e i) + happened d i taken)
   rose-copies =
-      let x = counts-out (d .lines) (unitAt d i) (does d e i (v .within) .someone) (partOf d e i) (v .four) in
+      let x = counts-out (d .lines) (d .units) (unitAt d i) (partOf d e i) (v .four) in
       (omega (arith, rose queued, x .0), omega (arith, rose taken, x .1))
 
 -- over every sequence
 pub counters-true : CountersTrue
-unfolding times over
+unfolding times over occurs
 counters-true lines once es i within =
     record {
+      each = λ c. totals i (λ d es. occurs (over (λ x e. countedAt x e i) d es) (placeOf c)) (λ d e. occurs (countedAt d e i) (placeOf c)) (λ d. refl) (occurs-next i c) (λ d. happened d i c) (λ d e v o. rose i d e v o c) lines once es within refl;
       arrivals = totals i (λ d es. length (over (λ x e. arrivedAt x e i) d es)) (λ d e. length (arrivedAt d e i)) (over-none (λ x e. arrivedAt x e i)) (over-next (λ x e. arrivedAt x e i)) (λ d. happened d i arrived) (λ d e v o. rose-come i d e v o .0) lines once es within refl;
       frames = totals i (λ d es. length (sentAll d es i)) (λ d e. length (sentFrom d e i)) (over-none (λ x e. sentFrom x e i)) (over-next (λ x e. sentFrom x e i)) (λ d. happened d i sent) (rose-sent i) lines once es within refl;
       copies = totals i (λ d es. inAll (queuedAll d es i)) (λ d e. inAll (queuedIn d e i)) (λ d. refl) (all-next (λ q x e. queuedIn x e i q)) (λ d. happened d i queued) (λ d e v o. rose-copies i d e v o .0) lines once es within refl;
       cells = totals i (λ d es. inAll (takenAll d es i)) (λ d e. inAll (takenFrom d e i)) (λ d. refl) (all-next (λ q x e. takenFrom x e i q)) (λ d. happened d i taken) (λ d e v o. rose-copies i d e v o .1) lines once es within refl;
-      broken = totals i (λ d es. length (over (λ x e. damagedAt x e i) d es)) (λ d e. length (damagedAt d e i)) (over-none (λ x e. damagedAt x e i)) (over-next (λ x e. damagedAt x e i)) (λ d. happened d i damaged) (λ d e v o. rose-come i d e v o .1) lines once es within refl;
-      fates = totals i (λ d es. length (over (λ x e. addressedAt x e i) d es)) (λ d e. length (addressedAt d e i)) (over-none (λ x e. addressedAt x e i)) (over-next (λ x e. addressedAt x e i)) (λ d. happened d i wide + happened d i full + happened d i clp + happened d i queued) (λ d e v o. rose-come i d e v o .2) lines once es within refl;
+      fates = totals i (λ d es. length (over (λ x e. addressedAt x e i) d es)) (λ d e. length (addressedAt d e i)) (over-none (λ x e. addressedAt x e i)) (over-next (λ x e. addressedAt x e i)) (λ d. happened d i wide + happened d i full + happened d i clp + happened d i queued) (λ d e v o. rose-come i d e v o .1) lines once es within refl;
     }

@@ -13,12 +13,11 @@ use Rattle.header.specs.Fields.{fields}
 use Rattle.header.specs.Check.{check}
 use Rattle.header.specs.declared.Header as F
 use Rattle.octets.specs.Octets.{four, part}
-use Rattle.routing.specs.declared.Target as T
-use Rattle.routing.specs.declared.Target.the-variants as targets
 use Rattle.bus.specs.declared.Heard as H
 use Rattle.bus.specs.declared.Heard.the-variants as frames
 use Rattle.outlet.specs.Outlets.{capacity}
 use Rattle.queueing.specs.Hearing.{queueOf, limit, tooWide, busClp}
+use Rattle.queueing.specs.Taking.{queues}
 use Rattle.queueing.specs.declared.Leaving as L
 use Rattle.queueing.specs.declared.Leaving.the-variants as leaves
 use Rattle.queueing.proofs.Fates.{queue-lt}
@@ -30,16 +29,17 @@ use Rattle.answer.specs.declared.Arrival as N
 use Rattle.answer.specs.declared.Arrival.the-variants as arrival
 use Rattle.answer.specs.declared.Hearing as A
 use Rattle.answer.specs.declared.Hearing.the-variants as hearing
-use Rattle.document.specs.Counters.{Counter, arrived, hec, ignored, misrouted, inletfull, sent, damaged, queued, full, clp, wide, taken, placeOf, arrivalCounts, hearingCounts, sentCounts}
-use Rattle.document.specs.Shelf.{Cell, Routed, Unit, queueAt, held, withInlet, withQueue}
+use Rattle.document.specs.Counters.{Counter, arrived, hec, ignored, misrouted, inletfull, sent, queued, full, clp, wide, taken, placeOf, arrivalCounts, hearingCounts, sentCounts}
+use Rattle.document.specs.Shelf.{Cell, Unit, queueAt, held, withInlet, withQueue}
 use Rattle.document.specs.Arrival.{Way, goes, lost, wayBy, wayFor, wayOf, arrivalBy, inletBy}
 use Rattle.document.specs.Hearing.{addressed, fateIn, hearingOf, keeping, hearingUnit}
-use Rattle.document.specs.Frame.{asHeard, isQueued}
+use Rattle.document.specs.Frame.{asHeard, isQueued, someAddressed}
 use Rattle.document.specs.Take.{leaving}
-use Rattle.flow.specs.Parts.{Part, rests, arrives, hears, takes, sends, arrivedBy, heardBy, isDamaged, isFor, among, roomFor, broughtBy, sentBy, copyIn, queuedBy, oldestIn, takenBy}
+use Rattle.flow.specs.Parts.{Part, rests, arrives, hears, takes, sends, arrivedBy, heardBy, isFor, among, roomFor, broughtBy, sentBy, copyIn, queuedBy, oldestIn, takenBy, tookBy, countsBy}
 use Rattle.flow.specs.Lost.{inAll}
-use Rattle.flow.proofs.Times.{occurs, occurs-append}
-use Rattle.flow.proofs.Turns.{leftFrom, leftBy, tookFrom, tookBy, unitBy, countsBy}
+use Rattle.flow.specs.Counted.{occurs}
+use Rattle.flow.proofs.Times.{occurs-append}
+use Rattle.flow.proofs.Turns.{leftFrom, leftBy, unitBy, heard-without, holds-one}
 
 -- A. the queues
 -- a copy in a queue, or none
@@ -276,11 +276,6 @@ in-one (suc (suc zero)) cells h = omega arith
 in-one (suc (suc (suc zero))) cells h = omega arith
 in-one (suc (suc (suc (suc q)))) cells h = absurd (omega arith)
 
--- no cells in any
-in-none : (b : Bool) → length (cond {A = List Cell} b [] []) ≡ 0
-in-none true = refl
-in-none false = refl
-
 -- a copy is in one queue, if it is queued
 kept-all : (fate : A.Hearing) (q : ℕ) (c : Cell) → q < 4 → inAll (λ p. cond (eqb (isQueued fate) 1 && eqb p q) (c ∷ []) []) ≡ isQueued fate
 unfolding isQueued
@@ -292,7 +287,7 @@ kept-all hearing.Clp q c h = refl
 kept-all hearing.Queued q c h = in-one q (c ∷ []) h
 
 -- so of a hearing
-pub heard-all : (lines : List Line) (u : Unit) (h : H.Heard) (bytes : List ℕ) → inAll (copyIn lines u h bytes) ≡ isQueued (hearingOf lines u h)
+heard-all : (lines : List Line) (u : Unit) (h : H.Heard) (bytes : List ℕ) → inAll (copyIn lines u h bytes) ≡ isQueued (hearingOf lines u h)
 unfolding copyIn hearingOf isQueued
 heard-all lines u frames.Length bytes = refl
 heard-all lines u frames.Damaged bytes = refl
@@ -300,14 +295,14 @@ heard-all lines u (frames.Cell target class header) bytes =
     kept-all (hearingOf lines u (frames.Cell target class header)) (queueOf (u .limits) class) _ (queue-lt (u .limits) class)
 
 -- a take
-took-counts : (l : L.Leaving) (u : Unit) → length (u .queues) ≡ 4 → Arrivals (tookBy l u) 0 0 × Copies (tookBy l u) 0 (inAll (oldestIn l u))
-unfolding tookBy tookFrom oldestIn occurs
-took-counts leaves.Empty u four = ((refl, refl), (refl, refl))
-took-counts (leaves.Queue q) u four = go (queueAt u q) refl
+took-counts : (u : Unit) → length (u .queues) ≡ 4 → (l : L.Leaving) → leaving u ≡ l → Arrivals (tookBy l) 0 0 × Copies (tookBy l) 0 (inAll (oldestIn l u))
+unfolding tookBy oldestIn occurs
+took-counts u four leaves.Empty e = ((refl, refl), (refl, refl))
+took-counts u four (leaves.Queue q) e = ((refl, refl), (refl, go (queueAt u q) refl))
   where
-    go : (cells : List Cell) → queueAt u q ≡ cells → Arrivals (tookFrom cells) 0 0 × Copies (tookFrom cells) 0 (inAll (λ p. cond (eqb p q) (take 1 cells) []))
-    go [] s = ((refl, refl), (refl, omega (arith, in-none (eqb 0 q), in-none (eqb 1 q), in-none (eqb 2 q), in-none (eqb 3 q))))
-    go (c ∷ rest) s = ((refl, refl), (refl, sym (in-one q (c ∷ []) (let h = holds-inside u q c rest s in omega arith))))
+    go : (cells : List Cell) → queueAt u q ≡ cells → 1 ≡ inAll (λ p. cond (eqb p q) (take 1 cells) [])
+    go [] s = let h = holds-one (held u) 0 (queues (u .limits .mode)) q e in let z = ap length s in absurd (omega arith)
+    go (c ∷ rest) s = sym (in-one q (c ∷ []) (let h = holds-inside u q c rest s in omega arith))
 
 -- a part
 sent-in : (b : Bool) → Arrivals (sentCounts b) 0 1 × Copies (sentCounts b) 0 0
@@ -316,105 +311,94 @@ sent-in true = ((refl, refl), (refl, refl))
 sent-in false = ((refl, refl), (refl, refl))
 
 -- at the inlet
-pub counts-in : (lines : List Line) (u : Unit) (b : Bool) (p : Part) → length (u .queues) ≡ 4 → Arrivals (countsBy lines u b p) (length (broughtBy lines u p)) (length (sentBy p))
+pub counts-in : (lines : List Line) (us : List Unit) (u : Unit) (p : Part) → length (u .queues) ≡ 4 → Arrivals (countsBy lines us u p) (length (broughtBy lines u p)) (length (sentBy p))
 unfolding countsBy broughtBy sentBy occurs
-counts-in lines u b rests four = (refl, refl)
-counts-in lines u b (arrives c) four = arrived-counts (wayOf lines (u .settings) c) u (way-named lines (u .settings) c)
-counts-in lines u b (hears h bytes) four = heard-in (hearingOf lines u h)
-counts-in lines u b takes four = took-counts (leaving u) u four .0
-counts-in lines u b (sends r rest) four =
-    let fate = hearingOf lines (withInlet u rest) (asHeard r) in
+counts-in lines us u rests four = (refl, refl)
+counts-in lines us u (arrives c) four = arrived-counts (wayOf lines (u .settings) c) u (way-named lines (u .settings) c)
+counts-in lines us u (hears h bytes) four = heard-in (hearingOf lines u h)
+counts-in lines us u takes four = took-counts u four (leaving u) refl .0
+counts-in lines us u (sends r rest) four =
+    let fate = hearingOf lines u (asHeard r) in
+    let b = someAddressed lines us r in
     let each = occurs-append (sentCounts b) (hearingCounts fate) in
     let x = heard-in fate in
     let y = sent-in b .0 in
     (omega (arith, each 0, each 1, each 2, each 3, each 4, x .0, y .0), omega (arith, each 5, x .1, y .1))
 
 -- and at the outlet
-pub counts-out : (lines : List Line) (u : Unit) (b : Bool) (p : Part) → length (u .queues) ≡ 4 → Copies (countsBy lines u b p) (inAll (queuedBy lines u p)) (inAll (takenBy u p))
+pub counts-out : (lines : List Line) (us : List Unit) (u : Unit) (p : Part) → length (u .queues) ≡ 4 → Copies (countsBy lines us u p) (inAll (queuedBy lines u p)) (inAll (takenBy u p))
 unfolding countsBy queuedBy takenBy occurs
-counts-out lines u b rests four = (refl, refl)
-counts-out lines u b (arrives c) four = arrived-out (arrivalBy (wayOf lines (u .settings) c) u)
-counts-out lines u b (hears h bytes) four = let w = heard-out (hearingOf lines u h) in (w .0 ∙ sym (heard-all lines u h bytes), w .1)
-counts-out lines u b takes four = took-counts (leaving u) u four .1
-counts-out lines u b (sends r rest) four =
-    let v = withInlet u rest in
-    let fate = hearingOf lines v (asHeard r) in
+counts-out lines us u rests four = (refl, refl)
+counts-out lines us u (arrives c) four = arrived-out (arrivalBy (wayOf lines (u .settings) c) u)
+counts-out lines us u (hears h bytes) four = let w = heard-out (hearingOf lines u h) in (w .0 ∙ sym (heard-all lines u h bytes), w .1)
+counts-out lines us u takes four = took-counts u four (leaving u) refl .1
+counts-out lines us u (sends r rest) four =
+    let fate = hearingOf lines u (asHeard r) in
+    let b = someAddressed lines us r in
     let each = occurs-append (sentCounts b) (hearingCounts fate) in
     let x = heard-out fate in
     let y = sent-in b .1 in
-    let z = heard-all lines v (asHeard r) (r .cell .payload) in
+    let z = heard-all lines (withInlet u rest) (asHeard r) (r .cell .payload) ∙ ap isQueued (heard-without lines u rest r) in
     (omega (arith, each 8, x .0, y .0, z), omega (arith, each 12, x .1, y .1))
 
 -- E. what comes to a unit, and its fates
-abbrev pub Comes : List Counter → ℕ → ℕ → ℕ → Type 0
-Comes cs cells broken copies = (rises cs arrived ≡ cells) × (rises cs damaged ≡ broken) × (rises cs wide + rises cs full + rises cs clp + rises cs queued ≡ copies)
+abbrev pub Comes : List Counter → ℕ → ℕ → Type 0
+Comes cs cells copies = (rises cs arrived ≡ cells) × (rises cs wide + rises cs full + rises cs clp + rises cs queued ≡ copies)
 
 -- an arrival is one cell
-arrived-comes : (fate : N.Arrival) → Comes (arrivalCounts fate) 1 0 0
+arrived-comes : (fate : N.Arrival) → Comes (arrivalCounts fate) 1 0
 unfolding arrivalCounts occurs
-arrived-comes arrival.Hec = (refl, refl, refl)
-arrived-comes arrival.Ignored = (refl, refl, refl)
-arrived-comes arrival.Misrouted = (refl, refl, refl)
-arrived-comes arrival.Inletfull = (refl, refl, refl)
-arrived-comes arrival.Queued = (refl, refl, refl)
+arrived-comes arrival.Hec = (refl, refl)
+arrived-comes arrival.Ignored = (refl, refl)
+arrived-comes arrival.Misrouted = (refl, refl)
+arrived-comes arrival.Inletfull = (refl, refl)
+arrived-comes arrival.Queued = (refl, refl)
 
 -- a copy that addresses a unit has one of four fates there
-fate-comes : (u : Unit) (q header : ℕ) → Comes (hearingCounts (fateIn u q header)) 0 0 1
+fate-comes : (u : Unit) (q header : ℕ) → Comes (hearingCounts (fateIn u q header)) 0 1
 unfolding fateIn hearingCounts occurs
 fate-comes u q header = go (tooWide (u .settings .link) header) (leb (capacity (u .limits) q) (held u q)) (eqb (busClp header) 1 && leb (limit (u .limits) q) (held u q))
   where
-    go : (a b c : Bool) → Comes (hearingCounts (cond a hearing.Wide (cond b hearing.Full (cond c hearing.Clp hearing.Queued)))) 0 0 1
-    go true b c = (refl, refl, refl)
-    go false true c = (refl, refl, refl)
-    go false false true = (refl, refl, refl)
-    go false false false = (refl, refl, refl)
+    go : (a b c : Bool) → Comes (hearingCounts (cond a hearing.Wide (cond b hearing.Full (cond c hearing.Clp hearing.Queued)))) 0 1
+    go true b c = (refl, refl)
+    go false true c = (refl, refl)
+    go false false true = (refl, refl)
+    go false false false = (refl, refl)
 
--- a frame is damaged, or addresses the unit, or neither
-heard-comes : (lines : List Line) (u : Unit) (h : H.Heard) → Comes (hearingCounts (hearingOf lines u h)) 0 (length (among isDamaged (h ∷ []))) (length (among (isFor lines u) (h ∷ [])))
-unfolding hearingOf hearingCounts occurs among isDamaged isFor
-heard-comes lines u frames.Length = (refl, refl, refl)
-heard-comes lines u frames.Damaged = (refl, refl, refl)
+-- a frame addresses the unit, or not
+heard-comes : (lines : List Line) (u : Unit) (h : H.Heard) → Comes (hearingCounts (hearingOf lines u h)) 0 (length (among (isFor lines u) (h ∷ [])))
+unfolding hearingOf hearingCounts occurs among isFor
+heard-comes lines u frames.Length = (refl, refl)
+heard-comes lines u frames.Damaged = (refl, refl)
 heard-comes lines u (frames.Cell target class header) = go (addressed lines u target)
   where
-    go : (b : Bool) → Comes (hearingCounts (cond b (fateIn u (queueOf (u .limits) class) header) hearing.Other)) 0 0 (length (cond b (frames.Cell target class header ∷ []) []))
+    go : (b : Bool) → Comes (hearingCounts (cond b (fateIn u (queueOf (u .limits) class) header) hearing.Other)) 0 (length (cond b (frames.Cell target class header ∷ []) []))
     go true = fate-comes u (queueOf (u .limits) class) header
-    go false = (refl, refl, refl)
+    go false = (refl, refl)
 
 -- a take brings nothing
-took-comes : (l : L.Leaving) (u : Unit) → Comes (tookBy l u) 0 0 0
-unfolding tookBy tookFrom occurs
-took-comes leaves.Empty u = (refl, refl, refl)
-took-comes (leaves.Queue q) u = go (queueAt u q)
-  where
-    go : (cells : List Cell) → Comes (tookFrom cells) 0 0 0
-    go [] = (refl, refl, refl)
-    go (c ∷ rest) = (refl, refl, refl)
+took-comes : (l : L.Leaving) → Comes (tookBy l) 0 0
+unfolding tookBy occurs
+took-comes leaves.Empty = (refl, refl)
+took-comes (leaves.Queue q) = (refl, refl)
 
 -- nor does sending
-sent-comes : (b : Bool) → Comes (sentCounts b) 0 0 0
+sent-comes : (b : Bool) → Comes (sentCounts b) 0 0
 unfolding sentCounts occurs
-sent-comes true = (refl, refl, refl)
-sent-comes false = (refl, refl, refl)
-
--- whether a target addresses a unit does not go by its inlet
-for-inlet : (lines : List Line) (u : Unit) (rest : List Routed) (target : T.Target) → addressed lines (withInlet u rest) target ≡ addressed lines u target
-unfolding addressed
-for-inlet lines u rest (targets.Unit number) = refl
-for-inlet lines u rest (targets.Session session) = refl
-for-inlet lines u rest targets.All = refl
+sent-comes true = (refl, refl)
+sent-comes false = (refl, refl)
 
 -- every part
-pub counts-come : (lines : List Line) (u : Unit) (b : Bool) (p : Part) → Comes (countsBy lines u b p) (length (arrivedBy p)) (length (among isDamaged (heardBy p))) (length (among (isFor lines u) (heardBy p)))
-unfolding countsBy arrivedBy heardBy among isFor occurs
-counts-come lines u b rests = (refl, refl, refl)
-counts-come lines u b (arrives c) = arrived-comes (arrivalBy (wayOf lines (u .settings) c) u)
-counts-come lines u b (hears h bytes) = heard-comes lines u h
-counts-come lines u b takes = took-comes (leaving u) u
-counts-come lines u b (sends r rest) =
-    let v = withInlet u rest in
-    let cs = hearingCounts (hearingOf lines v (asHeard r)) in
+pub counts-come : (lines : List Line) (us : List Unit) (u : Unit) (p : Part) → Comes (countsBy lines us u p) (length (arrivedBy p)) (length (among (isFor lines u) (heardBy p)))
+unfolding countsBy arrivedBy heardBy among occurs
+counts-come lines us u rests = (refl, refl)
+counts-come lines us u (arrives c) = arrived-comes (arrivalBy (wayOf lines (u .settings) c) u)
+counts-come lines us u (hears h bytes) = heard-comes lines u h
+counts-come lines us u takes = took-comes (leaving u)
+counts-come lines us u (sends r rest) =
+    let cs = hearingCounts (hearingOf lines u (asHeard r)) in
+    let b = someAddressed lines us r in
     let each = occurs-append (sentCounts b) cs in
-    let x = heard-comes lines v (asHeard r) in
+    let x = heard-comes lines u (asHeard r) in
     let y = sent-comes b in
-    let z = ap (λ a. length (cond a (asHeard r ∷ []) [])) (for-inlet lines u rest (r .target)) in
-    (omega (arith, each 0, x .0, y .0), omega (arith, each 7, x .1, y .1), omega (arith, each 11, each 9, each 10, each 8, x .2, y .2, z))
+    (omega (arith, each 0, x .0, y .0), omega (arith, each 11, each 9, each 10, each 8, x .1, y .1))

@@ -17,11 +17,7 @@ use Rattle.document.specs.Shelf.{Routed, Unit, numberOf, blank, findIn}
 use Rattle.document.specs.Hearing.{hearingOf, hearingUnit}
 use Rattle.document.specs.Frame.{asHeard, allHear, heardEntries}
 use Rattle.flow.specs.Lost.{Different}
-
--- how often the counter with this place is in a list
-unfoldable pub occurs : List Counter → ℕ → ℕ
-occurs [] k = 0
-occurs (c ∷ cs) k = cond (eqb (placeOf c) k) (suc (occurs cs k)) (occurs cs k)
+use Rattle.flow.specs.Counted.{occurs}
 
 -- one more or not, before a sum and in its first part
 plus : (b : Bool) (m n : ℕ) → cond b (suc (m + n)) (m + n) ≡ cond b (suc m) m + n

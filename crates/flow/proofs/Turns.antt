@@ -1,34 +1,40 @@
 -- An event is, for each unit, its part in it: what becomes of the unit, what the history counts there, and why. Assumes nothing.
-use Prim.Native.Nat.{ℕ, _+_, _<_}
+use Prim.Native.Nat.{ℕ, zero, suc, _+_, _<_}
 use native.Mathlib.Omega.{arith}
 use mathlib.Core.Path.{_≡_, refl, sym, ap, subst, _∙_}
 use mathlib.Core.Logic.{_⊎_, inl, inr}
-use mathlib.Core.Bool.{Bool, true, false, cond}
+use mathlib.Core.Bool.{Bool, true, false, cond, _||_}
 use mathlib.Core.List.{List, [], _∷_, _++_}
-use lib.Dec.{eqb}
+use lib.Dec.{eqb, ltb}
 use lib.ListN.{length, getD, set, length-set}
 use lib.Seq.{getD-set-same, getD-set-other}
-use borrow.Author.Tests.{eqb-true, eqb-false}
+use borrow.Author.Tests.{eqb-true, eqb-false, ltb-true}
+use Rattle.routing.specs.declared.Target as T
+use Rattle.routing.specs.declared.Target.the-variants as targets
 use Rattle.bus.specs.Frame.{heard, payload}
 use Rattle.bus.specs.declared.Heard as H
+use Rattle.queueing.specs.Hearing.{queueOf}
+use Rattle.queueing.specs.Taking.{lowest, queues}
 use Rattle.queueing.specs.declared.Leaving as L
 use Rattle.queueing.specs.declared.Leaving.the-variants as leaves
 use Rattle.shelf.specs.declared.Found as F
 use Rattle.shelf.specs.declared.Found.the-variants.{At, Nothing}
 use Rattle.line.specs.declared.Line.{Line}
+use Rattle.answer.specs.declared.Hearing.the-variants as hearing
 use Rattle.document.specs.Events.{Event, arrive, frame, hear, take as takes·out, count, answers, counts}
-use Rattle.document.specs.Counters.{Counter, taken, placeOf, Entry, entries, times, countersOf, arrivalCounts, hearingCounts, sentCounts}
-use Rattle.document.specs.Shelf.{Cell, Routed, Unit, Shelf, numberOf, queueAt, withInlet, withQueue, blank, findIn, unitAt}
-use Rattle.document.specs.Arrival.{wayOf, arrivalOf, inletBy, arrived}
-use Rattle.document.specs.Hearing.{hearingOf, hearingUnit, handedIn}
-use Rattle.document.specs.Frame.{asHeard, allHear, someAddressed, heardEntries, sendsFrom, sends as sends·out, sentIn, framed, framedAnswer}
+use Rattle.document.specs.Counters.{Counter, placeOf, Entry, entries, times, countersOf, hearingCounts, sentCounts}
+use Rattle.document.specs.Shelf.{Cell, Routed, Unit, Shelf, numberOf, queueAt, held, withInlet, withQueue, blank, findIn, unitAt}
+use Rattle.document.specs.Arrival.{wayOf, inletBy, arrived}
+use Rattle.document.specs.Hearing.{addressed, fateIn, hearingOf, hearingUnit, handedIn}
+use Rattle.document.specs.Frame.{asHeard, allHear, isAddressed, someAddressed, heardEntries, sendsFrom, sends as sends·out, sentIn, framed, framedAnswer}
 use Rattle.document.specs.Take.{leaving, takesFrom, takesBy}
 use Rattle.document.specs.Steps.{Step, step, refused, admitted, happensTo}
-use Rattle.flow.specs.Parts.{Part, rests, arrives, hears, takes, sends, onlyAt, sending, sendingBy, partOf}
+use Rattle.flow.specs.Parts.{Part, rests, arrives, hears, takes, sends, onlyAt, sending, sendingBy, partOf, tookBy, countsBy}
 use Rattle.flow.specs.Lost.{Different}
-use Rattle.flow.proofs.Times.{occurs, occurs-append, times-append, times-here, times-other, different-apart, same-numbers, same-different, heard-unit, heard-times, found}
+use Rattle.flow.specs.Counted.{occurs}
+use Rattle.flow.proofs.Times.{occurs-append, times-append, times-here, times-other, different-apart, same-numbers, same-different, heard-unit, heard-times, found}
 
--- what a take leaves of a unit, and what is counted
+-- what a take leaves of a unit
 unfoldable pub leftFrom : List Cell → Unit → ℕ → Unit
 leftFrom [] u q = u
 leftFrom (c ∷ rest) u q = withQueue u q rest
@@ -36,14 +42,6 @@ leftFrom (c ∷ rest) u q = withQueue u q rest
 unfoldable pub leftBy : L.Leaving → Unit → Unit
 leftBy (leaves.Queue q) u = leftFrom (queueAt u q) u q
 leftBy leaves.Empty u = u
-
-unfoldable pub tookFrom : List Cell → List Counter
-tookFrom [] = []
-tookFrom (c ∷ rest) = taken ∷ []
-
-unfoldable pub tookBy : L.Leaving → Unit → List Counter
-tookBy (leaves.Queue q) u = tookFrom (queueAt u q)
-tookBy leaves.Empty u = []
 
 -- the unit when it has done its part
 unfoldable pub unitBy : List Line → Unit → Part → Unit
@@ -53,13 +51,34 @@ unitBy lines u (hears h bytes) = hearingUnit lines u h bytes
 unitBy lines u takes = leftBy (leaving u) u
 unitBy lines u (sends r rest) = hearingUnit lines (withInlet u rest) (asHeard r) (r .cell .payload)
 
--- what is counted there; whether some unit is addressed by what it sends is the shelf's to say
-unfoldable pub countsBy : List Line → Unit → Bool → Part → List Counter
-countsBy lines u b rests = []
-countsBy lines u b (arrives c) = arrivalCounts (arrivalOf lines u c)
-countsBy lines u b (hears h bytes) = hearingCounts (hearingOf lines u h)
-countsBy lines u b takes = tookBy (leaving u) u
-countsBy lines u b (sends r rest) = sentCounts b ++ hearingCounts (hearingOf lines (withInlet u rest) (asHeard r))
+-- whether a target addresses a unit does not go by its inlet
+pub for-inlet : (lines : List Line) (u : Unit) (rest : List Routed) (target : T.Target) → addressed lines (withInlet u rest) target ≡ addressed lines u target
+unfolding addressed
+for-inlet lines u rest (targets.Unit number) = refl
+for-inlet lines u rest (targets.Session session) = refl
+for-inlet lines u rest targets.All = refl
+
+-- what a unit hears does not go by its inlet
+pub heard-without : (lines : List Line) (u : Unit) (rest : List Routed) (r : Routed) → hearingOf lines (withInlet u rest) (asHeard r) ≡ hearingOf lines u (asHeard r)
+unfolding hearingOf fateIn
+heard-without lines u rest r = ap (λ b. cond b (fateIn u (queueOf (u .limits) (r .class)) (r .cell .header)) hearing.Other) (for-inlet lines u rest (r .target))
+
+-- so whether a sent cell addresses a unit does not go by the sender's
+some-without : (lines : List Line) (us : List Unit) (place : ℕ) (rest : List Routed) (r : Routed) → someAddressed lines (set us place (withInlet (getD us place blank) rest)) r ≡ someAddressed lines us r
+unfolding someAddressed
+some-without lines [] place rest r = refl
+some-without lines (u ∷ us) zero rest r = ap (λ fate. isAddressed fate || someAddressed lines us r) (heard-without lines u rest r)
+some-without lines (u ∷ us) (suc place) rest r = ap (λ b. isAddressed (hearingOf lines u (asHeard r)) || b) (some-without lines us place rest r)
+
+-- the queue that a cell is to leave holds one
+pub holds-one : (cells : ℕ → ℕ) (q n k : ℕ) → lowest cells q n ≡ leaves.Queue k → 0 < cells k
+unfolding lowest
+holds-one cells q zero k e = let z : _≡_ {A = ℕ} 0 1 = cc in absurd (omega arith)
+holds-one cells q (suc n) k e = go (ltb 0 (cells q)) refl (holds-one cells (q + 1) n k) e
+  where
+    go : (b : Bool) → ltb 0 (cells q) ≡ b → (lowest cells (q + 1) n ≡ leaves.Queue k → 0 < cells k) → cond b (leaves.Queue q) (lowest cells (q + 1) n) ≡ leaves.Queue k → 0 < cells k
+    go true t later e = let z : q ≡ k = cc in subst (λ j. 0 < cells j) z (ltb-true 0 (cells q) t)
+    go false t later e = later e
 
 -- where a frame that is heard comes from: handed in, or the oldest cell of a unit
 pub record Handed (d : Shelf) (e : Event) (i : ℕ) (h : H.Heard) (bytes : List ℕ) : Type 0 where
@@ -88,19 +107,18 @@ Because d e i (sends r rest) = unitAt d i .inlet ≡ r ∷ rest
 pub record Does (d d′ : Shelf) (e : Event) (i : ℕ) (p : Part) : Type 0 where
   pub lines : d′ .lines ≡ d .lines
   pub unit : unitAt d′ i ≡ unitBy (d .lines) (unitAt d i) p
-  pub someone : Bool
-  pub counted : Different (d .units) → (c : Counter) → times (d′ .history) (numberOf (unitAt d i)) c ≡ occurs (countsBy (d .lines) (unitAt d i) someone p) (placeOf c) + times (d .history) (numberOf (unitAt d i)) c
+  pub counted : Different (d .units) → (c : Counter) → times (d′ .history) (numberOf (unitAt d i)) c ≡ occurs (countsBy (d .lines) (d .units) (unitAt d i) p) (placeOf c) + times (d .history) (numberOf (unitAt d i)) c
   pub because : Because d e i p
 
 -- nothing happens
 still : (d : Shelf) (e : Event) (i : ℕ) → Does d d e i rests
 unfolding unitBy countsBy occurs
-still d e i = record { lines = refl; unit = refl; someone = false; counted = λ once c. omega arith; because = λ x. x }
+still d e i = record { lines = refl; unit = refl; counted = λ once c. omega arith; because = λ x. x }
 
 -- something happens at the unit in one place
-module _ (d d′ : Shelf) (e : Event) (i place : ℕ) (p : Part) (within : i < length (d .units)) (inside : place < length (d .units)) (same : d′ .lines ≡ d .lines) (here : unitAt d′ place ≡ unitBy (d .lines) (unitAt d place) p) (others : (j : ℕ) → (j ≡ place → ⊥) → unitAt d′ j ≡ unitAt d j) (told : d′ .history ≡ entries (numberOf (unitAt d place)) (countsBy (d .lines) (unitAt d place) false p) ++ d .history) (why : Because d e place p) where
+module _ (d d′ : Shelf) (e : Event) (i place : ℕ) (p : Part) (within : i < length (d .units)) (inside : place < length (d .units)) (same : d′ .lines ≡ d .lines) (here : unitAt d′ place ≡ unitBy (d .lines) (unitAt d place) p) (others : (j : ℕ) → (j ≡ place → ⊥) → unitAt d′ j ≡ unitAt d j) (told : d′ .history ≡ entries (numberOf (unitAt d place)) (countsBy (d .lines) (d .units) (unitAt d place) p) ++ d .history) (why : Because d e place p) where
   abbrev cs : List Counter
-  cs = countsBy (d .lines) (unitAt d place) false p
+  cs = countsBy (d .lines) (d .units) (unitAt d place) p
 
   abbrev at : ℕ
   at = numberOf (unitAt d place)
@@ -115,7 +133,6 @@ module _ (d d′ : Shelf) (e : Event) (i place : ℕ) (p : Part) (within : i < l
       record {
         lines = same;
         unit = here;
-        someone = false;
         counted = λ once c. more at c ∙ ap (λ k. k + times (d .history) at c) (times-here at cs c);
         because = why;
       }
@@ -127,7 +144,6 @@ module _ (d d′ : Shelf) (e : Event) (i place : ℕ) (p : Part) (within : i < l
       record {
         lines = same;
         unit = others i apart;
-        someone = false;
         counted = λ once c.
             more (numberOf (unitAt d i)) c
             ∙ ap (λ k. k + times (d .history) (numberOf (unitAt d i)) c)
@@ -169,17 +185,16 @@ module _ (d : Shelf) (i : ℕ) (within : i < length (d .units)) where
   -- a cell is taken, or none is there
   module _ (e : Event) (place : ℕ) (inside : place < length (d .units)) (buffer : List ℕ) where
     took-from : (q : ℕ) → leaving (unitAt d place) ≡ leaves.Queue q → (cells : List Cell) → queueAt (unitAt d place) q ≡ cells → Does d (takesFrom cells d place q buffer .shelf) e i (cond (eqb i place) takes rests)
-    unfolding takesFrom unitBy countsBy leftBy leftFrom tookBy tookFrom
+    unfolding takesFrom unitBy countsBy leftBy leftFrom tookBy
     took-from q l [] s =
-        one-unit d d e i place takes within inside refl
-        (sym (ap (λ x. leftBy x (unitAt d place)) l ∙ ap (λ x. leftFrom x (unitAt d place) q) s))
-        (λ j apart. refl)
-        (ap (λ x. entries (numberOf (unitAt d place)) x ++ d .history) (sym (ap (λ x. tookBy x (unitAt d place)) l ∙ ap tookFrom s))) (λ x. x)
+        let h = holds-one (held (unitAt d place)) 0 (queues (unitAt d place .limits .mode)) q l in
+        let z = ap length s in
+        absurd (omega arith)
     took-from q l (c ∷ rest) s =
         one-unit d (takesFrom (c ∷ rest) d place q buffer .shelf) e i place takes within inside refl
         (getD-set-same (d .units) place _ blank inside ∙ sym (ap (λ x. leftBy x (unitAt d place)) l ∙ ap (λ x. leftFrom x (unitAt d place) q) s))
         (λ j apart. getD-set-other (d .units) place j _ blank apart)
-        (ap (λ x. entries (numberOf (unitAt d place)) x ++ d .history) (sym (ap (λ x. tookBy x (unitAt d place)) l ∙ ap tookFrom s))) (λ x. x)
+        (ap (λ x. entries (numberOf (unitAt d place)) x ++ d .history) (sym (ap tookBy l))) (λ x. x)
 
     -- by the queue that it is to leave
     took : (l : L.Leaving) → leaving (unitAt d place) ≡ l → Does d (takesBy l d place buffer .shelf) e i (cond (eqb i place) takes rests)
@@ -187,7 +202,7 @@ module _ (d : Shelf) (i : ℕ) (within : i < length (d .units)) where
     took (leaves.Queue q) l = took-from q l (queueAt (unitAt d place) q) refl
     took leaves.Empty l =
         one-unit d d e i place takes within inside refl (sym (ap (λ x. leftBy x (unitAt d place)) l)) (λ j apart. refl)
-        (ap (λ x. entries (numberOf (unitAt d place)) x ++ d .history) (sym (ap (λ x. tookBy x (unitAt d place)) l))) (λ x. x)
+        (ap (λ x. entries (numberOf (unitAt d place)) x ++ d .history) (sym (ap tookBy l))) (λ x. x)
 
   -- a frame is sent
   module _ (e : Event) (d′ : Shelf) (same : d′ .lines ≡ d .lines) where
@@ -231,14 +246,15 @@ module _ (d : Shelf) (i : ℕ) (within : i < length (d .units)) where
             record {
               lines = same;
               unit = after-all ∙ ap (λ u. hearingUnit (d .lines) u (asHeard r) (r .cell .payload)) now;
-              someone = someOne;
               counted = λ once c.
                   let n = numberOf (unitAt d i) in
                   let w = parts once c in
                   let a = ap (λ j. times (entries (numberOf (unitAt d j)) (sentCounts someOne)) n c) (sym q) ∙ times-here n (sentCounts someOne) c in
                   let b = ap (λ u. occurs (hearingCounts (hearingOf (d .lines) u (asHeard r))) (placeOf c)) now in
-                  let f = occurs-append (sentCounts someOne) (hearingCounts (hearingOf (d .lines) (withInlet (unitAt d i) rest) (asHeard r))) (placeOf c) in
-                  omega (arith, w, a, b, f);
+                  let g = ap (λ fate. occurs (hearingCounts fate) (placeOf c)) (heard-without (d .lines) (unitAt d i) rest r) in
+                  let f = occurs-append (sentCounts (someAddressed (d .lines) (d .units) r)) (hearingCounts (hearingOf (d .lines) (unitAt d i) (asHeard r))) (placeOf c) in
+                  let x = ap (λ k. occurs (sentCounts k) (placeOf c)) (some-without (d .lines) (d .units) place rest r) in
+                  omega (arith, w, a, b, g, f, x);
               because = ap (λ j. unitAt d j .inlet) q ∙ oldest;
             }
 
@@ -250,7 +266,6 @@ module _ (d : Shelf) (i : ℕ) (within : i < length (d .units)) where
             record {
               lines = same;
               unit = after-all ∙ ap (λ u. hearingUnit (d .lines) u (asHeard r) (r .cell .payload)) now;
-              someone = someOne;
               counted = λ once c.
                   let n = numberOf (unitAt d i) in
                   let w = parts once c in
@@ -275,7 +290,6 @@ module _ (d : Shelf) (i : ℕ) (within : i < length (d .units)) where
         record {
           lines = same;
           unit = ap (λ us. getD us i blank) units;
-          someone = false;
           counted = λ once c. let a = ap (λ h. times h (numberOf (unitAt d i)) c) told in omega arith;
           because = λ x. x;
         }

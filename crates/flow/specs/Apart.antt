@@ -1,22 +1,18 @@
--- Demand: what is one unit's is no other's, and one event moves a cell once. Assumes nothing.
+-- Promise: what is one unit's is no other's, and no cell goes out twice. Assumes nothing.
 use Prim.Native.Nat.{ℕ, _<_, _≤_}
 use mathlib.Core.Path.{_≡_}
-use mathlib.Core.Option.{Option, none, some}
+use mathlib.Core.Bool.{Bool}
+use mathlib.Core.List.{List}
+use mathlib.Core.Option.{some}
 use lib.ListN.{length}
+use Rattle.line.specs.declared.Line.{Line}
 use Rattle.document.specs.Counters.{Counter}
-use Rattle.document.specs.Events.{Event, arrive, frame, hear, take, count}
-use Rattle.document.specs.Shelf.{Shelf, numberOf, unitAt}
+use Rattle.document.specs.Events.{Event, named}
+use Rattle.document.specs.Shelf.{Cell, Routed, Shelf, numberOf, unitAt, unitsOf, opened}
 use Rattle.document.specs.Steps.{happensTo}
-use Rattle.flow.specs.Parts.{broughtIn, queuedIn}
-use Rattle.flow.specs.Lost.{Different, inAll, happened}
-
--- the unit that an event names; a frame is every unit's
-unfoldable pub named : Event → Option ℕ
-named (arrive unit c) = some unit
-named (frame buffer) = none
-named (hear unit f) = some unit
-named (take unit buffer) = some unit
-named (count unit) = some unit
+use Rattle.flow.specs.Parts.{among, routedAt, meantFor}
+use Rattle.flow.specs.Lost.{Different, happened}
+use Rattle.flow.specs.Order.{over, takenAll, sentAll}
 
 -- the inlet, the queues and the counters of the unit in place i are as they were
 pub record Untouched (d d′ : Shelf) (i : ℕ) : Type 0 where
@@ -27,6 +23,12 @@ pub record Untouched (d d′ : Shelf) (i : ℕ) : Type 0 where
 abbrev pub Isolation : Type 0
 Isolation = (d : Shelf) → Different (d .units) → (e : Event) (unit i : ℕ) → named e ≡ some unit → i < length (d .units) → (numberOf (unitAt d i) ≡ unit → ⊥) → Untouched d (happensTo d e .shelf) i
 
--- one event brings at most one cell into an inlet, and at most one copy into an outlet, whatever the queue
+-- of the cells that meet a test, whatever it is, no more are sent than arrived and were routed, and no more leave a queue than came to it in frames that address the unit
+pub record Once (lines : List Line) (es : List Event) (i : ℕ) : Type 0 where
+  pub cells : (test : Routed → Bool) → length (among test (sentAll (opened lines) es i)) ≤ length (among test (over (λ d e. routedAt d e i) (opened lines) es))
+  pub copies : (q : ℕ) (test : Cell → Bool) →
+      length (among test (takenAll (opened lines) es i q)) ≤ length (among test (over (λ d e. meantFor d e i q) (opened lines) es))
+
+-- after every sequence of events, of every unit
 abbrev pub OnceOnly : Type 0
-OnceOnly = (d : Shelf) (e : Event) (i : ℕ) → (length (broughtIn d e i) ≤ 1) × (inAll (queuedIn d e i) ≤ 1)
+OnceOnly = (lines : List Line) (es : List Event) (i : ℕ) → i < length (unitsOf lines) → Once lines es i

@@ -1,24 +1,32 @@
--- Demand: the counters equal that history. Assumes nothing.
-use Prim.Native.Nat.{ℕ, _+_, _<_}
+-- Promise: the counters equal that history. Assumes nothing.
+use Prim.Native.Nat.{ℕ, suc, _+_, _<_}
 use mathlib.Core.Path.{_≡_}
-use mathlib.Core.List.{List}
+use mathlib.Core.Bool.{cond}
+use mathlib.Core.List.{List, [], _∷_}
+use lib.Dec.{eqb}
 use lib.ListN.{length}
 use Rattle.line.specs.declared.Line.{Line}
 use Rattle.document.specs.Events.{Event}
-use Rattle.document.specs.Counters.{arrived, sent, damaged, queued, full, clp, wide, taken}
+use Rattle.document.specs.Counters.{Counter, arrived, sent, queued, full, clp, wide, taken, placeOf}
 use Rattle.document.specs.Shelf.{unitsOf, opened}
 use Rattle.document.specs.Steps.{becomes}
-use Rattle.flow.specs.Parts.{arrivedAt, damagedAt, addressedAt}
+use Rattle.flow.specs.Parts.{countedAt, arrivedAt, addressedAt}
 use Rattle.flow.specs.Lost.{Different, inAll, happened}
 use Rattle.flow.specs.Order.{over, queuedAll, takenAll, sentAll}
 
--- what the unit in place i has counted is what came to it: "each copy on the bus meets exactly one fate at each unit it addresses"
+-- how often the counter with this place is in a list
+unfoldable pub occurs : List Counter → ℕ → ℕ
+occurs [] k = 0
+occurs (c ∷ cs) k = cond (eqb (placeOf c) k) (suc (occurs cs k)) (occurs cs k)
+
+-- of the unit in place i: each of the thirteen says how often the events counted it there. Some of them in cells: those that arrived, were sent, were queued, were taken; and
+-- "each copy on the bus meets exactly one fate at each unit it addresses"
 pub record Counted (lines : List Line) (es : List Event) (i : ℕ) : Type 0 where
+  pub each : (c : Counter) → happened (becomes (opened lines) es) i c ≡ occurs (over (λ d e. countedAt d e i) (opened lines) es) (placeOf c)
   pub arrivals : happened (becomes (opened lines) es) i arrived ≡ length (over (λ d e. arrivedAt d e i) (opened lines) es)
   pub frames : happened (becomes (opened lines) es) i sent ≡ length (sentAll (opened lines) es i)
   pub copies : happened (becomes (opened lines) es) i queued ≡ inAll (queuedAll (opened lines) es i)
   pub cells : happened (becomes (opened lines) es) i taken ≡ inAll (takenAll (opened lines) es i)
-  pub broken : happened (becomes (opened lines) es) i damaged ≡ length (over (λ d e. damagedAt d e i) (opened lines) es)
   pub fates :
       let d = becomes (opened lines) es in
       happened d i wide + happened d i full + happened d i clp + happened d i queued ≡ length (over (λ x e. addressedAt x e i) (opened lines) es)

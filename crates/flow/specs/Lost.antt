@@ -1,4 +1,4 @@
--- Demand: nothing is lost without a counter. Assumes nothing.
+-- Promise: nothing is lost without a counter. Assumes nothing.
 use Prim.Native.Nat.{ℕ, _+_, _<_}
 use mathlib.Core.Path.{_≡_}
 use mathlib.Core.List.{List}
@@ -32,7 +32,7 @@ pub record Accounted (d : Shelf) (i : ℕ) : Type 0 where
       happened d i arrived ≡ happened d i hec + happened d i ignored + happened d i misrouted + happened d i inletfull + happened d i sent + length (unitAt d i .inlet)
   pub copies : happened d i queued ≡ happened d i taken + inOutlet (unitAt d i)
 
--- "the counters equal that history": after every sequence of events, of every unit
+-- after every sequence of events, of every unit
 abbrev pub NothingLost : Type 0
 NothingLost = (lines : List Line) → Different (unitsOf lines) → (es : List Event) (i : ℕ) → i < length (unitsOf lines) → Accounted (becomes (opened lines) es) i
 

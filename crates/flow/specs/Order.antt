@@ -1,4 +1,4 @@
--- Demand: cells leave in the order in which they came. Assumes nothing.
+-- Promise: cells leave in the order in which they came. Assumes nothing.
 use Prim.Native.Nat.{ℕ, _<_}
 use mathlib.Core.Path.{_≡_}
 use mathlib.Core.Logic.{_⊎_}

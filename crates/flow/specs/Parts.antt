@@ -1,7 +1,7 @@
 -- One unit's part in an event: what the unit in a place does when something happens to the shelf. Assumes nothing.
 use Prim.Native.Nat.{ℕ}
-use mathlib.Core.Bool.{Bool, true, false, cond, _&&_}
-use mathlib.Core.List.{List, [], _∷_}
+use mathlib.Core.Bool.{Bool, false, cond, _&&_}
+use mathlib.Core.List.{List, [], _∷_, _++_}
 use lib.Dec.{eqb, leb}
 use lib.ListN.{length, take}
 use Rattle.bus.specs.Frame.{heard, payload}
@@ -13,11 +13,12 @@ use Rattle.queueing.specs.declared.Leaving.the-variants as leaves
 use Rattle.shelf.specs.declared.Found as F
 use Rattle.shelf.specs.declared.Found.the-variants.{At, Nothing}
 use Rattle.line.specs.declared.Line.{Line}
+use Rattle.document.specs.Counters.{Counter, taken, arrivalCounts, hearingCounts, sentCounts}
 use Rattle.document.specs.Events.{Event, arrive, frame, hear, take as takes·out, count}
 use Rattle.document.specs.Shelf.{Cell, Routed, Unit, Shelf, queueAt, withInlet, findIn, unitAt}
-use Rattle.document.specs.Arrival.{Way, goes, lost, wayOf}
+use Rattle.document.specs.Arrival.{Way, goes, lost, wayOf, arrivalOf}
 use Rattle.document.specs.Hearing.{addressed, hearingOf}
-use Rattle.document.specs.Frame.{asHeard, isQueued}
+use Rattle.document.specs.Frame.{asHeard, isQueued, someAddressed}
 use Rattle.document.specs.Take.{leaving}
 
 -- it does nothing; a cell arrives; it hears a frame with a payload; it is asked for a cell; it sends its oldest cell, the others wait on, and hears it
@@ -58,6 +59,18 @@ arrivedBy (hears h bytes) = []
 arrivedBy takes = []
 arrivedBy (sends r rest) = []
 
+-- those of them that a line routes, with room or without
+unfoldable pub routedIn : Way → List Routed
+routedIn (lost fate) = []
+routedIn (goes r) = r ∷ []
+
+unfoldable pub routedBy : List Line → Unit → Part → List Routed
+routedBy lines u rests = []
+routedBy lines u (arrives c) = routedIn (wayOf lines (u .settings) c)
+routedBy lines u (hears h bytes) = []
+routedBy lines u takes = []
+routedBy lines u (sends r rest) = []
+
 -- what comes into its inlet: "A routed cell finding 4 cells in the inlet is `inletfull`, else `queued`"
 unfoldable pub roomFor : Way → Unit → List Routed
 roomFor (lost fate) u = []
@@ -78,7 +91,7 @@ sentBy (hears h bytes) = []
 sentBy takes = []
 sentBy (sends r rest) = r ∷ []
 
--- the frames that it hears, "the sender too"; the damaged ones, and those that address it
+-- the frames that it hears, "the sender too", and those that address it
 unfoldable pub heardBy : Part → List H.Heard
 heardBy rests = []
 heardBy (arrives c) = []
@@ -86,19 +99,15 @@ heardBy (hears h bytes) = h ∷ []
 heardBy takes = []
 heardBy (sends r rest) = asHeard r ∷ []
 
-unfoldable pub isDamaged : H.Heard → Bool
-isDamaged frames.Length = true
-isDamaged frames.Damaged = true
-isDamaged (frames.Cell target class header) = false
-
 unfoldable pub isFor : List Line → Unit → H.Heard → Bool
 isFor lines u frames.Length = false
 isFor lines u frames.Damaged = false
 isFor lines u (frames.Cell target class header) = addressed lines u target
 
-unfoldable pub among : (H.Heard → Bool) → List H.Heard → List H.Heard
-among p [] = []
-among p (h ∷ hs) = cond (p h) (h ∷ among p hs) (among p hs)
+-- those that meet a test
+unfoldable pub among : {A : Type 0} → (A → Bool) → List A → List A
+among test [] = []
+among test (a ∷ rest) = cond (test a) (a ∷ among test rest) (among test rest)
 
 -- what a hearing puts into queue q: the copy, if it is `queued` and q is the queue of its class
 unfoldable pub copyIn : List Line → Unit → H.Heard → List ℕ → ℕ → List Cell
@@ -114,6 +123,20 @@ queuedBy lines u (hears h bytes) q = copyIn lines u h bytes q
 queuedBy lines u takes q = []
 queuedBy lines u (sends r rest) q = copyIn lines (withInlet u rest) (asHeard r) (r .cell .payload) q
 
+-- what a frame brings to queue q: its cell, if it addresses the unit and q is the queue of its class
+unfoldable pub copyFor : List Line → Unit → H.Heard → List ℕ → ℕ → List Cell
+copyFor lines u frames.Length bytes q = []
+copyFor lines u frames.Damaged bytes q = []
+copyFor lines u (frames.Cell target class header) bytes q =
+    cond (addressed lines u target && eqb q (queueOf (u .limits) class)) (record { header = header; payload = bytes } ∷ []) []
+
+unfoldable pub meantBy : List Line → Unit → Part → ℕ → List Cell
+meantBy lines u rests q = []
+meantBy lines u (arrives c) q = []
+meantBy lines u (hears h bytes) q = copyFor lines u h bytes q
+meantBy lines u takes q = []
+meantBy lines u (sends r rest) q = copyFor lines u (asHeard r) (r .cell .payload) q
+
 -- "Take gives the oldest cell (mode `one`) or the oldest cell of the lowest class held (mode `four`)"
 unfoldable pub oldestIn : L.Leaving → Unit → ℕ → List Cell
 oldestIn (leaves.Queue p) u q = cond (eqb q p) (take 1 (queueAt u p)) []
@@ -126,12 +149,32 @@ takenBy u (hears h bytes) q = []
 takenBy u takes q = oldestIn (leaving u) u q
 takenBy u (sends r rest) q = []
 
+-- what it counts when it is asked for a cell
+unfoldable pub tookBy : L.Leaving → List Counter
+tookBy (leaves.Queue q) = taken ∷ []
+tookBy leaves.Empty = []
+
+-- and whatever its part: an arrival and its fate; the fate of a copy; a cell taken; a cell sent, and its own copy of it; who rests counts nothing.
+-- "A sent cell addressing no declared unit also counts `unheard` at its sender"
+unfoldable pub countsBy : List Line → List Unit → Unit → Part → List Counter
+countsBy lines us u rests = []
+countsBy lines us u (arrives c) = arrivalCounts (arrivalOf lines u c)
+countsBy lines us u (hears h bytes) = hearingCounts (hearingOf lines u h)
+countsBy lines us u takes = tookBy (leaving u)
+countsBy lines us u (sends r rest) = sentCounts (someAddressed lines us r) ++ hearingCounts (hearingOf lines u (asHeard r))
+
 -- the same of the unit in place i, for an event
+abbrev pub countedAt : Shelf → Event → ℕ → List Counter
+countedAt d e i = countsBy (d .lines) (d .units) (unitAt d i) (partOf d e i)
+
 abbrev pub arrivedAt : Shelf → Event → ℕ → List (List ℕ)
 arrivedAt d e i = arrivedBy (partOf d e i)
 
-abbrev pub damagedAt : Shelf → Event → ℕ → List H.Heard
-damagedAt d e i = among isDamaged (heardBy (partOf d e i))
+abbrev pub routedAt : Shelf → Event → ℕ → List Routed
+routedAt d e i = routedBy (d .lines) (unitAt d i) (partOf d e i)
+
+abbrev pub meantFor : Shelf → Event → ℕ → ℕ → List Cell
+meantFor d e i q = meantBy (d .lines) (unitAt d i) (partOf d e i) q
 
 abbrev pub addressedAt : Shelf → Event → ℕ → List H.Heard
 addressedAt d e i = among (isFor (d .lines) (unitAt d i)) (heardBy (partOf d e i))
