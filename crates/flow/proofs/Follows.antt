@@ -123,18 +123,30 @@ module _ (lines : List Line) (s : Settings) (bytes : List ℕ) where
       let n = good _ m .outvci-most in
       follows target class outvpi outvci (good _ m .way .outvpi-most) (omega arith) (by-circuit m) r (cc)
 
--- a cell that goes on has passed the other tests
+  -- a cell that goes on has passed the other tests
+  goes-by : (r : Routed) → wayOf lines s bytes ≡ goes r → wayBy (served lines (s .number) (h .vpi) (h .vci)) h (part bytes 5 48) ≡ goes r
+  unfolding wayOf wayFor
+  goes-by r e = go (eqb (check (four bytes 0)) (getD bytes 4 0)) e
+    where
+      go : (b : Bool) → cond b (wayFor lines s h (part bytes 5 48)) (lost Hec) ≡ goes r → wayBy (served lines (s .number) (h .vpi) (h .vci)) h (part bytes 5 48) ≡ goes r
+      go true e =
+          goes-on (ltb (s .top) (h .vpi)) (lost Misrouted) _ r (λ x. let z : _≡_ {A = ℕ} 0 1 = cc in omega arith)
+          (goes-on (eqb (h .vpi) 0 && eqb (h .vci) 0) (lost Ignored) _ r (λ x. let z : _≡_ {A = ℕ} 0 1 = cc in omega arith) e)
+      go false e = let z : _≡_ {A = ℕ} 0 1 = cc in absurd (omega arith)
+
+  -- and has its payload, whatever the line
+  pub payload-kept : (r : Routed) → wayOf lines s bytes ≡ goes r → r .cell .payload ≡ part bytes 5 48
+  unfolding wayBy
+  payload-kept r e = go (served lines (s .number) (h .vpi) (h .vci)) (goes-by r e)
+    where
+      go : (o : Option Serving) → wayBy o h (part bytes 5 48) ≡ goes r → r .cell .payload ≡ part bytes 5 48
+      go none e = let z : _≡_ {A = ℕ} 0 1 = cc in absurd (omega arith)
+      go (some by-drop) e = let z : _≡_ {A = ℕ} 0 1 = cc in absurd (omega arith)
+      go (some (by-vp target class outvpi)) e = let same : routed target class outvpi (h .vci) h (part bytes 5 48) ≡ r = cc in ap (λ x. x .cell .payload) (sym same)
+      go (some (by-vc target class outvpi outvci)) e = let same : routed target class outvpi outvci h (part bytes 5 48) ≡ r = cc in ap (λ x. x .cell .payload) (sym same)
+
 pub line-followed : LineFollowed
-unfolding wayOf wayFor
-line-followed lines good s bytes r e = go (eqb (check (four bytes 0)) (getD bytes 4 0)) e
-  where
-    go : (b : Bool) → cond b (wayFor lines s (headerOf s bytes) (part bytes 5 48)) (lost Hec) ≡ goes r → Follows lines s bytes r
-    go true e =
-        let h = headerOf s bytes in
-        by-line lines s bytes good r (served lines (s .number) (h .vpi) (h .vci)) refl
-        (goes-on (ltb (s .top) (h .vpi)) (lost Misrouted) _ r (λ x. let z : _≡_ {A = ℕ} 0 1 = cc in omega arith)
-        (goes-on (eqb (h .vpi) 0 && eqb (h .vci) 0) (lost Ignored) _ r (λ x. let z : _≡_ {A = ℕ} 0 1 = cc in omega arith) e))
-    go false e = let z : _≡_ {A = ℕ} 0 1 = cc in absurd (omega arith)
+line-followed lines good s bytes r e = by-line lines s bytes good r (served lines (s .number) (headerOf s bytes .vpi) (headerOf s bytes .vci)) refl (goes-by lines s bytes r e)
 
 -- each line of an accepted table could be read
 each-ranged : (lines : List Line) → AllInRange lines → Ranged lines

@@ -78,17 +78,18 @@ module _ (g : ℕ) where
   asked-now now (u ∷ us) n h =
       let w = asked-now (set now (numberOf u) (asksNow g u)) us n h in
       let l = length-set now (numberOf u) (asksNow g u) in
-      let within : n < length now = omega (arith, w .0) in
-      (within,
-      ⊎-elim
-      (λ k.
-      decide (eqb n (numberOf u))
-      (λ t.
-      let e = eqb-true n (numberOf u) t in
-      let asks = asks-because u (λ z. k (ap (λ m. getD (set now (numberOf u) (asksNow g u)) m 0) e ∙ getD-set-same now (numberOf u) (asksNow g u) 0 (omega arith) ∙ z)) in
-      inr (0, omega arith, sym e, subst (λ m. needs m g ≤ length (u .inlet)) (sym e) asks))
-      (λ t. inl (λ z. k (getD-set-other now (numberOf u) n (asksNow g u) 0 (eqb-false n (numberOf u) t) ∙ z))))
-      (λ v. inr (suc (v .0), omega (arith, v .1), v .2, v .3)) (w .1))
+      let within : n < length now = omega (arith, w .0) in (
+        within,
+        ⊎-elim
+            (λ k.
+            decide (eqb n (numberOf u))
+            (λ t.
+            let e = eqb-true n (numberOf u) t in
+            let asks = asks-because u (λ z. k (ap (λ m. getD (set now (numberOf u) (asksNow g u)) m 0) e ∙ getD-set-same now (numberOf u) (asksNow g u) 0 (omega arith) ∙ z)) in
+            inr (0, omega arith, sym e, subst (λ m. needs m g ≤ length (u .inlet)) (sym e) asks))
+            (λ t. inl (λ z. k (getD-set-other now (numberOf u) n (asksNow g u) 0 (eqb-false n (numberOf u) t) ∙ z))))
+            (λ v. inr (suc (v .0), omega (arith, v .1), v .2, v .3)) (w .1),
+      )
 
 -- what is renewed, and what stands
 renewed-or : (bus at : ℕ) (now : List ℕ) (k : ℕ) (asks : List ℕ) (n : ℕ) → (getD (renewedFrom bus at now k asks) n 0 ≡ 0 → ⊥) → (getD now (k + n) 0 ≡ 0 → ⊥) ⊎ (getD asks n 0 ≡ 0 → ⊥)

@@ -1,4 +1,4 @@
--- Demand: what the lent bytes hold after a take or a frame came down the right street. Assumes nothing.
+-- Promise: what the lent bytes hold after a take or a frame came down the right street. Assumes nothing.
 use Prim.Native.Nat.{ℕ, _<_}
 use mathlib.Core.Path.{_≡_}
 use mathlib.Core.Bool.{Bool}
@@ -15,7 +15,7 @@ use Rattle.arbiter.specs.Arbitration.{nobody}
 use Rattle.line.specs.declared.Line.{Line}
 use Rattle.answer.specs.declared.Answer.the-variants.{Taken}
 use Rattle.document.specs.Events.{Event, frame, take, answers}
-use Rattle.document.specs.Shelf.{Cell, Routed, Shelf, numberOf, unitAt, unitsOf, opened}
+use Rattle.document.specs.Shelf.{Cell, Routed, Shelf, numberOf, queueAt, unitAt, unitsOf, opened}
 use Rattle.document.specs.Frame.{frameOf}
 use Rattle.document.specs.Take.{marks, handed}
 use Rattle.document.specs.Steps.{happensTo, becomes}
@@ -39,17 +39,20 @@ marksAt lines es i = marks (unitAt (reached lines es) i)
 -- "A line cell is 53 bytes: header 4, check 1, payload 48.": bytes, as a link reads them, with this VPI, VCI and payload, with the CLP of this header and its PT but for the mark;
 -- "A UNI unit writes GFC 0. The check is new."
 pub record ReadsAs (link : Link) (mark : Bool) (vpi vci : ℕ) (h : H.Header) (payload bytes : List ℕ) : Type 0 where
+  pub whole : length bytes ≡ 53
   pub header : fields link (four bytes 0) ≡ record { gfc = 0; vpi = vpi; vci = vci; pt = marked mark (h .pt); clp = h .clp }
   pub checked : getD bytes 4 0 ≡ check (four bytes 0)
   pub payload-is : drop 5 bytes ≡ payload
 
--- a cell handed out at a declared unit: meant for it, and with all twelve bits of its VPI
+-- a cell handed out at a declared unit: the oldest of a queue there, meant for it, and with its whole VPI
 pub record RightlyTaken (lines : List Line) (es : List Event) (unit : ℕ) (buffer : List ℕ) : Type 0 where
   pub place : ℕ
   pub inside : place < length (unitsOf lines)
   pub named : numberOf (declaredAt lines place) ≡ unit
   pub queue : ℕ
   pub cell : Cell
+  pub others : List Cell
+  pub oldest : queueAt (unitAt (reached lines es) place) queue ≡ cell ∷ others
   pub origin : CameFrom lines es place queue cell
   pub bytes : out lines es unit buffer ≡ handed (unitAt (reached lines es) place) cell
   pub reads :

@@ -1,4 +1,4 @@
--- Demand: every cell goes down the right street. Assumes nothing.
+-- Promise: every cell goes down the right street. Assumes nothing.
 use Prim.Native.Nat.{ℕ, _<_}
 use mathlib.Core.Path.{_≡_}
 use mathlib.Core.Bool.{true}
