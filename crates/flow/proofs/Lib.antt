@@ -8,4 +8,5 @@ pub mod Bytes
 pub mod Examples
 pub mod Apart
 pub mod Follows
+pub mod Senders
 pub mod Out

@@ -3,7 +3,7 @@ use Prim.Native.Nat.{ℕ, _<_}
 use native.Mathlib.Omega.{arith}
 use mathlib.Core.Path.{_≡_, refl, sym, ap, subst, _∙_}
 use mathlib.Core.Logic.{⊎-elim}
-use mathlib.Core.Bool.{Bool, true, false, cond, _&&_}
+use mathlib.Core.Bool.{Bool, true, false, cond, _&&_, false≢true}
 use mathlib.Core.List.{List, [], _∷_, List·Memᴰ as In, List·Memᴰ·head, List·Memᴰ·tail, List·Memᴰ·not-nil, List·Memᴰ·eq-of-singleton, List·Memᴰ·append-cases, Memᴰ·append-left, Memᴰ·append-right, Memᴰ·cast}
 use lib.Dec.{eqb, leb}
 use lib.ListN.{length}
@@ -13,7 +13,8 @@ use Rattle.bus.specs.declared.Heard as H
 use Rattle.bus.specs.declared.Heard.the-variants as frames
 use Rattle.routing.specs.declared.Target as T
 use Rattle.routing.specs.declared.Target.the-variants as targets
-use Rattle.queueing.specs.Hearing.{queueOf}
+use Rattle.queueing.specs.Hearing.{queueOf, tooWide, TooWide}
+use Rattle.queueing.proofs.Fates.{wide-iff}
 use Rattle.line.specs.declared.Line.{Line}
 use Rattle.answer.specs.declared.Hearing as A
 use Rattle.answer.specs.declared.Hearing.the-variants as hearing
@@ -27,7 +28,7 @@ use Rattle.document.specs.Steps.{happensTo, becomes}
 use Rattle.document.proofs.Fixed.{givenOf, given-kept}
 use Rattle.flow.specs.Parts.{Part, rests, arrives, hears, takes, sends, partOf, roomFor, broughtBy, copyIn, queuedBy, broughtIn, sentFrom, queuedIn}
 use Rattle.flow.specs.Order.{over, queuedAll, takenAll, broughtAll, sentAll}
-use Rattle.flow.specs.Street.{declaredAt, Arrived, Addresses, CameFrom, by-bus, by-hand, RightStreet}
+use Rattle.flow.specs.Street.{declaredAt, Arrived, MeantFor, CameFrom, by-bus, by-hand, RightStreet}
 use Rattle.flow.proofs.Turns.{Because, Handed, Sent, does}
 use Rattle.flow.proofs.Kept.{given-at, as-many, four-first, bare, inlet-after, four-after, in-order}
 
@@ -39,13 +40,24 @@ pub record Copy (lines : List Line) (u : Unit) (h : H.Heard) (bytes : List ℕ) 
   pub frame-is : h ≡ frames.Cell target class header
   pub reached : addressed lines u target ≡ true
   pub queue : queueOf (u .limits) class ≡ q
+  pub narrow : TooWide (u .settings .link) header → ⊥
   pub cell : c ≡ record { header = header; payload = bytes }
 
 -- what is not addressed is not queued
-reaches : (b : Bool) (fate : A.Hearing) → isQueued (cond b fate hearing.Other) ≡ 1 → b ≡ true
+reaches : (b : Bool) (fate : A.Hearing) → isQueued (cond b fate hearing.Other) ≡ 1 → (b ≡ true) × (isQueued fate ≡ 1)
 unfolding isQueued
-reaches true fate e = refl
+reaches true fate e = (refl, e)
 reaches false fate e = absurd (omega arith)
+
+-- nor is what is too wide
+fits : (b : Bool) (fate : A.Hearing) → isQueued (cond b hearing.Wide fate) ≡ 1 → b ≡ false
+unfolding isQueued
+fits true fate e = absurd (omega arith)
+fits false fate e = refl
+
+room-for : (u : Unit) (q header : ℕ) → isQueued (fateIn u q header) ≡ 1 → TooWide (u .settings .link) header → ⊥
+unfolding fateIn
+room-for u q header e w = false≢true (sym (fits (tooWide (u .settings .link) header) _ e) ∙ wide-iff (u .settings .link) header .1 w)
 
 -- a cell that a hearing puts into a queue
 copied : (lines : List Line) (u : Unit) (h : H.Heard) (bytes : List ℕ) (q : ℕ) (c : Cell) → In c (copyIn lines u h bytes q) → Copy lines u h bytes q c
@@ -62,8 +74,9 @@ copied lines u (frames.Cell target class header) bytes q c m =
           class = class;
           header = header;
           frame-is = refl;
-          reached = reaches (addressed lines u target) (fateIn u (queueOf (u .limits) class) header) (eqb-true (isQueued (hearingOf lines u (frames.Cell target class header))) 1 x);
+          reached = reaches (addressed lines u target) (fateIn u (queueOf (u .limits) class) header) (eqb-true (isQueued (hearingOf lines u (frames.Cell target class header))) 1 x) .0;
           queue = sym (eqb-true q (queueOf (u .limits) class) y);
+          narrow = room-for u (queueOf (u .limits) class) header (reaches (addressed lines u target) (fateIn u (queueOf (u .limits) class) header) (eqb-true (isQueued (hearingOf lines u (frames.Cell target class header))) 1 x) .1);
           cell = List·Memᴰ·eq-of-singleton m;
         }
     go true x false y m = absurd (List·Memᴰ·not-nil m)
@@ -118,11 +131,12 @@ module _ (lines : List Line) (es : List Event) (d : Shelf) (on : On lines es d) 
   brought-from (sends s rest) w r m = absurd (List·Memᴰ·not-nil m)
 
   -- a copy reaches whom the target addresses
-  reached : (v : Unit) (h : H.Heard) (bytes : List ℕ) (q : ℕ) (c : Cell) → givenOf v ≡ givenOf u → (k : Copy (d .lines) v h bytes q c) → Addresses lines i q (k .target) (k .class)
+  reached : (v : Unit) (h : H.Heard) (bytes : List ℕ) (q : ℕ) (c : Cell) → givenOf v ≡ givenOf u → (k : Copy (d .lines) v h bytes q c) → MeantFor lines i q (k .target) (k .class) (k .header)
   reached v h bytes q c same k =
       record {
         addresses = sym (ap (λ l. addressed l v (k .target)) (on .lines-are) ∙ same-address lines v (declaredAt lines i) (k .target) (ap (λ g. g .settings .number) same ∙ number)) ∙ k .reached;
         queue = sym (ap (λ g. queueOf (g .limits) (k .class)) (same ∙ on .given i)) ∙ k .queue;
+        narrow = subst (λ g. TooWide (g .settings .link) (k .header) → ⊥) (same ∙ on .given i) (k .narrow);
       }
 
   -- a copy of a cell that was sent
@@ -138,7 +152,11 @@ module _ (lines : List Line) (es : List Event) (d : Shelf) (on : On lines es d) 
       let w = s .inside in
       by-bus (s .place) (s .r) (omega arith)
       (on .waiting (s .place) (s .inside) (s .r) (subst (λ rs. In (s .r) rs) (sym (s .oldest)) (List·Memᴰ·head refl)))
-      (record { addresses = ap (addressed lines (declaredAt lines i)) t ∙ a .addresses; queue = ap (queueOf (declaredAt lines i .limits)) l ∙ a .queue })
+      (record {
+        addresses = ap (addressed lines (declaredAt lines i)) t ∙ a .addresses;
+        queue = ap (queueOf (declaredAt lines i .limits)) l ∙ a .queue;
+        narrow = subst (λ n. TooWide (declaredAt lines i .settings .link) n → ⊥) (sym m) (a .narrow);
+      })
       (k .cell ∙ (λ j. record { header = sym m j; payload = s .payload-is j }))
 
   -- a copy of a frame that was handed in

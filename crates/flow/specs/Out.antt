@@ -1,47 +1,94 @@
--- Demand: what the lent bytes hold after a take or a frame came down the right street. Assumes nothing.
+-- Promise: what the lent bytes hold after a take or a frame came down the right street. Assumes nothing.
 use Prim.Native.Nat.{ℕ, _<_}
 use mathlib.Core.Path.{_≡_}
-use mathlib.Core.Logic.{_⊎_}
-use mathlib.Core.List.{List}
-use lib.ListN.{length}
+use mathlib.Core.Bool.{Bool}
+use mathlib.Core.List.{List, _∷_}
+use lib.ListN.{length, getD, drop}
+use Rattle.octets.specs.Octets.{four, part}
+use Rattle.header.specs.Fields.{fields}
+use Rattle.header.specs.Check.{check}
+use Rattle.header.specs.declared.Header as H
+use Rattle.header.specs.declared.Link.{Link}
+use Rattle.header.specs.declared.Link.the-variants.{Nni}
+use Rattle.queueing.specs.Taking.{marked}
+use Rattle.arbiter.specs.Arbitration.{nobody}
 use Rattle.line.specs.declared.Line.{Line}
 use Rattle.answer.specs.declared.Answer.the-variants.{Taken}
 use Rattle.document.specs.Events.{Event, frame, take, answers}
-use Rattle.document.specs.Shelf.{Cell, Routed, Shelf, numberOf, unitAt, unitsOf, opened}
+use Rattle.document.specs.Shelf.{Cell, Routed, Shelf, numberOf, queueAt, unitAt, unitsOf, opened}
 use Rattle.document.specs.Frame.{frameOf}
-use Rattle.document.specs.Take.{handed}
+use Rattle.document.specs.Take.{marks, handed}
 use Rattle.document.specs.Steps.{happensTo, becomes}
-use Rattle.flow.specs.Street.{declaredAt, Arrived, CameFrom}
+use Rattle.flow.specs.Lost.{Different}
+use Rattle.flow.specs.Street.{declaredAt, Arrived, CameFrom, headerOf, Follows, Ranged}
 
 -- the shelf after some events
 abbrev pub reached : List Line → List Event → Shelf
 reached lines es = becomes (opened lines) es
 
--- a cell handed out at a declared unit: meant for it
+-- what a take then leaves in its buffer; the link of the unit in place i, and whether it marks the cell that leaves it
+abbrev pub out : List Line → List Event → ℕ → List ℕ → List ℕ
+out lines es unit buffer = happensTo (reached lines es) (take unit buffer) .bytes
+
+abbrev pub linkAt : List Line → ℕ → Link
+linkAt lines i = declaredAt lines i .settings .link
+
+abbrev pub marksAt : List Line → List Event → ℕ → Bool
+marksAt lines es i = marks (unitAt (reached lines es) i)
+
+-- "A line cell is 53 bytes: header 4, check 1, payload 48.": bytes, as a link reads them, with this VPI, VCI and payload, with the CLP of this header and its PT but for the mark;
+-- "A UNI unit writes GFC 0. The check is new."
+pub record ReadsAs (link : Link) (mark : Bool) (vpi vci : ℕ) (h : H.Header) (payload bytes : List ℕ) : Type 0 where
+  pub whole : length bytes ≡ 53
+  pub header : fields link (four bytes 0) ≡ record { gfc = 0; vpi = vpi; vci = vci; pt = marked mark (h .pt); clp = h .clp }
+  pub checked : getD bytes 4 0 ≡ check (four bytes 0)
+  pub payload-is : drop 5 bytes ≡ payload
+
+-- a cell handed out at a declared unit: the oldest of a queue there, meant for it, and with its whole VPI
 pub record RightlyTaken (lines : List Line) (es : List Event) (unit : ℕ) (buffer : List ℕ) : Type 0 where
   pub place : ℕ
   pub inside : place < length (unitsOf lines)
   pub named : numberOf (declaredAt lines place) ≡ unit
   pub queue : ℕ
   pub cell : Cell
+  pub others : List Cell
+  pub oldest : queueAt (unitAt (reached lines es) place) queue ≡ cell ∷ others
   pub origin : CameFrom lines es place queue cell
-  pub bytes : happensTo (reached lines es) (take unit buffer) .bytes ≡ handed (unitAt (reached lines es) place) cell
+  pub bytes : out lines es unit buffer ≡ handed (unitAt (reached lines es) place) cell
+  pub reads :
+      let h = fields Nni (cell .header) in
+      ReadsAs (linkAt lines place) (marksAt lines es place) (h .vpi) (h .vci) h (cell .payload) (out lines es unit buffer)
 
 -- every take, after every sequence of events: "Take gives the oldest cell .., or `empty` with the buffer unchanged"
 abbrev pub TakenRight : Type 0
 TakenRight =
     (lines : List Line) (es : List Event) (unit : ℕ) (buffer : List ℕ) → happensTo (reached lines es) (take unit buffer) .said ≡ answers Taken → RightlyTaken lines es unit buffer
 
--- a frame written: of a cell that arrived at the unit granted in the frame before
+-- such a cell that arrived at one of our units: VPI and VCI are the line's, payload and CLP the arrival's, PT but for the mark
+pub record Delivered (lines : List Line) (es : List Event) (unit : ℕ) (buffer : List ℕ) (t : RightlyTaken lines es unit buffer) (place : ℕ) (r : Routed) (a : Arrived lines es place r) : Type 0 where
+  pub line : Follows lines (declaredAt lines place .settings) (a .bytes) r
+  pub reads :
+      ReadsAs (linkAt lines (t .place)) (marksAt lines es (t .place)) (line .vpi) (line .vci)
+      (headerOf (declaredAt lines place .settings) (a .bytes)) (part (a .bytes) 5 48) (out lines es unit buffer)
+
+-- every cell handed out that is not of a frame handed in
+abbrev pub LineDelivered : Type 0
+LineDelivered =
+    (lines : List Line) → Ranged lines → (es : List Event) (unit : ℕ) (buffer : List ℕ) (t : RightlyTaken lines es unit buffer) (place : ℕ) (r : Routed) (a : Arrived lines es place r) →
+    t .cell ≡ r .cell → Delivered lines es unit buffer t place r a
+
+-- a frame written: of the oldest cell of the unit granted in the frame before, at which it arrived
 pub record RightlySent (lines : List Line) (es : List Event) (buffer : List ℕ) : Type 0 where
   pub place : ℕ
   pub inside : place < length (unitsOf lines)
   pub named : numberOf (declaredAt lines place) ≡ reached lines es .granted
   pub routed : Routed
+  pub others : List Routed
+  pub oldest : unitAt (reached lines es) place .inlet ≡ routed ∷ others
   pub origin : Arrived lines es place routed
   pub bytes : happensTo (reached lines es) (frame buffer) .bytes ≡ frameOf routed
 
--- every frame: "An idle frame has no bytes and leaves the frame buffer unchanged."
+-- every frame after a grant: "Then the unit granted in the frame before sends its oldest cell."
 abbrev pub SentRight : Type 0
 SentRight =
-    (lines : List Line) (es : List Event) (buffer : List ℕ) → RightlySent lines es buffer ⊎ (happensTo (reached lines es) (frame buffer) .bytes ≡ buffer)
+    (lines : List Line) → Different (unitsOf lines) → (es : List Event) → (reached lines es .granted ≡ nobody → ⊥) → (buffer : List ℕ) → length buffer ≡ 57 → RightlySent lines es buffer

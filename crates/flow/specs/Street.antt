@@ -1,4 +1,4 @@
--- Demand: every cell goes down the right street. Assumes nothing.
+-- Promise: every cell goes down the right street. Assumes nothing.
 use Prim.Native.Nat.{ℕ, _<_}
 use mathlib.Core.Path.{_≡_}
 use mathlib.Core.Bool.{true}
@@ -7,16 +7,20 @@ use lib.ListN.{length, getD}
 use Rattle.octets.specs.Octets.{four, part}
 use Rattle.header.specs.Fields.{fields}
 use Rattle.header.specs.declared.Header as H
+use Rattle.header.specs.declared.Link.the-variants.{Nni}
 use Rattle.bus.specs.Frame.{heard, payload}
 use Rattle.bus.specs.declared.Heard.the-variants as frames
 use Rattle.routing.specs.declared.Target.{Target}
-use Rattle.queueing.specs.Hearing.{queueOf}
+use Rattle.queueing.specs.Hearing.{queueOf, TooWide}
 use Rattle.shelf.specs.declared.Settings.{Settings}
+use Rattle.card.specs.declared.Card.{Card}
 use Rattle.line.specs.declared.Line.{Line}
 use Rattle.line.specs.declared.Line.the-variants.{Vp, Vc}
+use Rattle.line.specs.Ranges.{InRange}
+use Rattle.promise.specs.Refusals.{Accepts}
 use Rattle.document.specs.Events.{Event, arrive, hear}
 use Rattle.document.specs.Shelf.{Cell, Routed, Unit, numberOf, queueAt, blank, unitAt, unitsOf, opened}
-use Rattle.document.specs.Arrival.{goes, routed, wayOf}
+use Rattle.document.specs.Arrival.{goes, wayOf}
 use Rattle.document.specs.Hearing.{addressed}
 use Rattle.document.specs.Steps.{becomes}
 use Rattle.flow.specs.Order.{takenAll, sentAll}
@@ -32,15 +36,16 @@ pub record Arrived (lines : List Line) (es : List Event) (place : ℕ) (r : Rout
   pub event : In (arrive (numberOf (declaredAt lines place)) bytes) es
   pub way : wayOf lines (declaredAt lines place .settings) bytes ≡ goes r
 
--- a target that addresses the unit in place i, and a class whose queue there is q
-pub record Addresses (lines : List Line) (i q : ℕ) (target : Target) (class : ℕ) : Type 0 where
+-- a copy that has its place in queue q of the unit in place i: its target addresses the unit, q is the queue of its class, and it is not "VPI above 255 at a UNI unit, `wide`"
+pub record MeantFor (lines : List Line) (i q : ℕ) (target : Target) (class header : ℕ) : Type 0 where
   pub addresses : addressed lines (declaredAt lines i) target ≡ true
   pub queue : queueOf (declaredAt lines i .limits) class ≡ q
+  pub narrow : TooWide (declaredAt lines i .settings .link) header → ⊥
 
 -- a cell in queue q of the unit in place i: a cell that arrived at some unit and was sent, or that of a frame handed in
 pub data CameFrom (lines : List Line) (es : List Event) (i q : ℕ) (c : Cell) : Type 0 where
-  by-bus : (place : ℕ) (r : Routed) → place < length (unitsOf lines) → Arrived lines es place r → Addresses lines i q (r .target) (r .class) → c ≡ r .cell → CameFrom lines es i q c
-  by-hand : (f : List ℕ) (target : Target) (class header : ℕ) → In (hear (numberOf (declaredAt lines i)) f) es → heard f ≡ frames.Cell target class header → Addresses lines i q target class → c ≡ record { header = header; payload = payload f } → CameFrom lines es i q c
+  by-bus : (place : ℕ) (r : Routed) → place < length (unitsOf lines) → Arrived lines es place r → MeantFor lines i q (r .target) (r .class) (r .cell .header) → c ≡ r .cell → CameFrom lines es i q c
+  by-hand : (f : List ℕ) (target : Target) (class header : ℕ) → In (hear (numberOf (declaredAt lines i)) f) es → heard f ≡ frames.Cell target class header → MeantFor lines i q target class header → c ≡ record { header = header; payload = payload f } → CameFrom lines es i q c
 
 -- "Not addressed: `other`": every cell held and every cell taken was meant for that unit, every cell that waits and every cell sent has arrived there
 pub record Streets (lines : List Line) (es : List Event) (i : ℕ) : Type 0 where
@@ -56,11 +61,27 @@ RightStreet = (lines : List Line) (es : List Event) (i : ℕ) → i < length (un
 abbrev pub headerOf : Settings → List ℕ → H.Header
 headerOf s bytes = fields (s .link) (four bytes 0)
 
--- "`vp` unit, VPI, target, class, outgoing VPI", "route, VCI kept"; "`vc` unit, VPI, VCI, target, class, outgoing VPI, outgoing VCI"; "PT and CLP are kept"
-pub data Follows (lines : List Line) (s : Settings) (bytes : List ℕ) (r : Routed) : Type 0 where
-  by-path : (target : Target) (class outvpi : ℕ) → In (Vp (s .number) (headerOf s bytes .vpi) target class outvpi) lines → r ≡ routed target class outvpi (headerOf s bytes .vci) (headerOf s bytes) (part bytes 5 48) → Follows lines s bytes r
-  by-circuit : (target : Target) (class outvpi outvci : ℕ) → In (Vc (s .number) (headerOf s bytes .vpi) (headerOf s bytes .vci) target class outvpi outvci) lines → r ≡ routed target class outvpi outvci (headerOf s bytes) (part bytes 5 48) → Follows lines s bytes r
+-- "`vp` unit, VPI, target, class, outgoing VPI", "route, VCI kept"; "`vc` unit, VPI, VCI, target, class, outgoing VPI, outgoing VCI": one of these lines gives a cell that arrives at
+-- this unit with this header its target and class, and the VPI and VCI with which it goes on
+pub data LineGives (lines : List Line) (unit : ℕ) (h : H.Header) (target : Target) (class vpi vci : ℕ) : Type 0 where
+  by-path : In (Vp unit (h .vpi) target class vpi) lines → vci ≡ h .vci → LineGives lines unit h target class vpi vci
+  by-circuit : In (Vc unit (h .vpi) (h .vci) target class vpi vci) lines → LineGives lines unit h target class vpi vci
 
--- a cell that goes to the bus follows a line of the table: target, class, outgoing VPI and VCI are that line's, PT, CLP and payload the cell's
+-- a cell that goes to the bus follows a line: its header there has the line's VPI and VCI; "PT and CLP are kept", and the payload
+pub record Follows (lines : List Line) (s : Settings) (bytes : List ℕ) (r : Routed) : Type 0 where
+  pub vpi : ℕ
+  pub vci : ℕ
+  pub line : LineGives lines (s .number) (headerOf s bytes) (r .target) (r .class) vpi vci
+  pub header : fields Nni (r .cell .header) ≡ record { gfc = 0; vpi = vpi; vci = vci; pt = headerOf s bytes .pt; clp = headerOf s bytes .clp }
+  pub payload : r .cell .payload ≡ part bytes 5 48
+
+-- "Classes are 0 to 3, units 0 to 31, VPIs 0 to 4,095, VCIs 0 to 65,535.": in each of these lines
+abbrev pub Ranged : List Line → Type 0
+Ranged lines = (l : Line) → In l lines → InRange l
+
 abbrev pub LineFollowed : Type 0
-LineFollowed = (lines : List Line) (s : Settings) (bytes : List ℕ) (r : Routed) → wayOf lines s bytes ≡ goes r → Follows lines s bytes r
+LineFollowed = (lines : List Line) → Ranged lines → (s : Settings) (bytes : List ℕ) (r : Routed) → wayOf lines s bytes ≡ goes r → Follows lines s bytes r
+
+-- "field outside its range" is Form: the lines of every table that a card accepts are so
+abbrev pub AcceptedRanged : Type 0
+AcceptedRanged = (card : Card) (text memory : List ℕ) (store rows : ℕ) (lines : List Line) → Accepts card text memory store rows lines → Ranged lines
