@@ -48,7 +48,7 @@ kept : (b : Bool) (x y : Verdict) → (y ≡ Fine → ⊥) → cond b x y ≡ Fi
 kept true x y bad e = (refl, e)
 kept false x y bad e = absurd (bad e)
 
-begun : (told : List Line) (x : Verdict) → started told x ≡ Fine → (isFirst told ≡ false) × (x ≡ Fine)
+pub begun : (told : List Line) (x : Verdict) → started told x ≡ Fine → (isFirst told ≡ false) × (x ≡ Fine)
 begun [] x e = absurd (order-fine e)
 begun (l ∷ told) x e = (refl, e)
 
