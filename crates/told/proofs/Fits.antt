@@ -56,7 +56,7 @@ owner : (o : Option ℕ) (k : ℕ → Verdict) → owned o k ≡ Fine → (top :
 owner none k e = absurd (order-fine e)
 owner (some top) k e = (top, refl, e)
 
-free : (r : R.Record) → taken (Is r) ≡ false → r ≡ Empty
+pub free : (r : R.Record) → taken (Is r) ≡ false → r ≡ Empty
 free Empty e = refl
 free R·Drop e = absurd (false≢true (sym e))
 free (Route h v w) e = absurd (false≢true (sym e))
