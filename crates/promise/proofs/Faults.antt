@@ -26,6 +26,7 @@ use Rattle.outlet.specs.declared.Limits.{Limits}
 use Rattle.shelf.specs.declared.Settings.{Settings}
 use Rattle.line.specs.declared.Line.{Line}
 use Rattle.line.specs.declared.Line.the-variants.{Bus, Unit as L·Unit, Vp, Drop, Page, Vc, Mc}
+use Rattle.ranged.specs.declared.Wrong.{Wrong}
 use Rattle.line.specs.declared.Reading.{Reading}
 use Rattle.line.specs.declared.Reading.the-variants.{Good as Read, Bad}
 use Rattle.verdict.specs.declared.Verdict.{Verdict}
@@ -337,3 +338,96 @@ module _ (card : Card) (memory : List ℕ) (told : List Line) (good : Good card 
       let ok = in-order l u 0 top (omega arith) b e nobus (λ n. ⊎-elim (λ z. absurd (z .1)) (λ z. z)) (λ n z. absurd z) (λ n w. ⊎-elim (λ z. absurd z) (λ z. absurd (z .1))) (λ n w c z. absurd z) in
       twice-test _ _ _ _ (hearsIn told u session) 3 _ ok (λ y. mc-again u session refl (heard-in told u session y))
       (λ y. (ok, anew l (λ n t z. absurd z) (λ n w z. absurd z) (λ n w c z. absurd z) (λ n s z. unheard u session y n s z), λ w. absurd (w .1), still l refl)))
+
+-- D. the numbers
+read-bad : {l : Line} {wrong : Wrong} → Read l ≡ Bad wrong → ⊥
+read-bad e = let z : _≡_ {A = ℕ} 0 1 = cc in omega arith
+
+read-is : {l m : Line} → Read l ≡ Read m → m ≡ l
+read-is e = cc
+
+module _ (card : Card) (memory : List ℕ) (told : List Line) where
+  -- a line that cannot be read has one condition
+  only-form : (wrong : Wrong) (n : ℕ) → Condition card memory told (Bad wrong) n → n ≡ 2
+  only-form wrong n (form w e k) = k
+  only-form wrong n (order l e h k) = absurd (read-bad (sym e))
+  only-form wrong n (twice l e h k) = absurd (read-bad (sym e))
+  only-form wrong n (wide l e c h k) = absurd (read-bad (sym e))
+  only-form wrong n (room l e h k) = absurd (read-bad (sym e))
+
+  -- one that can has four
+  by-condition : (P : Type 0) (l : Line) (n : ℕ) → (n ≡ 3 → OutOfOrder told l → P) → (n ≡ 4 → Again told l → P) → (n ≡ 5 → (card ≡ Narrow) × TooWide l → P) → (n ≡ 6 → Exceeds memory (l ∷ told) → P) → Condition card memory told (Read l) n → P
+  by-condition P l n o a w m (form wrong e k) = absurd (read-bad e)
+  by-condition P l n o a w m (order x e h k) = o k (subst (OutOfOrder told) (read-is e) h)
+  by-condition P l n o a w m (twice x e h k) = a k (subst (Again told) (read-is e) h)
+  by-condition P l n o a w m (wide x e c h k) = w k (c, subst TooWide (read-is e) h)
+  by-condition P l n o a w m (room x e h k) = m k (subst (λ y. Exceeds memory (y ∷ told)) (read-is e) h)
+
+  -- the number is that of the first condition that holds
+  abbrev First : Line → ℕ → Type 0
+  First l n = Condition card memory told (Read l) n × ((m : ℕ) → m < n → Condition card memory told (Read l) m → ⊥)
+
+  abbrev Meant : Line → Verdict → Type 0
+  Meant l = Means (OutOfOrder told l) (Again told l) ((card ≡ Narrow) × TooWide l) (Exceeds memory (l ∷ told))
+
+  number-first : (l : Line) (n : ℕ) (v : Verdict) → Meant l v → (n ≡ 0 → ⊥) → numberOf v ≡ n → First l n
+  number-first l n Fine h least e = absurd (least (sym e))
+  number-first l n (Form wrong) h least e = absurd h
+  number-first l n (Order field) h least e =
+      (order l refl h (sym e), λ m k. by-condition ⊥ l m (λ q z. omega arith) (λ q z. omega arith) (λ q z. omega arith) (λ q z. omega arith))
+  number-first l n (Twice field) h least e =
+      (twice l refl (h .1) (sym e), λ m k. by-condition ⊥ l m (λ q. h .0) (λ q z. omega arith) (λ q z. omega arith) (λ q z. omega arith))
+  number-first l n Wide h least e =
+      (wide l refl (h .2 .0) (h .2 .1) (sym e), λ m k. by-condition ⊥ l m (λ q. h .0) (λ q. h .1) (λ q z. omega arith) (λ q z. omega arith))
+  number-first l n Room h least e =
+      (room l refl (h .3) (sym e), λ m k. by-condition ⊥ l m (λ q. h .0) (λ q. h .1) (λ q. h .2) (λ q z. omega arith))
+
+  first-number : (l : Line) (n : ℕ) (v : Verdict) → Meant l v → First l n → numberOf v ≡ n
+  first-number l n Fine h f = absurd (by-condition ⊥ l n (λ q. h .0) (λ q. h .1) (λ q. h .2) (λ q. h .3) (f .0))
+  first-number l n (Form wrong) h f = absurd h
+  first-number l n (Order field) h f =
+      let no : 3 < n → ⊥ = λ k. f .1 3 k (order l refl h refl) in
+      by-condition (3 ≡ n) l n (λ q z. sym q) (λ q z. absurd (no (omega arith))) (λ q z. absurd (no (omega arith))) (λ q z. absurd (no (omega arith))) (f .0)
+  first-number l n (Twice field) h f =
+      let no : 4 < n → ⊥ = λ k. f .1 4 k (twice l refl (h .1) refl) in
+      by-condition (4 ≡ n) l n (λ q z. absurd (h .0 z)) (λ q z. sym q) (λ q z. absurd (no (omega arith))) (λ q z. absurd (no (omega arith))) (f .0)
+  first-number l n Wide h f =
+      let no : 5 < n → ⊥ = λ k. f .1 5 k (wide l refl (h .2 .0) (h .2 .1) refl) in
+      by-condition (5 ≡ n) l n (λ q z. absurd (h .0 z)) (λ q z. absurd (h .1 z)) (λ q z. sym q) (λ q z. absurd (no (omega arith))) (f .0)
+  first-number l n Room h f =
+      by-condition (6 ≡ n) l n (λ q z. absurd (h .0 z)) (λ q z. absurd (h .1 z)) (λ q z. absurd (h .2 z)) (λ q z. sym q) (f .0)
+
+  -- a line with no condition is fine
+  none-fine : (l : Line) (v : Verdict) → Meant l v → ((n : ℕ) → Condition card memory told (Read l) n → ⊥) → v ≡ Fine
+  none-fine l Fine h none-holds = refl
+  none-fine l (Form wrong) h none-holds = absurd h
+  none-fine l (Order field) h none-holds = absurd (none-holds 3 (order l refl h refl))
+  none-fine l (Twice field) h none-holds = absurd (none-holds 4 (twice l refl (h .1) refl))
+  none-fine l Wide h none-holds = absurd (none-holds 5 (wide l refl (h .2 .0) (h .2 .1) refl))
+  none-fine l Room h none-holds = absurd (none-holds 6 (room l refl (h .3) refl))
+
+  fine-none : (l : Line) → Meant l Fine → (n : ℕ) → Condition card memory told (Read l) n → ⊥
+  fine-none l h n = by-condition ⊥ l n (λ q. h .0) (λ q. h .1) (λ q. h .2) (λ q. h .3)
+
+faultless : (card : Card) (memory : List ℕ) (told : List Line) → Good card (usable memory) told → Faultless card memory told
+faultless card memory [] g = tt
+faultless card memory (l ∷ told) g =
+    (fine-none card memory told l (subst (Meant card memory told l) (g .0) (judged card memory told (g .1) l)), faultless card memory told (g .1))
+
+good : (card : Card) (memory : List ℕ) (told : List Line) → Faultless card memory told → Good card (usable memory) told
+good card memory [] f = tt
+good card memory (l ∷ told) f =
+    let g = good card memory told (f .1) in
+    (none-fine card memory told l (judge card (usable memory) told l) (judged card memory told g l) (f .0), g)
+
+pub good-iff : GoodIff
+good-iff card memory told = (faultless card memory told, good card memory told)
+
+pub fault-iff : FaultIff
+fault-iff card memory told (Read l) n f least =
+    let h = judged card memory told (good card memory told f) l in
+    (number-first card memory told l n (judge card (usable memory) told l) h least, first-number card memory told l n (judge card (usable memory) told l) h)
+fault-iff card memory told (Bad wrong) n f least = (
+  λ e. (form wrong refl (sym e), λ m k c. let q = only-form card memory told wrong m c in omega arith),
+  λ h. sym (only-form card memory told wrong n (h .0)),
+)
