@@ -38,11 +38,11 @@ use Rattle.told.proofs.Shelved.{shelved}
 use Rattle.table.specs.declared.Outcome.the-variants.{Refused}
 use Rattle.table.specs.Load.{load, loaded}
 use Rattle.promise.specs.Served.{lookedUp, lookupAt, saidBy}
-use Rattle.promise.specs.Refusals.{linesOf, readThen, AllGood, FirstFault, Accepts, Refuses}
+use Rattle.promise.specs.Refusals.{linesOf, readThen, AllGood, Accepts, Refuses}
 use Rattle.promise.specs.Narrow.{tooWide, NoneWide, FirstWide}
-use Rattle.promise.proofs.Runs.{good-ranged}
+use Rattle.promise.proofs.Runs.{FirstFault, good-ranged}
 use Rattle.promise.proofs.ByLines.{lookup-lines}
-use Rattle.promise.proofs.Refusals.{refused, accepted, refused-line, loaded-refused}
+use Rattle.promise.proofs.Refusals.{at-line, refused, accepted, refused-line, loaded-refused}
 
 -- A. one line: what is fine on the wide card is Wide on the narrow one, or fine there too
 abbrev judged : Bool → Verdict
@@ -161,9 +161,7 @@ first-wide-faults room lines told line g w =
 module _ (text memory : List ℕ) (store rows : ℕ) (told : List Line) (a : Accepts W text memory store rows told) where
   narrow-refuses : (line : ℕ) → FirstWide told line → Refuses Narrow text memory store rows 5 line
   narrow-refuses line w =
-      inr
-      (inl
-      (record { short = a .short; verdict = Wide; fault = first-wide-faults (usable memory) (linesOf text) told line (a .fine) w; number-is = refl }))
+      inr (inl (at-line Narrow text memory line (a .short) Wide (first-wide-faults (usable memory) (linesOf text) told line (a .fine) w)))
 
   pub narrow-accepts : NoneWide told → Accepts Narrow text memory store rows told
   narrow-accepts n =

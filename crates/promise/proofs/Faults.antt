@@ -340,6 +340,13 @@ module _ (card : Card) (memory : List ℕ) (told : List Line) (good : Good card 
       (λ y. (ok, anew l (λ n t z. absurd z) (λ n w z. absurd z) (λ n w c z. absurd z) (λ n s z. unheard u session y n s z), λ w. absurd (w .1), still l refl)))
 
 -- D. the numbers
+pub condition-number : (card : Card) (memory : List ℕ) (told : List Line) (r : Reading) (n : ℕ) → Condition card memory told r n → n ≡ 0 → ⊥
+condition-number card memory told r n (form wrong e k) z = omega arith
+condition-number card memory told r n (order l e h k) z = omega arith
+condition-number card memory told r n (twice l e h k) z = omega arith
+condition-number card memory told r n (wide l e c h k) z = omega arith
+condition-number card memory told r n (room l e h k) z = omega arith
+
 read-bad : {l : Line} {wrong : Wrong} → Read l ≡ Bad wrong → ⊥
 read-bad e = let z : _≡_ {A = ℕ} 0 1 = cc in omega arith
 
