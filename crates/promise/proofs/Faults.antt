@@ -39,7 +39,7 @@ use Rattle.told.proofs.Tabulate.{some-inj, none-some}
 use Rattle.told.proofs.Regions.{start}
 use Rattle.told.proofs.Grown.{Grown, decide, grown}
 use Rattle.told.proofs.Memory.{fits-room}
-use Rattle.told.proofs.Members.{heard-in, in-heard, bus-in, in-bus, below-bus}
+use Rattle.told.proofs.Members.{heard-in, in-heard, first-is, bus-in, in-bus, below-bus}
 use Rattle.promise.specs.Says.{Declares, Uses, HasUnit, IsUnit, HasTarget, HasVpi, Gives, IsVc, TooWide}
 use Rattle.promise.specs.Faults.{Before, OutOfOrder, first-not-bus, bus-again, unit-off, target-off, not-declared, vpi-above, no-page, vci-above, Again, unit-again, vpi-again, vc-again, mc-again, Exceeds, Condition, form, order, twice, wide, room, Faultless, FaultIff, GoodIff}
 use Rattle.promise.proofs.Said.{declared, page-in, given-before, before-given, vc-before, before-vc, top-is, top-of-page, page-stands}
@@ -134,10 +134,6 @@ over memory n h = decide (ltb (length memory) n) (λ t. inl (ltb-true (length me
 not-over : (memory : List ℕ) (n : ℕ) → n ≤ usable memory → (length memory < n) ⊎ (262144 < n) → ⊥
 not-over memory n h (inl k) = omega arith
 not-over memory n h (inr k) = omega arith
-
-first-is : (told : List Line) → isFirst told ≡ true → told ≡ []
-first-is [] e = refl
-first-is (l ∷ told) e = absurd (false≢true (e))
 
 -- C. a line after good lines
 module _ (card : Card) (memory : List ℕ) (told : List Line) (good : Good card (usable memory) told) where

@@ -73,14 +73,14 @@ abbrev pub Faultless : Card → List ℕ → List Line → Type 0
 Faultless card memory [] = Unit {0}
 Faultless card memory (l ∷ told) = ((number : ℕ) → Condition card memory told (Read l) number → ⊥) × Faultless card memory told
 
--- "with 2 to 6 tried in that order on it": after faultless lines, a line gets a number exactly when that number's condition holds and none before it
--- does, and none exactly when none holds
+-- "Given exactly when", "with 2 to 6 tried in that order on it": after faultless lines, a line gets a number exactly when that number's condition holds
+-- and none before it does
 abbrev pub FaultIff : Type 0
 FaultIff =
     (card : Card) (memory : List ℕ) (told : List Line) (r : Reading) (number : ℕ) → Faultless card memory told → (number ≡ 0 → ⊥) →
     (numberOf (verdictOn card (usable memory) told r) ≡ number)
     ↔ (Condition card memory told r number × ((m : ℕ) → m < number → Condition card memory told r m → ⊥))
 
--- the lines that loading calls good are the faultless ones
+-- and the lines that loading finds good are the faultless ones
 abbrev pub GoodIff : Type 0
 GoodIff = (card : Card) (memory : List ℕ) (told : List Line) → Good card (usable memory) told ↔ Faultless card memory told

@@ -18,6 +18,12 @@ Declares u top (Page a b topvci) = ⊥
 Declares u top (Vc a b c target class outvpi outvci) = ⊥
 Declares u top (Mc a session) = ⊥
 
+-- "Target is `u` and a unit, `m` and a session 0 to 255, or `b`": it is this unit
+abbrev pub IsUnit : ℕ → Target → Type 0
+IsUnit u (T·Unit unit) = unit ≡ u
+IsUnit u (Session session) = ⊥
+IsUnit u All = ⊥
+
 -- the lines that use a unit: `vp`, `drop`, `page`, `vc` and `mc` begin with it
 abbrev pub Uses : ℕ → Line → Type 0
 Uses u (Bus bus) = ⊥
@@ -28,12 +34,7 @@ Uses u (Page a b topvci) = a ≡ u
 Uses u (Vc a b c target class outvpi outvci) = a ≡ u
 Uses u (Mc a session) = a ≡ u
 
--- "Target is `u` and a unit, `m` and a session 0 to 255, or `b`": it is this unit
-abbrev pub IsUnit : ℕ → Target → Type 0
-IsUnit u (T·Unit unit) = unit ≡ u
-IsUnit u (Session session) = ⊥
-IsUnit u All = ⊥
-
+-- the target of a `vp` or `vc` line is this unit
 abbrev pub HasTarget : ℕ → Line → Type 0
 HasTarget u (Bus bus) = ⊥
 HasTarget u (L·Unit settings limits) = ⊥

@@ -138,7 +138,7 @@ unfolding joinAt
 joined-bus shelf (At i) session = refl
 joined-bus shelf Nothing session = refl
 
-first-is : (told : List Line) → isFirst told ≡ true → told ≡ []
+pub first-is : (told : List Line) → isFirst told ≡ true → told ≡ []
 first-is [] e = refl
 first-is (l ∷ told) e = absurd (false≢true e)
 
