@@ -38,11 +38,11 @@ use Rattle.told.proofs.Shelved.{shelved}
 use Rattle.table.specs.declared.Outcome.the-variants.{Refused}
 use Rattle.table.specs.Load.{load, loaded}
 use Rattle.promise.specs.Served.{lookedUp, lookupAt, saidBy}
-use Rattle.promise.specs.Refusals.{linesOf, readThen, AllGood, FirstFault, Accepts, Refuses}
+use Rattle.promise.specs.Refusals.{linesOf, readThen, AllGood, Accepts, Refuses}
 use Rattle.promise.specs.Narrow.{tooWide, NoneWide, FirstWide}
-use Rattle.promise.proofs.Runs.{good-ranged}
+use Rattle.promise.proofs.Runs.{FirstFault, good-ranged}
 use Rattle.promise.proofs.ByLines.{lookup-lines}
-use Rattle.promise.proofs.Refusals.{refused, accepted, refused-line, loaded-refused}
+use Rattle.promise.proofs.Refusals.{at-line, refused, accepted, refused-line, loaded-refused}
 
 -- A. one line: what is fine on the wide card is Wide on the narrow one, or fine there too
 abbrev judged : Bool → Verdict
@@ -161,9 +161,7 @@ first-wide-faults room lines told line g w =
 module _ (text memory : List ℕ) (store rows : ℕ) (told : List Line) (a : Accepts W text memory store rows told) where
   narrow-refuses : (line : ℕ) → FirstWide told line → Refuses Narrow text memory store rows 5 line
   narrow-refuses line w =
-      inr
-      (inl
-      (record { short = a .short; verdict = Wide; fault = first-wide-faults (usable memory) (linesOf text) told line (a .fine) w; number-is = refl }))
+      inr (inl (at-line Narrow text memory line (a .short) Wide (first-wide-faults (usable memory) (linesOf text) told line (a .fine) w)))
 
   pub narrow-accepts : NoneWide told → Accepts Narrow text memory store rows told
   narrow-accepts n =
@@ -174,7 +172,7 @@ module _ (text memory : List ℕ) (store rows : ℕ) (told : List Line) (a : Acc
         rows-enough = a .rows-enough;
       }
 
-  -- "either refused by the narrow card as too wide, at the right line"
+  -- "The eight-bit card refuses it as too wide, naming the first line .. exactly when there is such a line."
   pub narrow-refuses-iff : (line : ℕ) → (FirstWide told line → load Narrow text memory store rows .outcome ≡ Refused 5 line) × (load Narrow text memory store rows .outcome ≡ Refused 5 line → FirstWide told line)
   narrow-refuses-iff line = (back line, forth)
     where
@@ -186,7 +184,7 @@ module _ (text memory : List ℕ) (store rows : ℕ) (told : List Line) (a : Acc
           ⊎-elim (λ n. absurd (loaded-refused (sym (ap (λ x. x .outcome) (accepted Narrow text memory store rows told (narrow-accepts n) .0)) ∙ e)))
           (λ w. subst (FirstWide told) (refused-line (sym (back (w .0) (w .1)) ∙ e)) (w .1)) (wide-or-not told)
 
-  -- "or behaves identically on both": the same answer and shelf
+  -- "Otherwise .. it gives the same answers": that of loading, with the same shelf
   pub same-loading : NoneWide told → load Narrow text memory store rows ≡ load W text memory store rows
   same-loading n = accepted Narrow text memory store rows told (narrow-accepts n) .0 ∙ sym (accepted W text memory store rows told a .0)
 
@@ -228,7 +226,7 @@ module _ (card : Card) (text memory : List ℕ) (store rows : ℕ) (told : List 
       ∙ unit-by-lines u i (sym (ap (λ x. findIn (declared (x .shelf)) u) (k .0)) ∙ f) header
       ∙ ap (λ x. saidBy told u (getD (x .shelf .units) i blank) header) (sym (k .0))
 
--- "and every lookup agrees for every unit and header"
+-- and every lookup agrees, for every declared unit and every header
 pub same-lookups : (text memory : List ℕ) (store rows : ℕ) (told : List Line) → Accepts W text memory store rows told → NoneWide told → (u i : ℕ) → findIn (declared (load W text memory store rows .shelf)) u ≡ At i → (header : ℕ) → lookupAt Narrow (loaded Narrow text memory store rows) (getD (load W text memory store rows .shelf .units) i blank) header ≡ lookupAt W (loaded W text memory store rows) (getD (load W text memory store rows .shelf .units) i blank) header
 same-lookups text memory store rows told a n u i f header =
     let s = same-loading text memory store rows told a n in

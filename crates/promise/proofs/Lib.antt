@@ -2,6 +2,8 @@ pub mod Values
 pub mod Sheets
 pub mod ByLines
 pub mod Runs
+pub mod Said
+pub mod Faults
 pub mod Refusals
 pub mod Cards
 pub mod Loads

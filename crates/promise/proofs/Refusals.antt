@@ -13,16 +13,18 @@ use Rattle.record.specs.Record.{size, usable, cleared}
 use Rattle.line.specs.declared.Line.{Line}
 use Rattle.shelf.specs.declared.Shelf.{Shelf}
 use Rattle.verdict.specs.declared.Verdict.{Verdict}
+use Rattle.verdict.specs.declared.Verdict.the-variants.{Fine, Form, Order, Twice, Wide, Room}
 use Rattle.verdict.specs.Verdicts.{numberOf}
 use Rattle.told.specs.Told.{total, shelfOf, memoryOf}
-use Rattle.told.specs.Lines.{Ran, done, stopped}
+use Rattle.told.specs.Lines.{Ran, done, stopped, verdictOn}
 use Rattle.told.proofs.Grown.{decide}
 use Rattle.table.specs.declared.Outcome.the-variants.{Loaded, Refused}
 use Rattle.table.specs.declared.Loading.{Loading}
 use Rattle.table.specs.Load.{ranOf, refusal, tooLittle, loadingOf, memoryRan, load, loaded}
 use Rattle.table.proofs.Cleared.{load-long, load-short}
 use Rattle.promise.specs.Refusals.{linesOf, Long, AtLine, Store, Accepts, Refuses}
-use Rattle.promise.proofs.Runs.{done-iff-good, fault-first, first-stops, ran-lines}
+use Rattle.promise.proofs.Runs.{FirstFault, done-iff-good, fault-first, first-stops, ran-lines}
+use Rattle.promise.proofs.Faults.{condition-number, fault-iff, good-iff}
 
 pub loaded-refused : {used number line : ℕ} → Loaded used ≡ Refused number line → ⊥
 loaded-refused e = let z : _≡_ {A = ℕ} 0 1 = cc in omega arith
@@ -64,6 +66,53 @@ module _ (shelf : Shelf) (store rows : ℕ) where
       true-false : true ≡ false → ⊥
       true-false x = false≢true (sym x)
 
+-- the line at which reading stops
+number-some : (v : Verdict) → (v ≡ Fine → ⊥) → numberOf v ≡ 0 → ⊥
+number-some Fine h e = h refl
+number-some (Form wrong) h e = omega arith
+number-some (Order field) h e = omega arith
+number-some (Twice field) h e = omega arith
+number-some Wide h e = omega arith
+number-some Room h e = omega arith
+
+module _ (card : Card) (text memory : List ℕ) (line : ℕ) where
+  pub at-line : length text ≤ 65536 → (v : Verdict) → FirstFault card (usable memory) (linesOf text) line v → AtLine card text memory (numberOf v) line
+  at-line h v f =
+      let fine = good-iff card memory (f .before) .0 (f .good) in
+      let k = fault-iff card memory (f .before) (f .it) (numberOf v) fine (number-some v (f .faulty)) .0 (ap numberOf (f .judged)) in
+      record {
+        short = h;
+        before = f .before;
+        it = f .it;
+        after = f .after;
+        all = f .all;
+        faultless = fine;
+        counted = f .counted;
+        fault = k .0;
+        first = k .1;
+      }
+
+  verdict-at : (number : ℕ) → AtLine card text memory number line → Verdict
+  verdict-at number a = verdictOn card (usable memory) (a .before) (a .it)
+
+  number-at : (number : ℕ) (a : AtLine card text memory number line) → numberOf (verdict-at number a) ≡ number
+  unfolding verdict-at
+  number-at number a = fault-iff card memory (a .before) (a .it) number (a .faultless) (condition-number card memory (a .before) (a .it) number (a .fault)) .1 (a .fault, a .first)
+
+  line-at : (number : ℕ) (a : AtLine card text memory number line) → FirstFault card (usable memory) (linesOf text) line (verdict-at number a)
+  unfolding verdict-at
+  line-at number a =
+      record {
+        before = a .before;
+        it = a .it;
+        after = a .after;
+        all = a .all;
+        good = good-iff card memory (a .before) .1 (a .faultless);
+        counted = a .counted;
+        judged = refl;
+        faulty = λ e. condition-number card memory (a .before) (a .it) number (a .fault) (sym (number-at number a) ∙ ap numberOf e);
+      }
+
 module _ (card : Card) (text memory : List ℕ) (store rows : ℕ) where
   abbrev answer : Loading
   answer = load card text memory store rows
@@ -94,8 +143,9 @@ module _ (card : Card) (text memory : List ℕ) (store rows : ℕ) where
   refused-at : (number line : ℕ) → AtLine card text memory number line → (answer ≡ refusal (Refused number line)) × (loaded card text memory store rows ≡ cleared memory)
   unfolding loadingOf memoryRan
   refused-at number line r =
-      let s = by-ran (r .short) (stopped (r .fault .before) line (r .verdict)) (ran-lines card room text ∙ first-stops card room (linesOf text) line (r .verdict) (r .fault)) in
-      (s .0 ∙ ap (λ k. refusal (Refused k line)) (sym (r .number-is)), s .1)
+      let f = line-at card text memory line number r in
+      let s = by-ran (r .short) (stopped (f .before) line (verdict-at card text memory line number r)) (ran-lines card room text ∙ first-stops card room (linesOf text) line (verdict-at card text memory line number r) f) in
+      (s .0 ∙ ap (λ k. refusal (Refused k line)) (number-at card text memory line number r), s .1)
 
   refused-store : (number line : ℕ) → Store card text memory store rows number line → (answer ≡ refusal (Refused number line)) × (loaded card text memory store rows ≡ cleared memory)
   unfolding loadingOf memoryRan
@@ -116,8 +166,7 @@ module _ (card : Card) (text memory : List ℕ) (store rows : ℕ) where
       (λ t. let n = enough-is (shelfOf told) store rows t in inl (record { short = h; fine = g; store-enough = n .0; rows-enough = n .1 }))
 
   stopped-at : length text ≤ 65536 → (told : List Line) (line : ℕ) (v : Verdict) → ranOf card room text ≡ stopped told line v → AtLine card text memory (numberOf v) line
-  stopped-at h told line v e =
-      record { short = h; verdict = v; fault = fault-first card room (linesOf text) told line v (sym (ran-lines card room text) ∙ e); number-is = refl }
+  stopped-at h told line v e = at-line card text memory line h v (fault-first card room (linesOf text) told line v (sym (ran-lines card room text) ∙ e))
 
   pub either-way : ((told : List Line) × Accepts card text memory store rows told) ⊎ ((number : ℕ) × (line : ℕ) × Refuses card text memory store rows number line)
   either-way =

@@ -25,7 +25,18 @@ use Rattle.told.proofs.Memory.{AllRanged}
 use Rattle.table.specs.Load.{readingsOf, ranOf}
 use Rattle.table.proofs.Leaves.{fine-is}
 use Rattle.table.proofs.Turns.{ranged}
-use Rattle.promise.specs.Refusals.{linesOf, readThen, AllGood, FirstFault}
+use Rattle.promise.specs.Refusals.{linesOf, readThen, AllGood}
+
+-- the first faulty line, counted from 1: those before it are good, and it is not
+pub record FirstFault (card : Card) (room : ℕ) (lines : List Reading) (line : ℕ) (verdict : Verdict) : Type 0 where
+  pub before : List Line
+  pub it : Reading
+  pub after : List Reading
+  pub all : lines ≡ readThen before (it ∷ after)
+  pub good : Good card room before
+  pub counted : line ≡ length before + 1
+  pub judged : verdictOn card room before it ≡ verdict
+  pub faulty : verdict ≡ Fine → ⊥
 
 -- what reading comes to is told apart
 done-stopped : {told told′ : List Line} {n : ℕ} {v : Verdict} → done told ≡ stopped told′ n v → ⊥

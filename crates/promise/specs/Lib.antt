@@ -1,6 +1,8 @@
 pub mod Starred
 pub mod Sheet
 pub mod Served
+pub mod Says
+pub mod Faults
 pub mod Refusals
 pub mod Narrow
 pub mod Loads

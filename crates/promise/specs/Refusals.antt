@@ -13,12 +13,10 @@ use Rattle.line.specs.declared.Line.{Line}
 use Rattle.ranged.specs.declared.Wrong.the-variants.{Newline}
 use Rattle.line.specs.declared.Reading.{Reading}
 use Rattle.line.specs.declared.Reading.the-variants.{Good as Read, Bad}
-use Rattle.verdict.specs.declared.Verdict.{Verdict}
-use Rattle.verdict.specs.declared.Verdict.the-variants.{Fine}
-use Rattle.verdict.specs.Verdicts.{numberOf}
 use Rattle.told.specs.Told.{shelfOf}
-use Rattle.told.specs.Lines.{verdictOn, Good}
+use Rattle.told.specs.Lines.{Good}
 use Rattle.table.specs.Load.{readingsOf}
+use Rattle.promise.specs.Faults.{Condition, Faultless}
 
 -- the lines of a text; "empty text (line 1)" is a line that no newline ended
 unfoldable pub linesOf : List ℕ → List Reading
@@ -34,29 +32,24 @@ pub record AllGood (card : Card) (room : ℕ) (lines : List Reading) (told : Lis
   pub all : lines ≡ readThen told []
   pub good : Good card room told
 
--- the first faulty line, counted from 1: those before it are good, and it is not
-pub record FirstFault (card : Card) (room : ℕ) (lines : List Reading) (line : ℕ) (verdict : Verdict) : Type 0 where
-  pub before : List Line
-  pub it : Reading
-  pub after : List Reading
-  pub all : lines ≡ readThen before (it ∷ after)
-  pub good : Good card room before
-  pub counted : line ≡ length before + 1
-  pub judged : verdictOn card room before it ≡ verdict
-  pub faulty : verdict ≡ Fine → ⊥
-
 -- "1 Long: text above 65,536 bytes; line 0"
 pub record Long (text : List ℕ) (number line : ℕ) : Type 0 where
   pub long : 65536 < length text
   pub number-is : number ≡ 1
   pub line-is : line ≡ 0
 
--- "then the first faulty line, and on it 2 to 6 tried in that order": 2 Form, 3 Order, 4 Twice, 5 Wide, 6 Room
+-- "then the first faulty line, counted from 1, with 2 to 6 tried in that order on it": on no line before it does a condition hold, on it that of this
+-- number, and none of a number before
 pub record AtLine (card : Card) (text memory : List ℕ) (number line : ℕ) : Type 0 where
   pub short : length text ≤ 65536
-  pub verdict : Verdict
-  pub fault : FirstFault card (usable memory) (linesOf text) line verdict
-  pub number-is : number ≡ numberOf verdict
+  pub before : List Line
+  pub it : Reading
+  pub after : List Reading
+  pub all : linesOf text ≡ readThen before (it ∷ after)
+  pub faultless : Faultless card memory before
+  pub counted : line ≡ length before + 1
+  pub fault : Condition card memory before it number
+  pub first : (m : ℕ) → m < number → Condition card memory before it m → ⊥
 
 -- "7 Store: cell store below 8,192 bytes a declared unit, or fewer counter rows than units; line 0"
 pub record Store (card : Card) (text memory : List ℕ) (store rows number line : ℕ) : Type 0 where

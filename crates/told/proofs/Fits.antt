@@ -48,7 +48,7 @@ kept : (b : Bool) (x y : Verdict) → (y ≡ Fine → ⊥) → cond b x y ≡ Fi
 kept true x y bad e = (refl, e)
 kept false x y bad e = absurd (bad e)
 
-begun : (told : List Line) (x : Verdict) → started told x ≡ Fine → (isFirst told ≡ false) × (x ≡ Fine)
+pub begun : (told : List Line) (x : Verdict) → started told x ≡ Fine → (isFirst told ≡ false) × (x ≡ Fine)
 begun [] x e = absurd (order-fine e)
 begun (l ∷ told) x e = (refl, e)
 
@@ -56,7 +56,7 @@ owner : (o : Option ℕ) (k : ℕ → Verdict) → owned o k ≡ Fine → (top :
 owner none k e = absurd (order-fine e)
 owner (some top) k e = (top, refl, e)
 
-free : (r : R.Record) → taken (Is r) ≡ false → r ≡ Empty
+pub free : (r : R.Record) → taken (Is r) ≡ false → r ≡ Empty
 free Empty e = refl
 free R·Drop e = absurd (false≢true (sym e))
 free (Route h v w) e = absurd (false≢true (sym e))

@@ -5,3 +5,4 @@ pub mod Grown
 pub mod Memory
 pub mod Shelved
 pub mod Agree
+pub mod Members
