@@ -3,8 +3,14 @@ use mathlib.Core.Path.{_≡_, refl, sym, _∙_}
 use mathlib.Core.List.{[]}
 use Rattle.card.specs.declared.Card.{Card}
 use Rattle.document.specs.Events.{answers}
+use Rattle.entry.proofs.arrive.Met as code-arrive
+use Rattle.entry.proofs.frame.Met as code-frame
+use Rattle.entry.proofs.hear.Met as code-hear
+use Rattle.entry.proofs.take.Met as code-take
+use Rattle.entry.proofs.count.Met as code-count
+use Rattle.entry.proofs.load.Met as code-load
 use Rattle.running.specs.Events.{countSaid, happens}
-use Rattle.running.specs.Contracts.{EntrySays, Steps, Only, Determined}
+use Rattle.running.specs.Contracts.{EntrySays, EntryAsksNothing, EntryMeets, Steps, Only, Determined}
 
 -- by computing, each entry point's `ensures` is what `running: Contracts` writes out
 pub entry-says : EntrySays
@@ -17,6 +23,20 @@ entry-says M 𝓤 H A mem run =
       counts = λ m κs a r e. refl;
       loads = λ κs a r e. refl;
     }
+
+pub entry-asks-nothing : EntryAsksNothing
+entry-asks-nothing M 𝓤 H A mem run =
+    record {
+      arrives = λ κs a. refl;
+      frames = λ κs a. refl;
+      hears = λ κs a. refl;
+      takes = λ κs a. refl;
+      counts = λ κs a. refl;
+      loads = λ κs a. refl;
+    }
+
+pub entry-meets : (M : Type 1) → EntryMeets M
+entry-meets M = record { arrives = code-arrive.met; frames = code-frame.met; hears = code-hear.met; takes = code-take.met; counts = code-count.met; loads = code-load.met }
 
 -- whatever meets it is the step
 pub steps : (card : Card) → Steps card
