@@ -1,12 +1,15 @@
 -- The three demands are met. Assumes nothing.
 use Rattle.soundness.proofs.Facts.{sound-iff}
-use Rattle.promise.proofs.Refusals as tables
+use Rattle.promise.proofs.Refusals.{either-way}
+use Rattle.promise.proofs.Cards.{wide-or-not}
 use Rattle.promise.proofs.Values.{starred-hold}
 use Rattle.promise.proofs.Sheets.{check-sheet}
 use Rattle.running.proofs.Refused.{refused-iff, refusal-changes-nothing}
-use Rattle.running.proofs.Kept.{soundness-kept, refused-table-zeroes, never-state}
-use Rattle.running.proofs.Contracts.{steps, determined}
+use Rattle.running.proofs.Kept.{soundness-kept, never-state}
+use Rattle.running.proofs.Tables.{table-refused-iff, table-loaded-iff, refused-table-zeroes, good-load}
+use Rattle.running.proofs.Contracts.{entry-meets, entry-asks-nothing, entry-says, steps, determined}
 use Rattle.refining.proofs.Refined.{refines, counters-are-history, too-wide, same-card}
+use Rattle.refining.proofs.Bare.{refines-refused}
 use Rattle.flow.proofs.Kept.{nothing-lost, in-order, counters-true}
 use Rattle.flow.proofs.Once.{numbers-once}
 use Rattle.flow.proofs.Bytes.{taken-handed, sent-framed, lowest-first}
@@ -20,23 +23,27 @@ use Rattle.fates.proofs.Holding.{held-means-held}
 use Rattle.fates.proofs.Going.{frames-go-on}
 use Rattle.fates.proofs.Cleaned.{clean-table-clean-bus}
 use Rattle.fates.proofs.Isolated.{isolation}
-use Rattle.witness.proofs.Witnessed.{all-run, refusals, spoiled-state, beyond-loaded}
+use Rattle.witness.proofs.Witnessed.{listing-prints, all-run, refusals, spoiled-state, beyond-loaded}
 use Rattle.demands.specs.Demands.{Demand1, Demand2, Demand3, Witnessed}
 
 pub demand-1 : Demand1
 demand-1 =
     record {
-      table-refused-iff = tables.refused-iff;
-      either-way = tables.either-way;
-      table-loaded-iff = tables.loaded-iff;
+      entry-meets = entry-meets;
+      entry-asks-nothing = entry-asks-nothing;
+      entry-says = entry-says;
+      steps = steps;
+      determined = determined;
+      table-refused-iff = table-refused-iff;
+      table-loaded-iff = table-loaded-iff;
+      either-way = either-way;
       refused-table-zeroes = refused-table-zeroes;
+      good-load = good-load;
       refused-iff = refused-iff;
       sound-iff = sound-iff;
       refusal-changes-nothing = refusal-changes-nothing;
       soundness-kept = soundness-kept;
       never-state = never-state;
-      steps = steps;
-      determined = determined;
     }
 
 pub demand-2 : Demand2
@@ -45,6 +52,7 @@ demand-2 =
       starred-hold = starred-hold;
       check-sheet = check-sheet;
       refines = refines;
+      refines-refused = refines-refused;
       fate-iff = fate-iff;
       damaged-iff = damaged-iff;
       held-means-held = held-means-held;
@@ -67,7 +75,7 @@ demand-2 =
     }
 
 pub demand-3 : Demand3
-demand-3 = record { too-wide = too-wide; same-card = same-card }
+demand-3 = record { too-wide = too-wide; wide-or-not = wide-or-not; same-card = same-card }
 
 pub witnessed : Witnessed
-witnessed = record { all-run = all-run; refusals = refusals; spoiled = spoiled-state; beyond-loaded = beyond-loaded }
+witnessed = record { listing-prints = listing-prints; all-run = all-run; refusals = refusals; spoiled = spoiled-state; beyond-loaded = beyond-loaded }

@@ -1,5 +1,5 @@
 -- The three demands: each sentence, and the statement that carries it. Assumes nothing.
-use Prim.Native.Nat.{ℕ, _*_, _<_}
+use Prim.Native.Nat.{ℕ, _<_}
 use mathlib.Core.Path.{_≡_}
 use mathlib.Core.Logic.{_⊎_, _↔_}
 use mathlib.Core.Bool.{true}
@@ -7,20 +7,18 @@ use mathlib.Core.List.{List}
 use lib.Dec.{T}
 use Rattle.routing.specs.Routing.{check}
 use Rattle.card.specs.declared.Card.{Card}
-use Rattle.record.specs.Record.{size}
 use Rattle.shelf.specs.declared.Shelf.{Shelf}
 use Rattle.soundness.specs.State.{soundOf, Sound}
 use Rattle.line.specs.declared.Line.{Line}
-use Rattle.told.specs.Told.{total}
-use Rattle.table.specs.declared.Outcome.the-variants.{Loaded, Refused}
-use Rattle.table.specs.Load.{load}
 use Rattle.promise.specs.Refusals.{Accepts, Refuses}
+use Rattle.promise.specs.Narrow.{NoneWide, FirstWide}
 use Rattle.promise.specs.Sheet.{sheet}
 use Rattle.promise.specs.Starred.{starred, all-hold}
 use Rattle.running.specs.Refusing.{RefusedIff, RefusalChangesNothing}
-use Rattle.running.specs.Keeping.{SoundnessKept, RefusedTableZeroes, NeverState}
-use Rattle.running.specs.Contracts.{Steps, Determined}
-use Rattle.refining.specs.Refines.{Refines, CountersAreHistory}
+use Rattle.running.specs.Keeping.{SoundnessKept, NeverState}
+use Rattle.running.specs.Tables.{TableRefusedIff, TableLoadedIff, RefusedTableZeroes, GoodLoad}
+use Rattle.running.specs.Contracts.{EntryMeets, EntryAsksNothing, EntrySays, Steps, Determined}
+use Rattle.refining.specs.Refines.{Refines, RefinesRefused, CountersAreHistory}
 use Rattle.refining.specs.Cards.{TooWide, SameCard}
 use Rattle.flow.specs.Lost.{NothingLost, NumbersOnce}
 use Rattle.flow.specs.Order.{InOrder, TakenHanded, SentFramed, LowestFirst}
@@ -34,72 +32,113 @@ use Rattle.fates.specs.Held.{HeldMeansHeld}
 use Rattle.fates.specs.Frames.{FramesGoOn}
 use Rattle.fates.specs.Clean.{CleanTableCleanBus}
 use Rattle.fates.specs.Isolation.{Isolation}
-use Rattle.witness.specs.Witness.{AllRun, Refusals, Spoiled, BeyondLoaded}
+use Rattle.witness.specs.Witness.{ListingPrints, AllRun, Refusals, Spoiled, BeyondLoaded}
 
--- 1. "Every entry point takes every input, finishes, and does nothing undefined": that is Rattle's own theorem of each function, and the six of `entry` have no `requires`
-pub record Demand1 : Type 0 where
-  -- "A bad table .. is refused with a fixed number": each of 1 to 7, with its line, exactly when 01 says so; and there is no third answer
-  pub table-refused-iff : (card : Card) (text memory : List ℕ) (store rows number line : ℕ) →
-      (load card text memory store rows .outcome ≡ Refused number line) ↔ Refuses card text memory store rows number line
+-- 1. "Every entry point takes every input, finishes, and does nothing undefined. A bad table, frame, cell, buffer or shelf state is refused with a fixed number. A refused table leaves
+-- the translation memory zeroed, its first 262,144 bytes where it is longer; every other refusal changes nothing."
+pub record Demand1 : Type 2 where
+  -- "finishes, and does nothing undefined": Rattle's own theorem of the code of each of the six
+  pub entry-meets : (M : Type 1) → EntryMeets M
+  -- "takes every input": none of the six has a `requires`
+  pub entry-asks-nothing : EntryAsksNothing
+  -- what Rattle has as the `ensures` of each of the six is the contract that the next two speak of
+  pub entry-says : EntrySays
+  -- whatever meets such a contract is the step that every promise below speaks of
+  pub steps : (card : Card) → Steps card
+  -- "any two results that satisfy it are shown equal"
+  pub determined : (card : Card) → Determined card
+  -- "A bad table .. is refused with a fixed number": each of 1 to 7, with its line, exactly when 01 says so
+  pub table-refused-iff : TableRefusedIff
+  -- a table that is good has none of these faults; "`table` gives `ok` and bytes used"
+  pub table-loaded-iff : TableLoadedIff
+  -- and there is no third way
   pub either-way : (card : Card) (text memory : List ℕ) (store rows : ℕ) →
       ((told : List Line) × Accepts card text memory store rows told) ⊎ ((number : ℕ) × (line : ℕ) × Refuses card text memory store rows number line)
-  pub table-loaded-iff : (card : Card) (text memory : List ℕ) (store rows used : ℕ) →
-      (load card text memory store rows .outcome ≡ Loaded used) ↔ ((told : List Line) × Accepts card text memory store rows told × (used ≡ size * total told))
-  -- "A refused table leaves the translation memory zeroed", gives back a fresh 16 bus, touches neither store nor rows
+  -- "A refused table leaves the translation memory zeroed, its first 262,144 bytes where it is longer"
   pub refused-table-zeroes : RefusedTableZeroes
-  -- "a bad .. frame, cell, buffer or shelf state is refused with a fixed number": each of 8 to 10, over every event; State item by item
+  -- "each `unit` line takes (top VPI + 1) records and each `page` line (top VCI + 1) records, in line order, 8 bytes a record, from byte 0 without gaps": the memory byte by byte; "A good
+  -- load zeroes its rows and starts with all queues empty."
+  pub good-load : GoodLoad
+  -- "A bad .. frame, cell, buffer or shelf state is refused with a fixed number.": each of 8 to 10, over every event
   pub refused-iff : RefusedIff
+  -- a bad shelf state is one of those that 01 lists under State, and no other
   pub sound-iff : (card : Card) (shelf : Shelf) (store rows : ℕ) → (soundOf card shelf store rows ≡ true) ↔ Sound card shelf store rows
   -- "every other refusal changes nothing"
   pub refusal-changes-nothing : RefusalChangesNothing
-  -- no shelf of ours is ever refused as State
+  -- every event leaves a good shelf state good
   pub soundness-kept : SoundnessKept
+  -- so no shelf that was loaded is ever refused as State
   pub never-state : NeverState
-  -- each contract is the step that the promises speak of, and has one result
-  pub steps : (card : Card) → Steps card
-  pub determined : (card : Card) → Determined card
 
 -- 2. "The shelf does what the published cell header rules, the CUBIT-Pro data sheet and document 01 say, for frames written and frames heard. Each arriving cell meets exactly one
 -- fate, each copy on the bus meets exactly one fate at each unit it addresses, and the counters equal that history, modulo 4,294,967,296."
 pub record Demand2 : Type 0 where
-  -- the starred values, and data sheet 004's check of the routing header
+  -- "The starred cases form a single table, proved once as a whole"
   pub starred-hold : T (all-hold starred)
+  -- "the CUBIT-Pro data sheet": its equations for the check of the routing header are 01's remainder
   pub check-sheet : (word : ℕ) → word < 4096 → check word ≡ sheet word
-  -- "The shelf does what .. document 01 say[s]"
+  -- "The shelf does what .. document 01 say, for frames written and frames heard.": every answer and every lent byte, from a good load on
   pub refines : Refines
-  -- "exactly one fate"
+  -- and from a refused one on: "a fresh 16 bus with no units"
+  pub refines-refused : RefinesRefused
+  -- "Each arriving cell meets exactly one fate, each copy on the bus meets exactly one fate at each unit it addresses"
   pub fate-iff : FateIff
+  -- "Bad parity, bad check, kind 3, unicast above 31 or broadcast address not 0 is `damaged`."
   pub damaged-iff : DamagedIff
+  -- "one that says `queued` and holds nothing" is none of ours
   pub held-means-held : HeldMeansHeld
+  -- "Each arriving cell meets exactly one fate": after every sequence of events it was lost and counted so, was sent or waits, and each copy queued was taken or is there
   pub nothing-lost : NothingLost
-  -- "the counters equal that history"
+  -- "and the counters equal that history, modulo 4,294,967,296"
   pub counters-are-history : CountersAreHistory
+  -- "counters made up" are none of ours: the history is what came
   pub counters-true : CountersTrue
+  -- no number is declared twice, so that the history of a number is one unit's
   pub numbers-once : NumbersOnce
-  -- frames are sent, and sound
+  -- "a frame that sends once and then only numbers frames" is none of ours
   pub frames-go-on : FramesGoOn
+  -- no frame of ours is damaged; "A sent cell addressing no declared unit also counts `unheard` at its sender"
   pub clean-table-clean-bus : CleanTableCleanBus
-  -- cells leave in order, once, at the right street, and nobody else's
+  -- cells leave an inlet and a queue in the order in which they came
   pub in-order : InOrder
+  -- a take hands out the cell that it takes, or "`empty` with the buffer unchanged"
   pub taken-handed : TakenHanded
+  -- "Then the unit granted in the frame before sends its oldest cell.": the frame is that cell's
   pub sent-framed : SentFramed
+  -- "the oldest cell of the lowest class held (mode `four`)"
   pub lowest-first : LowestFirst
+  -- every cell held or taken was meant for that unit, and every cell that waits or is sent arrived there
   pub right-street : RightStreet
+  -- "route, VCI kept; page, the VCI's record"; "PT and CLP are kept.": target, class, outgoing VPI and VCI are those of a line of the table
   pub line-followed : LineFollowed
+  -- one event moves a cell once
   pub once-only : OnceOnly
+  -- so are the bytes that a take hands out a cell meant for that unit
   pub taken-right : TakenRight
+  -- and those of a frame a cell that arrived at its sender
   pub sent-right : SentRight
+  -- an event at a unit leaves every other unit, row and part of the store alone
   pub isolation : Isolation
 
 -- 3. "Take a route table that the twelve-bit card accepts, and lend both cards equal room. The eight-bit card refuses it as too wide .. Otherwise .. it gives the same answers, cells and
 -- counters as the twelve-bit card, and both are those of demand 2."
 pub record Demand3 : Type 0 where
+  -- "The eight-bit card refuses it as too wide, naming the first line that asks for an NNI link, an outgoing path above 255 or the 32-unit bus, exactly when there is such a line."
   pub too-wide : TooWide
+  -- there is a first such line, or none: one of the two always speaks
+  pub wide-or-not : (told : List Line) → NoneWide told ⊎ ((line : ℕ) × FirstWide told line)
+  -- "Otherwise, over every sequence of events after loading .. it gives the same answers, cells and counters as the twelve-bit card, and both are those of demand 2."
   pub same-card : SameCard
 
 -- none of it is empty
 pub record Witnessed : Type 0 where
+  -- "This table and these events": on both cards, with the bytes of the cell taken
+  pub listing-prints : ListingPrints
+  -- every fate of an arrival and of a copy, Unit and Length
   pub all-run : AllRun
+  -- each refusal of a table
   pub refusals : Refusals
+  -- State
   pub spoiled : Spoiled
+  -- a sound shelf that no load gives back
   pub beyond-loaded : BeyondLoaded

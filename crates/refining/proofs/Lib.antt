@@ -9,3 +9,4 @@ pub mod Takes
 pub mod Opens
 pub mod Steps
 pub mod Refined
+pub mod Bare

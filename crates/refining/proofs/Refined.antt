@@ -2,6 +2,7 @@
 use Prim.Native.Nat.{ℕ, _*_, _<_, _≤_, min}
 use native.Mathlib.Omega.{arith}
 use mathlib.Core.Path.{_≡_, refl, sym, ap, subst, _∙_}
+use mathlib.Core.Logic.{⊎-elim}
 use mathlib.Core.List.{List, [], _∷_}
 use lib.ListN.{length, getD, List·getD-map}
 use Rattle.card.specs.declared.Card.{Card}
@@ -12,14 +13,12 @@ use Rattle.counters.specs.Counting.{zero}
 use Rattle.counters.specs.declared.Counters as C
 use Rattle.told.specs.Told.{shelfOf}
 use Rattle.told.specs.Lines.{Good}
-use Rattle.table.specs.declared.Outcome as O
-use Rattle.table.specs.declared.Outcome.the-variants as outcome
-use Rattle.table.specs.Load.{load}
-use Rattle.answer.specs.declared.Answer.the-variants.{Unloaded}
+use Rattle.answer.specs.declared.Answer.the-variants.{Loaded, Unloaded}
 use Rattle.loading.specs.Loads.{answerOf}
 use Rattle.promise.specs.Refusals.{Accepts}
 use Rattle.promise.proofs.Refusals.{accepted}
-use Rattle.promise.proofs.Cards.{narrow-accepts, narrow-refuses-iff}
+use Rattle.promise.specs.Narrow.{FirstWide}
+use Rattle.promise.proofs.Cards.{wide-or-not, narrow-accepts, narrow-refuses-iff}
 use Rattle.document.specs.Events.{Event, arrive, frame, hear, take, count}
 use Rattle.document.specs.Counters.{counterOf}
 use Rattle.document.specs.Shelf as D
@@ -27,6 +26,7 @@ use Rattle.document.specs.Steps as document
 use Rattle.document.proofs.Fixed.{givenOf, given-stays}
 use Rattle.running.specs.Events.{World, happens}
 use Rattle.running.specs.Keeping.{run, loaded}
+use Rattle.running.specs.Tables.{answerTo}
 use Rattle.running.proofs.Kept.{soundness-kept}
 use Rattle.refining.specs.Refines.{gives, Refines, CountersAreHistory}
 use Rattle.refining.specs.Cards.{Equal, TooWide, SameCard}
@@ -52,7 +52,7 @@ then-alike card w d a e =
     }
 
 -- so they are over every sequence of events
-gives-alike : (card : Card) (w : World) (d : D.Shelf) → WorldAlike card w d → (es : List Event) → gives card w es ≡ document.gives d es
+pub gives-alike : (card : Card) (w : World) (d : D.Shelf) → WorldAlike card w d → (es : List Event) → gives card w es ≡ document.gives d es
 unfolding gives document.gives
 gives-alike card w d a [] = refl
 gives-alike card w d a (e ∷ es) =
@@ -110,18 +110,26 @@ module _ (text memory memory′ store store′ : List ℕ) (rows rows′ : List 
         rows-enough = subst (λ n. shelfOf told .count ≤ n) (equal .records) (a .rows-enough);
       }
 
-answer-refused : (o : O.Outcome) (line : ℕ) → answerOf o ≡ Unloaded 5 line → o ≡ outcome.Refused 5 line
-unfolding answerOf
-answer-refused (outcome.Loaded used) line e = let z : _≡_ {A = ℕ} 0 1 = cc in absurd (omega arith)
-answer-refused (outcome.Refused number n) line e = cc
+-- answers are told apart
+loaded-unloaded : {used number line : ℕ} → Loaded used ≡ Unloaded number line → ⊥
+loaded-unloaded e = let z : _≡_ {A = ℕ} 0 1 = cc in omega arith
+
+unloaded-number : {k n k′ n′ : ℕ} → Unloaded k n ≡ Unloaded k′ n′ → k ≡ k′
+unloaded-number e = cc
+
+unloaded-line : {k n k′ n′ : ℕ} → Unloaded k n ≡ Unloaded k′ n′ → n ≡ n′
+unloaded-line e = cc
 
 pub too-wide : TooWide
 unfolding answerOf
-too-wide text memory memory′ store store′ rows rows′ equal told a line =
+too-wide text memory memory′ store store′ rows rows′ equal told a number line =
     let b = moved text memory memory′ store store′ rows rows′ equal told Wide a in
-    let iff = narrow-refuses-iff text memory′ (length store′) (length rows′) told b line in (
-      λ e. iff .1 (answer-refused (load Narrow text memory′ (length store′) (length rows′) .outcome) line e),
-      λ w. ap answerOf (iff .0 w),
+    let wide : (n : ℕ) → FirstWide told n → answerTo Narrow text memory′ (length store′) (length rows′) ≡ Unloaded 5 n
+        = λ n w. ap answerOf (narrow-refuses-iff text memory′ (length store′) (length rows′) told b n .0 w) in (
+      λ e.
+      ⊎-elim (λ n. absurd (loaded-unloaded (sym (ap (λ x. answerOf (x .outcome)) (accepted Narrow text memory′ (length store′) (length rows′) told (narrow-accepts text memory′ (length store′) (length rows′) told b n) .0)) ∙ e)))
+      (λ w. let z = sym (wide (w .0) (w .1)) ∙ e in (sym (unloaded-number z), subst (FirstWide told) (unloaded-line z) (w .1))) (wide-or-not told),
+      λ w. wide line (w .1) ∙ ap (λ n. Unloaded n line) (sym (w .0)),
     )
 
 pub same-card : SameCard

@@ -1,13 +1,14 @@
--- The shelf does what the document's shelf does, over every sequence of events after a good load. Assumes nothing.
+-- The shelf does what the document's shelf does, over every sequence of events after a load, good or refused. Assumes nothing.
 use Prim.Native.Nat.{ℕ, _<_, _≤_}
 use mathlib.Core.Path.{_≡_}
 use mathlib.Core.List.{List, [], _∷_}
 use lib.ListN.{length, getD}
 use Rattle.card.specs.declared.Card.{Card}
+use Rattle.record.specs.Record.{cleared}
 use Rattle.line.specs.declared.Line.{Line}
 use Rattle.counters.specs.Counting.{value, zero}
 use Rattle.counters.specs.declared.Counters as C
-use Rattle.promise.specs.Refusals.{Accepts}
+use Rattle.promise.specs.Refusals.{Accepts, Refuses}
 use Rattle.document.specs.Events.{Event, Back}
 use Rattle.document.specs.Counters.{Counter, placeOf, counterOf}
 use Rattle.document.specs.Shelf.{opened, unitsOf, numberOf, blank}
@@ -28,6 +29,19 @@ Refines =
     (card : Card) (text memory store : List ℕ) (rows : List C.Counters) (told : List Line) →
     Accepts card text memory (length store) (length rows) told → (es : List Event) →
     gives card (loaded card text memory store rows) es ≡ document.gives (opened told) es
+
+-- and after a refused one, of the shelf without a line: "a fresh 16 bus with no units", on which frames are numbered and every unit is undeclared. Memory, store and rows stay as the
+-- refusal left them
+pub record Refused (card : Card) (text memory store : List ℕ) (rows : List C.Counters) (es : List Event) : Type 0 where
+  pub events : gives card (loaded card text memory store rows) es ≡ document.gives (opened []) es
+  pub zeroed : run card (loaded card text memory store rows) es .memory ≡ cleared memory
+  pub store-kept : run card (loaded card text memory store rows) es .store ≡ store
+  pub rows-kept : run card (loaded card text memory store rows) es .rows ≡ rows
+
+abbrev pub RefinesRefused : Type 0
+RefinesRefused =
+    (card : Card) (text memory store : List ℕ) (rows : List C.Counters) (number line : ℕ) →
+    Refuses card text memory (length store) (length rows) number line → (es : List Event) → Refused card text memory store rows es
 
 -- "the counters equal that history, modulo 4,294,967,296": each counter of each declared unit, and "rows beyond the declared units are untouched"
 pub record Counted (card : Card) (text memory store : List ℕ) (rows : List C.Counters) (told : List Line) (es : List Event) : Type 0 where

@@ -44,12 +44,11 @@ use Rattle.arriving.proofs.Leaves.{inlet-inside}
 use Rattle.hearing.specs.Hearings as hearing
 use Rattle.taking.specs.Takes as taking
 use Rattle.framing.specs.Frames as framing
-use Rattle.loading.specs.Loads.{answerOf, doneOf, loadDone}
-use Rattle.promise.proofs.Refusals.{refused as table-refused}
+use Rattle.loading.specs.Loads.{loadDone}
 use Rattle.promise.proofs.Loads.{load-sound}
 use Rattle.document.specs.Events.{Event, arrive, frame, hear, take as takes, count, numberSaid}
 use Rattle.running.specs.Events.{World, happens}
-use Rattle.running.specs.Keeping.{soundIn, SoundnessKept, run, loaded, RefusedTableZeroes, NeverState}
+use Rattle.running.specs.Keeping.{soundIn, SoundnessKept, run, loaded, NeverState}
 use Rattle.running.specs.Refusing.{known, fits}
 use Rattle.running.proofs.Refused.{refused-iff}
 use Rattle.running.proofs.Framed.{frame-shelf, frame-store}
@@ -202,10 +201,3 @@ never-state card text memory store rows es e =
     not-state card (run card (loaded card text memory store rows) es) e
     (runs-kept card (loaded card text memory store rows) es
     (ap (soundOf card (done .reply .shelf) (length store)) (length-settled rows (done .rises) (done .rises .to)) ∙ load-sound card text memory (length store) (length rows)))
-
--- a refused table: the load is `refusal`, whose shelf has no units, so that no row is settled
-pub refused-table-zeroes : RefusedTableZeroes
-unfolding answerOf settledTo
-refused-table-zeroes card text memory store rows number line r =
-    let k = table-refused card text memory (length store) (length rows) number line r in
-    (ap (λ x. answerOf (x .outcome)) (k .0), λ t. record { shelf = k .0 t .shelf; memory = k .1 t; store = store; rows = settled rows (doneOf (k .0 t) .rises) })

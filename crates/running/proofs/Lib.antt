@@ -6,3 +6,4 @@ pub mod Sent
 pub mod Framed
 pub mod Kept
 pub mod Contracts
+pub mod Tables

@@ -8,15 +8,11 @@ use Rattle.card.specs.declared.Card.{Card}
 use Rattle.soundness.specs.State.{soundOf}
 use Rattle.counters.specs.Counting.{settled}
 use Rattle.counters.specs.declared.Counters as C
-use Rattle.answer.specs.declared.Answer.the-variants.{Unloaded}
 use Rattle.loading.specs.Loads.{loadDone, loadMemory}
-use Rattle.promise.specs.Refusals.{Refuses}
-use Rattle.record.specs.Record.{cleared}
-use Rattle.shelf.specs.Shelves.{fresh}
 use Rattle.document.specs.Events.{Event, numberSaid}
 use Rattle.running.specs.Events.{World, happens}
 
--- no event on this world is refused as State
+-- whether no event on this world is refused as State
 abbrev pub soundIn : Card → World → Bool
 soundIn card w = soundOf card (w .shelf) (length (w .store)) (length (w .rows))
 
@@ -38,13 +34,6 @@ loaded card text memory store rows =
       store = store;
       rows = settled rows (loadDone card text memory (length store) (length rows) .rises);
     }
-
--- "Refusals 1 to 7 zero the memory up to 262,144 bytes, touch neither store nor counter rows and give back a fresh 16 bus with no units"
-abbrev pub RefusedTableZeroes : Type 0
-RefusedTableZeroes =
-    (card : Card) (text memory store : List ℕ) (rows : List C.Counters) (number line : ℕ) → Refuses card text memory (length store) (length rows) number line →
-    (loadDone card text memory (length store) (length rows) .reply .answer ≡ Unloaded number line)
-    × (loaded card text memory store rows ≡ record { shelf = fresh 16; memory = cleared memory; store = store; rows = rows })
 
 -- from any load on, over every sequence of events, none is refused as State
 abbrev pub NeverState : Type 0

@@ -1,4 +1,5 @@
 pub mod Events
 pub mod Refusing
 pub mod Keeping
+pub mod Tables
 pub mod Contracts

@@ -1,16 +1,17 @@
 -- The witness, computed. Assumes nothing.
-use Prim.Native.Nat.{ℕ, _*_, min}
+use Prim.Native.Nat.{ℕ, _*_, _≤_, min}
 use native.Mathlib.Omega.{arith}
 use mathlib.Core.Path.{_≡_, refl, sym, ap, subst, _∙_}
 use mathlib.Core.Logic.{⊎-elim}
 use mathlib.Core.Bool.{true, false, cond}
 use mathlib.Core.List.{List, [], _∷_, map}
 use lib.Dec.{ltb}
+use borrow.Author.Tests.{le-leb}
 use lib.ListN.{length, getD, take, drop, replicate, length-replicate}
 use Rattle.card.specs.Cards.{holds as card-holds, narrowHolds}
 use Rattle.card.specs.declared.Card.{Card}
 use Rattle.card.specs.declared.Card.the-variants.{Narrow, Wide}
-use Rattle.record.specs.Record.{most}
+use Rattle.record.specs.Record.{most, usable}
 use Rattle.text.specs.Text.{split, same as same-word}
 use Rattle.text.specs.Digits.{digit, digits, plain, decimalOf, value}
 use Rattle.ranged.specs.Ranged.{ranged, aimOf}
@@ -43,11 +44,50 @@ use Rattle.promise.specs.Starred.{path}
 use Rattle.promise.proofs.Refusals.{accepted, refused, either-way}
 use Rattle.document.specs.Events.{Event, Said, answers}
 use Rattle.document.specs.Shelf.{opened}
+use Rattle.document.specs.Examples as X
 use Rattle.document.specs.Cases.{table}
+use Rattle.document.proofs.Examples.{listing as document-listing}
 use Rattle.document.proofs.Cases.{arrivals-hold, heard-holds, discards-hold, frames-hold, refusals-hold}
 use Rattle.refining.proofs.Refined.{refines}
-use Rattle.witness.specs.Witness.{text, answerTo, saidTo, Runs, AllRun, Refusals, Spoiled, spoiled, BeyondLoaded}
+use Rattle.running.specs.Tables.{answerTo}
+use Rattle.witness.specs.Witness.{listing, ListingPrints, text, saidTo, Runs, AllRun, Refusals, Spoiled, spoiled, BeyondLoaded}
 
+-- A. 01's listing
+-- its text is read as its lines
+listing-read : linesOf listing ≡ readThen X.table []
+unfolding linesOf readThen listing X.table split same-word digit digits plain decimalOf value ranged aimOf busLine settingsOn settingsOf limitsIn limitsOf unitLine keyOf wayOf vpLine dropLine pageLine vcOn vcLine mcLine lineOf wordOf spoken readingOf readingsOf
+listing-read = refl
+
+-- each is good after those before it, on either card, in any room for 328 bytes
+listing-good : (card : Card) (room : ℕ) → 328 ≤ room → Good card room X.table
+unfolding X.table judge judgeBus judgeUnit judgeVp judgeDrop judgePage judgeVc judgeMc card-holds narrowHolds same-whose opens gives-record hearsBy topOf total recordOf hearsIn declare joinAt shelfBy shelfOf
+listing-good Narrow room h = (refl, (rw (le-leb 328 room h), (rw (le-leb 56 room (omega arith)), (rw (le-leb 48 room (omega arith)), (refl, tt)))))
+listing-good Wide room h = (refl, (rw (le-leb 328 room h), (rw (le-leb 56 room (omega arith)), (rw (le-leb 48 room (omega arith)), (refl, tt)))))
+
+listing-units : shelfOf X.table .count ≡ 2
+unfolding X.table opens total declare joinAt shelfBy shelfOf findIn placeFrom
+listing-units = refl
+
+listing-total : total X.table ≡ 41
+unfolding X.table opens total
+listing-total = refl
+
+pub listing-prints : ListingPrints
+unfolding answerOf listing
+listing-prints card memory store rows m s r =
+    let a : Accepts card listing memory (length store) (length rows) X.table =
+        record {
+          short = (let l : length listing ≡ 99 = refl in omega arith);
+          fine = record { all = listing-read; good = listing-good card (usable memory) (omega arith) };
+          store-enough = omega (arith, listing-units);
+          rows-enough = omega (arith, listing-units);
+        } in
+    record {
+      load = ap (λ x. answerOf (x .outcome)) (accepted card listing memory (length store) (length rows) X.table a .0) ∙ ap (λ n. Loaded (8 * n)) listing-total;
+      print = refines card listing memory store rows X.table a X.events ∙ document-listing;
+    }
+
+-- B. a table for every fate
 -- the text is read as the table's lines
 read : linesOf text ≡ readThen table []
 unfolding linesOf readThen text table split same-word digit digits plain decimalOf value ranged aimOf busLine settingsOn settingsOf limitsIn limitsOf unitLine keyOf wayOf vpLine dropLine pageLine vcOn vcLine mcLine lineOf wordOf spoken readingOf readingsOf

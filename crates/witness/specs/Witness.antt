@@ -1,5 +1,5 @@
--- That the promises are not empty: a table, and runs in which every fate and every refusal occurs. Assumes nothing.
-use Prim.Native.Nat.{ℕ}
+-- That the promises are not empty: 01's own table and events; a table, and runs in which every fate occurs; every refusal; sound shelves beyond the loaded ones. Assumes nothing.
+use Prim.Native.Nat.{ℕ, _≤_}
 use mathlib.Core.Path.{_≡_}
 use mathlib.Core.Bool.{true, false}
 use mathlib.Core.List.{List, [], _∷_, _++_, map}
@@ -15,14 +15,34 @@ use Rattle.soundness.specs.State.{soundOf}
 use Rattle.table.specs.Load.{load}
 use Rattle.counters.specs.declared.Counters as C
 use Rattle.answer.specs.declared.Answer.the-variants.{Loaded, Unloaded, Refused}
-use Rattle.answer.specs.declared.Answer as A
-use Rattle.loading.specs.Loads.{loadDone}
 use Rattle.promise.specs.Starred.{path}
 use Rattle.document.specs.Events.{Event, Said, answers}
+use Rattle.document.specs.Examples.{events, printed}
 use Rattle.document.specs.Cases.{arrivals, arrivals-say, refusals, refusals-say, frames, frames-say, heard, heard-say, discards, discards-say}
 use Rattle.running.specs.Events.{World, happens}
 use Rattle.running.specs.Keeping.{loaded}
+use Rattle.running.specs.Tables.{answerTo}
 use Rattle.refining.specs.Refines.{gives}
+
+-- 01's table as text, its tabs and newlines too
+unfoldable pub listing : List ℕ
+listing =
+    98 ∷ 117 ∷ 115 ∷ 9 ∷ 49 ∷ 54 ∷ 10 ∷
+    117 ∷ 110 ∷ 105 ∷ 116 ∷ 9 ∷ 48 ∷ 9 ∷ 117 ∷ 110 ∷ 105 ∷ 9 ∷ 53 ∷ 9 ∷ 50 ∷ 9 ∷ 111 ∷ 110 ∷ 101 ∷ 9 ∷ 48 ∷ 9 ∷ 48 ∷ 9 ∷ 49 ∷ 48 ∷ 48 ∷ 9 ∷ 48 ∷ 10 ∷
+    117 ∷ 110 ∷ 105 ∷ 116 ∷ 9 ∷ 51 ∷ 9 ∷ 117 ∷ 110 ∷ 105 ∷ 9 ∷ 48 ∷ 9 ∷ 49 ∷ 9 ∷ 102 ∷ 111 ∷ 117 ∷ 114 ∷ 9 ∷ 52 ∷ 48 ∷ 9 ∷ 51 ∷ 48 ∷ 9 ∷ 50 ∷ 48 ∷ 9 ∷ 49 ∷ 10 ∷
+    112 ∷ 97 ∷ 103 ∷ 101 ∷ 9 ∷ 48 ∷ 9 ∷ 53 ∷ 9 ∷ 51 ∷ 51 ∷ 10 ∷
+    118 ∷ 99 ∷ 9 ∷ 48 ∷ 9 ∷ 53 ∷ 9 ∷ 51 ∷ 51 ∷ 9 ∷ 117 ∷ 51 ∷ 9 ∷ 50 ∷ 9 ∷ 57 ∷ 9 ∷ 52 ∷ 48 ∷ 10 ∷
+    []
+
+-- "This table and these events .. print": on both cards, which have no line that is too wide here, and whatever a memory for its 41 records, a store for its two units and two rows, or more
+-- of each, held before. So a cell is routed, sent, heard and taken, with its bytes; then the queue is empty, and both are counted
+pub record Listing (card : Card) (memory store : List ℕ) (rows : List C.Counters) : Type 0 where
+  pub load : answerTo card listing memory (length store) (length rows) ≡ Loaded 328
+  pub print : gives card (loaded card listing memory store rows) events ≡ printed
+
+abbrev pub ListingPrints : Type 0
+ListingPrints =
+    (card : Card) (memory store : List ℕ) (rows : List C.Counters) → 328 ≤ length memory → 16384 ≤ length store → 2 ≤ length rows → Listing card memory store rows
 
 -- the table of `document: Cases` as text
 unfoldable pub text : List ℕ
@@ -49,7 +69,7 @@ saidTo memory store rows es = map (λ b. b .said) (gives Wide (loaded Wide text 
 -- every fate of an arrival (`arrivals`), every fate of a copy (`heard`, `discards`), Unit and Length (`refusals`), sent, heard and unheard cells (`frames`): whatever a
 -- memory for its 342 records, a store for its three units and three rows held before
 pub record Runs (memory store : List ℕ) (rows : List C.Counters) : Type 0 where
-  pub load : loadDone Wide text memory (length store) (length rows) .reply .answer ≡ Loaded 2736
+  pub load : answerTo Wide text memory (length store) (length rows) ≡ Loaded 2736
   pub arrive : saidTo memory store rows arrivals ≡ arrivals-say
   pub hear : saidTo memory store rows heard ≡ heard-say
   pub discard : saidTo memory store rows discards ≡ discards-say
@@ -59,11 +79,8 @@ pub record Runs (memory store : List ℕ) (rows : List C.Counters) : Type 0 wher
 abbrev pub AllRun : Type 0
 AllRun = (memory store : List ℕ) (rows : List C.Counters) → length memory ≡ 2736 → length store ≡ 24576 → length rows ≡ 3 → Runs memory store rows
 
--- each refusal of a table: Long; Form of the empty text; Order of a table that begins with its unit; Twice; Wide on the narrow card, at the fourth line of the table above; Room;
+-- each refusal of a table: Long; Form of the empty text; Order of a table that begins with an `mc` line; Twice; Wide on the narrow card, at the fourth line of the table above; Room;
 -- Store. `path` is bus 16 / unit 0 .. / vp 0 0 b 0 with these digits
-abbrev pub answerTo : Card → List ℕ → List ℕ → ℕ → ℕ → A.Answer
-answerTo card table memory store rows = loadDone card table memory store rows .reply .answer
-
 abbrev pub five : List ℕ
 five = path (53 ∷ [])
 

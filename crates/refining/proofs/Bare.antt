@@ -1,0 +1,121 @@
+-- After a refused load: a bus without units, which is the document's without a line. Assumes nothing.
+use Prim.Native.Nat.{ℕ, _<_}
+use native.Mathlib.Omega.{arith}
+use mathlib.Core.Path.{_≡_, refl, sym, ap, subst, _∙_}
+use mathlib.Core.Bool.{Bool, true, false, cond, false≢true}
+use mathlib.Core.List.{List, [], _∷_}
+use lib.Dec.{eqb}
+use lib.ListN.{length, take}
+use Rattle.card.specs.declared.Card.{Card}
+use Rattle.record.specs.Record.{cleared}
+use Rattle.shelf.specs.Shelves.{declared, findIn, placeFrom, fresh}
+use Rattle.shelf.specs.declared.Found.{Found}
+use Rattle.shelf.specs.declared.Found.the-variants.{At, Nothing}
+use Rattle.shelf.specs.declared.Shelf.{Shelf}
+use Rattle.soundness.specs.State.{soundOf}
+use Rattle.counters.specs.Counting.{settled, settledTo}
+use Rattle.counters.specs.declared.Counters as C
+use Rattle.answer.specs.Answers.{refused}
+use Rattle.answer.specs.declared.Done.{Done}
+use Rattle.framing.specs.Frames as framing
+use Rattle.promise.specs.Refusals.{Refuses}
+use Rattle.promise.proofs.Loads.{load-sound}
+use Rattle.document.specs.Events.{Event, arrive, frame, hear, take as takes, count}
+use Rattle.document.specs.Shelf as D
+use Rattle.running.specs.Events.{World, happens}
+use Rattle.running.specs.Keeping.{soundIn, run, loaded}
+use Rattle.running.specs.Refusing.{there, known, fits, refusal}
+use Rattle.running.proofs.Refused.{refusal-changes-nothing}
+use Rattle.running.proofs.Tables.{refused-table-zeroes}
+use Rattle.refining.specs.Refines.{gives, RefinesRefused}
+use Rattle.refining.proofs.Alike.{WorldAlike}
+use Rattle.refining.proofs.Refined.{gives-alike}
+
+-- nobody is found
+not-there : (shelf : Shelf) → shelf .count ≡ 0 → (unit : ℕ) → findIn (declared shelf) unit ≡ Nothing
+unfolding findIn placeFrom
+not-there shelf none unit = ap (λ n. findIn (take n (shelf .units)) unit) none
+
+-- what an event leaves: no unit still, and all the rest as it was
+record Same (w v : World) : Type 0 where
+  none : v .shelf .count ≡ 0
+  memory : v .memory ≡ w .memory
+  store : v .store ≡ w .store
+  rows : v .rows ≡ w .rows
+
+unknown : (s k f : Bool) → k ≡ false → _≡_ {A = ℕ} (cond s (cond k (cond f 0 10) 9) 8) 0 → ⊥
+unknown true true f e z = false≢true (sym e)
+unknown true false f e z = omega arith
+unknown false k f e z = omega arith
+
+module _ (card : Card) (w : World) (none : w .shelf .count ≡ 0) where
+  -- an event at a unit is refused
+  at-nobody : (e : Event) (unit : ℕ) → known (w .shelf) e ≡ there (findIn (declared (w .shelf)) unit) → Same w (happens card w e .world)
+  unfolding there
+  at-nobody e unit k =
+      subst (Same w) (sym (ap (λ o. o .world) (refusal-changes-nothing card w e (unknown (soundIn card w) (known (w .shelf) e) (fits e) (k ∙ ap there (not-there (w .shelf) none unit))))))
+      (record { none = none; memory = refl; store = refl; rows = refl })
+
+  -- a frame is idle
+  framed : (s r : Bool) (sender : Found) → sender ≡ Nothing →
+      let done = cond s (cond r (framing.ended (w .shelf) (framing.granted (w .shelf)) (framing.listenedBy sender (w .shelf) (w .store))) (refused (w .shelf) 10)) (refused (w .shelf) 8) in
+      Same w (record { shelf = done .reply .shelf; memory = w .memory; store = cond s (cond r (framing.storeBy sender (w .shelf) (w .store)) (w .store)) (w .store); rows = settled (w .rows) (done .rises) })
+  unfolding framing.listenedBy framing.storeBy settledTo
+  framed true true Nothing e = record { none = none; memory = refl; store = refl; rows = ap (settledTo (w .rows) _) none }
+  framed true true (At place) e = let z : _≡_ {A = ℕ} 0 1 = cc in absurd (omega arith)
+  framed true false sender e = record { none = none; memory = refl; store = refl; rows = refl }
+  framed false r sender e = record { none = none; memory = refl; store = refl; rows = refl }
+
+  stays : (e : Event) → Same w (happens card w e .world)
+  unfolding happens known framing.checked
+  stays (arrive unit cell) = at-nobody (arrive unit cell) unit refl
+  stays (frame buffer) = framed (soundIn card w) (eqb (length buffer) 57) (framing.sender (w .shelf)) (not-there (w .shelf) none (w .shelf .granted))
+  stays (hear unit heard) = at-nobody (hear unit heard) unit refl
+  stays (takes unit buffer) = at-nobody (takes unit buffer) unit refl
+  stays (count unit) = at-nobody (count unit) unit refl
+
+-- so it is over every sequence of events
+stays-all : (card : Card) (w : World) → w .shelf .count ≡ 0 → (es : List Event) → Same w (run card w es)
+unfolding run
+stays-all card w none [] = record { none = none; memory = refl; store = refl; rows = refl }
+stays-all card w none (e ∷ es) =
+    let s = stays card w none e in
+    let r = stays-all card (happens card w e .world) (s .none) es in
+    record { none = r .none; memory = r .memory ∙ s .memory; store = r .store ∙ s .store; rows = r .rows ∙ s .rows }
+
+-- the bare bus is the document's shelf without a line
+bare : List ℕ → List ℕ → List C.Counters → World
+bare memory store rows = record { shelf = fresh 16; memory = cleared memory; store = store; rows = rows }
+
+bare-alike : (card : Card) (memory store : List ℕ) (rows : List C.Counters) → soundOf card (fresh 16) (length store) (length rows) ≡ true → WorldAlike card (bare memory store rows) (D.opened [])
+unfolding bare D.unitsOf D.busOf
+bare-alike card memory store rows sound =
+    record {
+      sound = sound;
+      shelf =
+          record {
+            many = refl;
+            counted = refl;
+            units = λ i h. absurd (omega arith);
+            known = λ i h. absurd (omega arith);
+            ranged = tt;
+            bus = refl;
+            arbiter = refl;
+            granted = refl;
+            frame = refl;
+          };
+      rows = λ i h. absurd (omega arith);
+    }
+
+pub refines-refused : RefinesRefused
+unfolding bare
+refines-refused card text memory store rows number line r es =
+    let k = refused-table-zeroes card text memory store rows number line r in
+    let sound = ap (λ w. soundOf card (w .shelf) (length store) (length rows)) (sym k) ∙ load-sound card text memory (length store) (length rows) in
+    let s = stays-all card (bare memory store rows) refl es in
+    record {
+      events = ap (λ w. gives card w es) k ∙ gives-alike card (bare memory store rows) (D.opened []) (bare-alike card memory store rows sound) es;
+      zeroed = ap (λ w. run card w es .memory) k ∙ s .memory;
+      store-kept = ap (λ w. run card w es .store) k ∙ s .store;
+      rows-kept = ap (λ w. run card w es .rows) k ∙ s .rows;
+    }
