@@ -1,6 +1,7 @@
 -- The events of document 01, and what one gives back. Assumes nothing.
 use Prim.Native.Nat.{ℕ}
 use mathlib.Core.List.{List, []}
+use mathlib.Core.Option.{Option, none, some}
 use Rattle.answer.specs.Answers.{numberOf}
 use Rattle.answer.specs.declared.Answer as A
 use Rattle.counters.specs.declared.Counters as C
@@ -20,6 +21,14 @@ bytesOf (frame buffer) = buffer
 bytesOf (hear unit heard) = heard
 bytesOf (take unit buffer) = buffer
 bytesOf (count unit) = []
+
+-- the unit that an event names; a frame is every unit's
+unfoldable pub named : Event → Option ℕ
+named (arrive unit c) = some unit
+named (frame buffer) = none
+named (hear unit f) = some unit
+named (take unit buffer) = some unit
+named (count unit) = some unit
 
 -- what an event says: an answer, or the counters of a unit
 pub data Said : Type 0 where
