@@ -2,13 +2,13 @@
 use Prim.Native.Nat.{ℕ, zero, suc, _+_, _-_, _%_, _^_, _<_, _≤_}
 use native.Mathlib.Omega.{arith}
 use mathlib.Core.Path.{_≡_, refl, sym, ap, subst, _∙_}
-use mathlib.Core.Logic.{⊎-elim}
+use mathlib.Core.Logic.{_⊎_, inl, inr, ⊎-elim}
 use mathlib.Core.Bool.{true, false, cond}
 use mathlib.Core.List.{List, [], _∷_, _++_}
-use lib.Dec.{eqb}
+use lib.Dec.{eqb, ltb}
 use lib.ListN.{length, length-set, getD, set, replicate, getD-replicate, List·getD-eq-default, List·getD-map}
 use lib.Seq.{getD-set-same, getD-set-other}
-use borrow.Author.Tests.{eq-eqb}
+use borrow.Author.Tests.{eqb-true, eq-eqb, ltb-true, ltb-false, lt-ltb, le-ltb}
 use Rattle.card.specs.declared.Card.{Card}
 use Rattle.arbiter.specs.Arbitration.{nobody, besides, due, lastAt, arbiterOf, Changed}
 use Rattle.arbiter.proofs.Requests.{renewed-at, asks-with, asks-without}
@@ -24,6 +24,7 @@ use Rattle.soundness.proofs.Facts.{sound-iff}
 use Rattle.admit.specs.Admission.{unitAt}
 use Rattle.answer.specs.declared.Answer.the-variants.{Framed}
 use Rattle.line.specs.declared.Line.{Line}
+use Rattle.told.proofs.Grown.{decide}
 use Rattle.document.specs.Events.{frame, answers}
 use Rattle.document.specs.Shelf as D
 use Rattle.document.specs.Frame.{requests, asksNow, askingOf, frameOf, sendsFrom, sends, sentIn, framed, framedAnswer}
@@ -35,8 +36,9 @@ use Rattle.refining.proofs.Rows.{Different}
 use Rattle.refining.proofs.Steps.{once}
 use Rattle.refining.proofs.Refined.{then-alike}
 use Rattle.refining.proofs.Finds.{length-map, find-alike, declared-is}
-use Rattle.fates.specs.Frames.{asksOf, grantedNow, afterFrame, leftBy, AsksRightly, Waits, GrantedInTurn, SendsOldest, Idle, Starts, GoesOn, FramesGoOn}
+use Rattle.fates.specs.Frames.{asksOf, grantedNow, afterFrame, Renewed, leftBy, AsksRightly, Waits, GrantedInTurn, SendsOldest, Idle, Starts, GoesOn, FramesGoOn}
 use Rattle.fates.proofs.Loads.{Full, renewed-many, from-load, found-at, four-queues}
+use Rattle.fates.proofs.Fated.{untrue}
 use Rattle.fates.proofs.Holding.{hears-all}
 
 -- a frame whose buffer has its length is not refused
@@ -63,6 +65,29 @@ module _ (g : ℕ) where
   asked-at now (u ∷ us) (suc i) h once low =
       asked-at (set now (D.numberOf u) (asksNow g u)) us i (omega arith) (λ j k l m. once (suc j) (suc k) (omega arith) (omega arith)) (omega (arith, low, length-set now (D.numberOf u) (asksNow g u)))
 
+-- when a request is renewed
+module _ (d : D.Shelf) (n : ℕ) where
+  is-due : Renewed d n → due (d .bus) (d .frame) n ≡ true
+  unfolding due
+  is-due r =
+      decide (eqb (d .bus) 32)
+      (λ t.
+      ⊎-elim (λ b. absurd (omega (arith, b, eqb-true (d .bus) 32 t)))
+      (⊎-elim (λ e. rw (t, lt-ltb n 16 (e .0), eq-eqb (d .frame % 2) 0 (e .1))) (λ o. rw (t, le-ltb n 16 (o .0), eq-eqb (d .frame % 2) 1 (o .1)))) r)
+      (λ t. rw t)
+
+  -- on a 32 bus only so
+  is-renewed : (d .bus ≡ 16) ⊎ (d .bus ≡ 32) → due (d .bus) (d .frame) n ≡ true → Renewed d n
+  unfolding due
+  is-renewed bus e =
+      ⊎-elim inl
+      (λ b.
+      let f = rw (eq-eqb (d .bus) 32 b) at e in
+      decide (ltb n 16)
+      (λ t. inr (inl (ltb-true n 16 t, eqb-true (d .frame % 2) 0 (rw t at f))))
+      (λ t. inr (inr (ltb-false n 16 t, eqb-true (d .frame % 2) 1 (rw t at f)))))
+      bus
+
 module _ (d : D.Shelf) where
   -- what all units ask now
   abbrev asksAll : List ℕ
@@ -75,7 +100,7 @@ module _ (d : D.Shelf) where
       renewed-at (d .bus) (d .frame) asksAll 0 (d .arbiter .asks) n h
       ∙ ap (λ k. cond (due (d .bus) (d .frame) k) (getD asksAll k 0) (getD (d .arbiter .asks) n 0)) (sym z)
 
-  -- a request that is not renewed stands
+  -- a request that is not due stands
   stands : (n : ℕ) → due (d .bus) (d .frame) n ≡ false → getD (asksOf d) n 0 ≡ getD (d .arbiter .asks) n 0
   stands n other =
       by-lt n (length (d .arbiter .asks))
@@ -227,9 +252,10 @@ module _ (card : Card) (w : World) (d : D.Shelf) (a : WorldAlike card w d) where
       ∙ asked-at (d .granted) (replicate 32 0) (d .units) i h (once card w d a) low
 
   -- so it asks at its priority exactly if it has a cell besides a granted one
-  asks-rightly : Full (d .arbiter) → (i : ℕ) → i < length (d .units) → due (d .bus) (d .frame) (D.numberOf (D.unitAt d i)) ≡ true → AsksRightly d (D.unitAt d i)
-  asks-rightly full i h turn =
+  asks-rightly : Full (d .arbiter) → (i : ℕ) → i < length (d .units) → Renewed d (D.numberOf (D.unitAt d i)) → AsksRightly d (D.unitAt d i)
+  asks-rightly full i h renewed =
       let u = D.unitAt d i in
+      let turn = is-due d (D.numberOf u) renewed in
       let mine = eqb (D.numberOf u) (d .granted) in
       let cells = besides (length (u .inlet)) mine in
       let with : 1 ≤ cells → getD (asksOf d) (D.numberOf u) 0 ≡ u .settings .priority =
@@ -244,6 +270,13 @@ module _ (card : Card) (w : World) (d : D.Shelf) (a : WorldAlike card w d) where
         exactly = (λ r. some (r .1), λ c. (below-32 i h, omega (arith, with c, s .least, p), omega (arith, with c, s .most, p)));
         at-own = λ r. with (some (r .1));
       }
+
+  -- the others stand
+  others-stand : (n : ℕ) → (Renewed d n → ⊥) → getD (asksOf d) n 0 ≡ getD (d .arbiter .asks) n 0
+  others-stand n not =
+      let same = a .shelf .bus in
+      let bus : (d .bus ≡ 16) ⊎ (d .bus ≡ 32) = ⊎-elim (λ b. inl (omega arith)) (λ b. inr (omega arith)) (facts .bus) in
+      stands d n (untrue (due (d .bus) (d .frame) n) (λ e. not (is-renewed d n bus e)))
 
 module _ (card : Card) (w : World) (d : D.Shelf) (a : WorldAlike card w d) where
   -- who is granted has a cell after the frame, and is declared in it
@@ -275,7 +308,7 @@ goes-on : (card : Card) (w : World) (d : D.Shelf) → WorldAlike card w d → Fu
 goes-on card w d a full =
     record {
       asks = asks-rightly card w d a full;
-      stand = stands d;
+      stand = others-stand card w d a;
       granted = grants-if-asked (d .arbiter .last) (asksOf d);
       in-turn = in-turn card w d a;
       three = full .lasts;

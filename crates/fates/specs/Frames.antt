@@ -1,12 +1,11 @@
 -- Frames go on: who asks is granted in its turn, who is granted sends. Assumes nothing.
 use Prim.Native.Nat.{ℕ, _+_, _%_, _^_, _<_, _≤_}
 use mathlib.Core.Path.{_≡_}
-use mathlib.Core.Logic.{_↔_}
-use mathlib.Core.Bool.{true, false}
+use mathlib.Core.Logic.{_↔_, _⊎_}
 use mathlib.Core.List.{List, _∷_}
 use lib.Dec.{eqb}
 use lib.ListN.{length, getD}
-use Rattle.arbiter.specs.Arbitration.{nobody, besides, due, cyclic, lastAt, Asks, FirstOf, Changed}
+use Rattle.arbiter.specs.Arbitration.{nobody, besides, cyclic, lastAt, Asks, FirstOf, Changed}
 use Rattle.arbiter.specs.declared.Grant.{Grant}
 use Rattle.shelf.specs.declared.Found.the-variants.{At}
 use Rattle.answer.specs.declared.Answer.the-variants.{Framed}
@@ -28,6 +27,10 @@ grantedNow d = granting d .unit
 -- the shelf after a frame
 abbrev pub afterFrame : Shelf → List ℕ → Shelf
 afterFrame d buffer = happensTo d (frame buffer) .shelf
+
+-- "On a 16 bus each unit's request is renewed every frame; on a 32 bus units 0 to 15 are renewed in even frames and 16 to 31 in odd ones"
+abbrev pub Renewed : Shelf → ℕ → Type 0
+Renewed d n = (d .bus ≡ 16) ⊎ ((n < 16) × (d .frame % 2 ≡ 0)) ⊎ ((16 ≤ n) × (d .frame % 2 ≡ 1))
 
 -- what a frame leaves of its grant: the last units granted, and the requests
 abbrev pub leftBy : Shelf → List ℕ → Grant
@@ -81,10 +84,9 @@ pub record Starts (d : Shelf) : Type 0 where
   pub asks : (n : ℕ) → getD (d .arbiter .asks) n 0 ≡ 0
 
 pub record GoesOn (d : Shelf) : Type 0 where
-  -- a unit's request is renewed in this frame
-  pub asks : (i : ℕ) → i < length (d .units) → due (d .bus) (d .frame) (numberOf (unitAt d i)) ≡ true → AsksRightly d (unitAt d i)
-  -- "and the others stand"
-  pub stand : (n : ℕ) → due (d .bus) (d .frame) n ≡ false → getD (asksOf d) n 0 ≡ getD (d .arbiter .asks) n 0
+  -- a unit whose request is renewed asks rightly, "and the others stand"
+  pub asks : (i : ℕ) → i < length (d .units) → Renewed d (numberOf (unitAt d i)) → AsksRightly d (unitAt d i)
+  pub stand : (n : ℕ) → (Renewed d n → ⊥) → getD (asksOf d) n 0 ≡ getD (d .arbiter .asks) n 0
   -- one is granted exactly if one asks, and in its turn
   pub granted : (grantedNow d ≡ nobody → ⊥) ↔ ((n : ℕ) × Asks (asksOf d) n)
   pub in-turn : (grantedNow d ≡ nobody → ⊥) → GrantedInTurn d
