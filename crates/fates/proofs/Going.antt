@@ -10,7 +10,7 @@ use lib.ListN.{length, length-set, getD, set, replicate, getD-replicate, List·g
 use lib.Seq.{getD-set-same, getD-set-other}
 use borrow.Author.Tests.{eqb-true, eq-eqb, ltb-true, ltb-false, lt-ltb, le-ltb}
 use Rattle.card.specs.declared.Card.{Card}
-use Rattle.arbiter.specs.Arbitration.{nobody, besides, due, lastAt, arbiterOf, Changed}
+use Rattle.arbiter.specs.Arbitration.{nobody, fresh, besides, due, arbiterOf, Asks, Changed}
 use Rattle.arbiter.proofs.Requests.{renewed-at, asks-with, asks-without}
 use Rattle.arbiter.proofs.Grants.{not-granted, grants-if-asked, granted-highest, granted-first, granted-changes}
 use Rattle.store.proofs.Slots.{by-lt}
@@ -21,10 +21,10 @@ use Rattle.shelf.specs.declared.Found.the-variants as found
 use Rattle.shelf.proofs.Finding.{find-nothing}
 use Rattle.soundness.specs.State.{Sound}
 use Rattle.soundness.proofs.Facts.{sound-iff}
-use Rattle.admit.specs.Admission.{unitAt}
-use Rattle.answer.specs.declared.Answer.the-variants.{Framed}
 use Rattle.line.specs.declared.Line.{Line}
 use Rattle.told.proofs.Grown.{decide}
+use Rattle.admit.specs.Admission.{unitAt}
+use Rattle.answer.specs.declared.Answer.the-variants.{Framed}
 use Rattle.document.specs.Events.{frame, answers}
 use Rattle.document.specs.Shelf as D
 use Rattle.document.specs.Frame.{requests, asksNow, askingOf, frameOf, sendsFrom, sends, sentIn, framed, framedAnswer}
@@ -65,6 +65,10 @@ module _ (g : ℕ) where
   asked-at now (u ∷ us) (suc i) h once low =
       asked-at (set now (D.numberOf u) (asksNow g u)) us i (omega arith) (λ j k l m. once (suc j) (suc k) (omega arith) (omega arith)) (omega (arith, low, length-set now (D.numberOf u) (asksNow g u)))
 
+-- before any request
+no-requests : (n : ℕ) → getD (fresh .asks) n 0 ≡ 0
+no-requests n = by-lt n 32 (getD-replicate 32 n 0 0) (λ h. List·getD-eq-default (fresh .asks) 0 {n = n} h)
+
 -- when a request is renewed
 module _ (d : D.Shelf) (n : ℕ) where
   is-due : Renewed d n → due (d .bus) (d .frame) n ≡ true
@@ -100,14 +104,15 @@ module _ (d : D.Shelf) where
       renewed-at (d .bus) (d .frame) asksAll 0 (d .arbiter .asks) n h
       ∙ ap (λ k. cond (due (d .bus) (d .frame) k) (getD asksAll k 0) (getD (d .arbiter .asks) n 0)) (sym z)
 
+  beyond : (n : ℕ) → length (d .arbiter .asks) ≤ n → getD (asksOf d) n 0 ≡ 0
+  beyond n h = let many = renewed-many (d .bus) (d .frame) asksAll 0 (d .arbiter .asks) in List·getD-eq-default (asksOf d) 0 {n = n} (omega arith)
+
   -- a request that is not due stands
   stands : (n : ℕ) → due (d .bus) (d .frame) n ≡ false → getD (asksOf d) n 0 ≡ getD (d .arbiter .asks) n 0
   stands n other =
       by-lt n (length (d .arbiter .asks))
       (λ h. request-at n h ∙ ap (λ b. cond b (getD asksAll n 0) (getD (d .arbiter .asks) n 0)) other)
-      (λ h.
-      let many = renewed-many (d .bus) (d .frame) asksAll 0 (d .arbiter .asks) in
-      List·getD-eq-default (asksOf d) 0 {n = n} (omega arith) ∙ sym (List·getD-eq-default (d .arbiter .asks) 0 {n = n} h))
+      (λ h. beyond n h ∙ sym (List·getD-eq-default (d .arbiter .asks) 0 {n = n} h))
 
   module _ (buffer : List ℕ) (whole : length buffer ≡ 57) where
     -- the grant that a frame leaves open, its number, its last units granted and its requests
@@ -266,10 +271,26 @@ module _ (card : Card) (w : World) (d : D.Shelf) (a : WorldAlike card w d) where
       let s = facts .units i (omega (arith, h, a .shelf .many)) in
       let p : getD (S.declared (w .shelf)) i S.blank .settings .priority ≡ u .settings .priority =
       ap (λ x. x .settings .priority) (declared-is card (w .shelf) (w .memory) (w .store) d (a .shelf) i h) ∙ ap (λ x. x .priority) (a .shelf .units i h .settings) in
+      let asking : 1 ≤ cells → Asks (asksOf d) (D.numberOf u) = λ c. (below-32 i h, omega (arith, with c, s .least, p), omega (arith, with c, s .most, p)) in
       record {
-        exactly = (λ r. some (r .1), λ c. (below-32 i h, omega (arith, with c, s .least, p), omega (arith, with c, s .most, p)));
+        exactly = (λ r. some (r .1), asking);
         at-own = λ r. with (some (r .1));
+        silent = λ no. by-lt 0 cells (λ c. absurd (no (asking c))) (λ c. without (omega arith));
       }
+
+  -- a number that no unit has
+  unasked : (n : ℕ) → ((i : ℕ) → i < length (d .units) → D.numberOf (D.unitAt d i) ≡ n → ⊥) → getD (asksOf d) n 0 ≡ 0
+  unasked n apart =
+      decide (due (d .bus) (d .frame) n)
+      (λ t.
+      by-lt n (length (d .arbiter .asks))
+      (λ h.
+      request-at d n h ∙ ap (λ b. cond b (getD (asksAll d) n 0) (getD (d .arbiter .asks) n 0)) t
+      ∙ asked-other (d .granted) (replicate 32 0) (d .units) n apart ∙ no-requests n)
+      (beyond d n))
+      (λ t.
+      stands d n t ∙ ap (λ x. getD (x .asks) n 0) (sym (a .shelf .arbiter))
+      ∙ facts .asks n (λ i. let h : i .0 < length (d .units) = omega (arith, i .1, a .shelf .many) in apart (i .0) h (sym (number-is (i .0) h) ∙ i .2)))
 
   -- the others stand
   others-stand : (n : ℕ) → (Renewed d n → ⊥) → getD (asksOf d) n 0 ≡ getD (d .arbiter .asks) n 0
@@ -309,6 +330,7 @@ goes-on card w d a full =
     record {
       asks = asks-rightly card w d a full;
       stand = others-stand card w d a;
+      undeclared = unasked card w d a;
       granted = grants-if-asked (d .arbiter .last) (asksOf d);
       in-turn = in-turn card w d a;
       three = full .lasts;
@@ -328,7 +350,7 @@ starts lines =
       number = refl;
       grant = refl;
       lasts = λ p least most. getD-replicate 3 (p - 1) nobody 0 (omega arith);
-      asks = λ n. by-lt n 32 (getD-replicate 32 n 0 0) (λ h. List·getD-eq-default (D.opened lines .arbiter .asks) 0 {n = n} h);
+      asks = no-requests;
     }
 
 -- so from a good load on

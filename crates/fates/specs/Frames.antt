@@ -8,9 +8,9 @@ use lib.ListN.{length, getD}
 use Rattle.arbiter.specs.Arbitration.{nobody, besides, cyclic, lastAt, Asks, FirstOf, Changed}
 use Rattle.arbiter.specs.declared.Grant.{Grant}
 use Rattle.shelf.specs.declared.Found.the-variants.{At}
+use Rattle.line.specs.declared.Line.{Line}
 use Rattle.answer.specs.declared.Answer.the-variants.{Framed}
 use Rattle.document.specs.Events.{frame, answers}
-use Rattle.line.specs.declared.Line.{Line}
 use Rattle.document.specs.Shelf.{Routed, Unit as D·Unit, Shelf, numberOf, findIn, unitAt, opened}
 use Rattle.document.specs.Frame.{requests, frameOf, sentIn, granting}
 use Rattle.document.specs.Steps.{happensTo}
@@ -36,10 +36,11 @@ Renewed d n = (d .bus ≡ 16) ⊎ ((n < 16) × (d .frame % 2 ≡ 0)) ⊎ ((16 �
 abbrev pub leftBy : Shelf → List ℕ → Grant
 leftBy d buffer = record { unit = grantedNow d; last = afterFrame d buffer .arbiter .last; asks = afterFrame d buffer .arbiter .asks }
 
--- "a unit asks if it has a cell besides one already granted": exactly then, and at its own priority
+-- "a unit asks if it has a cell besides one already granted": exactly then, and at its own priority; else it has no request
 pub record AsksRightly (d : Shelf) (u : D·Unit) : Type 0 where
   pub exactly : Asks (asksOf d) (numberOf u) ↔ (1 ≤ besides (length (u .inlet)) (eqb (numberOf u) (d .granted)))
   pub at-own : Asks (asksOf d) (numberOf u) → getD (asksOf d) (numberOf u) 0 ≡ u .settings .priority
+  pub silent : (Asks (asksOf d) (numberOf u) → ⊥) → getD (asksOf d) (numberOf u) 0 ≡ 0
 
 -- the unit with this number is declared, and has a cell
 pub record Waits (d : Shelf) (number : ℕ) : Type 0 where
@@ -84,9 +85,10 @@ pub record Starts (d : Shelf) : Type 0 where
   pub asks : (n : ℕ) → getD (d .arbiter .asks) n 0 ≡ 0
 
 pub record GoesOn (d : Shelf) : Type 0 where
-  -- a unit whose request is renewed asks rightly, "and the others stand"
+  -- a unit whose request is renewed asks rightly, "and the others stand"; nobody asks at a number that no unit has
   pub asks : (i : ℕ) → i < length (d .units) → Renewed d (numberOf (unitAt d i)) → AsksRightly d (unitAt d i)
   pub stand : (n : ℕ) → (Renewed d n → ⊥) → getD (asksOf d) n 0 ≡ getD (d .arbiter .asks) n 0
+  pub undeclared : (n : ℕ) → ((i : ℕ) → i < length (d .units) → numberOf (unitAt d i) ≡ n → ⊥) → getD (asksOf d) n 0 ≡ 0
   -- one is granted exactly if one asks, and in its turn
   pub granted : (grantedNow d ≡ nobody → ⊥) ↔ ((n : ℕ) × Asks (asksOf d) n)
   pub in-turn : (grantedNow d ≡ nobody → ⊥) → GrantedInTurn d
