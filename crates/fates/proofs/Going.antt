@@ -36,10 +36,11 @@ use Rattle.refining.proofs.Rows.{Different}
 use Rattle.refining.proofs.Steps.{once}
 use Rattle.refining.proofs.Refined.{then-alike}
 use Rattle.refining.proofs.Finds.{length-map, find-alike, declared-is}
-use Rattle.fates.specs.Frames.{asksOf, grantedNow, afterFrame, Renewed, leftBy, AsksRightly, Waits, GrantedInTurn, SendsOldest, Idle, Starts, GoesOn, FramesGoOn}
+use Rattle.fates.specs.Frames.{asksOf, grantedNow, afterFrame, Renewed, leftBy, AsksRightly, Waits, GrantedInTurn, inOutlets, SendsOldest, Idle, Starts, GoesOn, FramesGoOn}
 use Rattle.fates.proofs.Loads.{Full, renewed-many, from-load, found-at, four-queues}
 use Rattle.fates.proofs.Fated.{untrue}
 use Rattle.fates.proofs.Holding.{hears-all}
+use Rattle.fates.proofs.Copying.{copies-queued}
 
 -- a frame whose buffer has its length is not refused
 pub let-in : (d : D.Shelf) (buffer : List ℕ) → length buffer ≡ 57 → happensTo d (frame buffer) ≡ step (answers (framedAnswer d buffer)) (framed d buffer) (sentIn d buffer .bytes)
@@ -208,6 +209,13 @@ module _ (card : Card) (w : World) (d : D.Shelf) (a : WorldAlike card w d) where
     unfolding sendsFrom
     sent-bytes = ap (λ s. s .bytes) (let-in d buffer whole) ∙ ap (λ s. s .bytes) sent-is
 
+    -- the copies that are queued
+    pub sent-copies : inOutlets (afterFrame d buffer .units) ≡ sentIn d buffer .queued + inOutlets (d .units)
+    unfolding sendsFrom
+    sent-copies =
+        ap (λ s. inOutlets (s .shelf .units)) (let-in d buffer whole) ∙ ap (λ s. inOutlets (s .units)) sent-is
+        ∙ copies-queued d (four-queues card w d a) i r rest ∙ ap (λ s. s .queued + inOutlets (d .units)) (sym sent-is)
+
     -- all of it
     abbrev pub sent-at : SendsOldest d buffer
     sent-at =
@@ -223,9 +231,11 @@ module _ (card : Card) (w : World) (d : D.Shelf) (a : WorldAlike card w d) where
           oldest = r;
           others = rest;
           waiting = e;
+          copies = sentIn d buffer .queued;
           says = ap (λ s. s .said) (let-in d buffer whole);
           bytes = sent-bytes;
           gone = hears-all d (four-queues card w d a) buffer i r rest whole there e i (found-at (d .units) (d .granted) i there .0) .2 refl;
+          grown = sent-copies;
         }
 
   -- the unit granted in the frame before sends its oldest cell

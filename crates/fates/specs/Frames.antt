@@ -2,7 +2,7 @@
 use Prim.Native.Nat.{ℕ, _+_, _%_, _^_, _<_, _≤_}
 use mathlib.Core.Path.{_≡_}
 use mathlib.Core.Logic.{_↔_, _⊎_}
-use mathlib.Core.List.{List, _∷_}
+use mathlib.Core.List.{List, [], _∷_}
 use lib.Dec.{eqb}
 use lib.ListN.{length, getD}
 use Rattle.arbiter.specs.Arbitration.{nobody, besides, cyclic, lastAt, Asks, FirstOf, Changed}
@@ -11,8 +11,8 @@ use Rattle.shelf.specs.declared.Found.the-variants.{At}
 use Rattle.line.specs.declared.Line.{Line}
 use Rattle.answer.specs.declared.Answer.the-variants.{Framed}
 use Rattle.document.specs.Events.{frame, answers}
-use Rattle.document.specs.Shelf.{Routed, Unit as D·Unit, Shelf, numberOf, findIn, unitAt, opened}
-use Rattle.document.specs.Frame.{requests, frameOf, sentIn, granting}
+use Rattle.document.specs.Shelf.{Routed, Unit as D·Unit, Shelf, numberOf, held, findIn, unitAt, opened}
+use Rattle.document.specs.Frame.{requests, frameOf, granting}
 use Rattle.document.specs.Steps.{happensTo}
 use Rattle.fates.specs.Held.{unitAfter}
 use Rattle.fates.specs.Loaded.{FromLoad}
@@ -59,16 +59,27 @@ pub record GrantedInTurn (d : Shelf) : Type 0 where
   pub first :
       FirstOf (asksOf d) (getD (asksOf d) (grantedNow d) 0) (cyclic (lastAt (d .arbiter .last) (getD (asksOf d) (grantedNow d) 0))) (grantedNow d)
 
--- "Then the unit granted in the frame before sends its oldest cell.": the frame is that cell's, and the cell has left the inlet
+-- how many cells a unit has in its outlet, and these units in theirs
+abbrev pub inOutlet : D·Unit → ℕ
+inOutlet u = held u 0 + held u 1 + held u 2 + held u 3
+
+unfoldable pub inOutlets : List D·Unit → ℕ
+inOutlets [] = 0
+inOutlets (u ∷ us) = inOutlet u + inOutlets us
+
+-- "Then the unit granted in the frame before sends its oldest cell.": the frame is that cell's, and the cell has left the inlet; "copies queued" is by how
+-- many cells the outlets have grown
 pub record SendsOldest (d : Shelf) (buffer : List ℕ) : Type 0 where
   pub sender : Waits d (d .granted)
   pub found : findIn (d .units) (d .granted) ≡ At (sender .place)
   pub oldest : Routed
   pub others : List Routed
   pub waiting : unitAt d (sender .place) .inlet ≡ oldest ∷ others
-  pub says : happensTo d (frame buffer) .said ≡ answers (Framed (d .frame) (d .granted) (grantedNow d) (sentIn d buffer .queued))
+  pub copies : ℕ
+  pub says : happensTo d (frame buffer) .said ≡ answers (Framed (d .frame) (d .granted) (grantedNow d) copies)
   pub bytes : happensTo d (frame buffer) .bytes ≡ frameOf oldest
   pub gone : unitAfter d (frame buffer) (sender .place) .inlet ≡ others
+  pub grown : inOutlets (afterFrame d buffer .units) ≡ copies + inOutlets (d .units)
 
 -- "An idle frame has no bytes and leaves the frame buffer unchanged.": nothing is sent, heard or counted
 pub record Idle (d : Shelf) (buffer : List ℕ) : Type 0 where
