@@ -46,10 +46,13 @@ wayFor lines s h payload =
     cond (eqb (h .vpi) 0 && eqb (h .vci) 0) (lost Ignored)
     (cond (ltb (s .top) (h .vpi)) (lost Misrouted) (wayBy (served lines (s .number) (h .vpi) (h .vci)) h payload))
 
--- "A line cell is 53 bytes: header 4, check 1, payload 48." "Wrong header check: `hec`."
+-- "A line cell is 53 bytes: header 4, check 1, payload 48.": its header, "as that link reads it"
+abbrev pub headerOf : Settings → List ℕ → H.Header
+headerOf s c = fields (s .link) (four c 0)
+
+-- "Wrong header check: `hec`."
 unfoldable pub wayOf : List Line → Settings → List ℕ → Way
-wayOf lines s c =
-    cond (eqb (check (four c 0)) (getD c 4 0)) (wayFor lines s (fields (s .link) (four c 0)) (part c 5 48)) (lost Hec)
+wayOf lines s c = cond (eqb (check (four c 0)) (getD c 4 0)) (wayFor lines s (headerOf s c) (part c 5 48)) (lost Hec)
 
 -- "A routed cell finding 4 cells in the inlet is `inletfull`, else `queued`."
 unfoldable pub arrivalBy : Way → Unit → A.Arrival

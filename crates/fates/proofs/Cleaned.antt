@@ -4,7 +4,7 @@ use native.Mathlib.Omega.{arith}
 use mathlib.Core.Path.{_≡_, refl, sym, ap, subst, _∙_}
 use mathlib.Core.Logic.{_↔_, ⊎-elim}
 use mathlib.Core.Bool.{Bool, true, false, cond, _&&_, _||_}
-use mathlib.Core.List.{List, [], _∷_, _++_}
+use mathlib.Core.List.{List, [], _∷_, _++_, Memᴰ·cast}
 use lib.Dec.{eqb, leb}
 use lib.ListN.{length, length-set, getD, set}
 use lib.Seq.{take-at}
@@ -35,7 +35,7 @@ use Rattle.running.specs.Events.{World}
 use Rattle.running.proofs.Changed.{set-or}
 use Rattle.refining.proofs.Alike.{WorldAlike, Sendable, AllSendable}
 use Rattle.refining.proofs.Rows.{occurs, times-append, times-here, times-other}
-use Rattle.fates.specs.Fates.{Has, Addressed}
+use Rattle.fates.specs.Fates.{Addressed}
 use Rattle.fates.specs.Frames.{afterFrame}
 use Rattle.fates.specs.Clean.{SomeAddressed, risenAfter, risenBefore, CleanFrame, CleanTableCleanBus}
 use Rattle.fates.proofs.Fated.{either-true, right-true, untrue, addressed-iff, fate-iff}
@@ -132,7 +132,7 @@ module _ (lines : List Line) (r : Routed) where
 -- an address is a matter of the unit's number
 same-address : (lines : List Line) (u v : D·Unit) (t : T.Target) → numberOf u ≡ numberOf v → Addressed lines u t → Addressed lines v t
 same-address lines u v (target.Unit number) e a = sym e ∙ a
-same-address lines u v (target.Session session) e a = subst (λ n. Has lines (Mc n session)) e a
+same-address lines u v (target.Session session) e a = Memᴰ·cast (λ i. Mc (sym e i) session) a
 same-address lines u v target.All e a = tt
 
 module _ (card : Card) (w : World) (d : Shelf) (a : WorldAlike card w d) (buffer : List ℕ) (whole : length buffer ≡ 57) (i : ℕ) (there : findIn (d .units) (d .granted) ≡ found.At i) (r : Routed) (rest : List Routed) (e : unitAt d i .inlet ≡ r ∷ rest) where

@@ -4,7 +4,7 @@ use native.Mathlib.Omega.{arith}
 use mathlib.Core.Path.{_≡_, refl, sym, ap, subst, _∙_}
 use mathlib.Core.Logic.{_↔_, _⊎_, inl, inr, ⊎-elim}
 use mathlib.Core.Bool.{Bool, true, false, cond, _&&_, _||_}
-use mathlib.Core.List.{List, [], _∷_, _++_}
+use mathlib.Core.List.{List, [], _∷_, _++_, List·Memᴰ as In, List·Memᴰ·head, List·Memᴰ·tail, List·Memᴰ·not-nil, List·Memᴰ·cases-cons}
 use mathlib.Core.Option.{Option, none, some}
 use lib.Dec.{eqb, leb, ltb}
 use lib.ListN.{length, getD}
@@ -32,10 +32,10 @@ use Rattle.answer.specs.declared.Answer.the-variants.{Arrived, Heard}
 use Rattle.document.specs.Events.{answers}
 use Rattle.document.specs.Counters.{entries, arrivalCounts, hearingCounts}
 use Rattle.document.specs.Shelf.{Unit as D·Unit, numberOf, unitAt}
-use Rattle.document.specs.Arrival.{lost, wayBy, wayFor, wayOf, arrivalBy, arrivalOf, arrived}
+use Rattle.document.specs.Arrival.{headerOf, lost, wayBy, wayFor, wayOf, arrivalBy, arrivalOf, arrived}
 use Rattle.document.specs.Hearing.{addressed, fateIn, hearingOf, handedIn}
 use Rattle.document.specs.Steps.{admitted, happensTo}
-use Rattle.fates.specs.Fates.{headerAt, Zeros, lineFor, Routes, Goes, ArrivalIs, Has, LineIs, Addressed, Fits, room, limitOf, heldOf, HearingIs, ArrivalFateIff, HearingFateIff, FateCounted, FateIff}
+use Rattle.fates.specs.Fates.{Zeros, lineFor, Routes, Goes, ArrivalIs, LineIs, Addressed, Fits, room, limitOf, heldOf, HearingIs, ArrivalFateIff, HearingFateIff, FateCounted, FateIff}
 
 -- two tests in one, as facts
 both-true : (a b : Bool) → (a && b) ≡ true → (a ≡ true) × (b ≡ true)
@@ -71,7 +71,7 @@ zeros-iff h = (
 -- 1. arrivals
 module _ (lines : List Line) (u : D·Unit) (c : List ℕ) where
   abbrev h : H.Header
-  h = headerAt u c
+  h = headerOf (u .settings) c
 
   -- the three tests of an arrival
   abbrev right : Bool
@@ -164,7 +164,7 @@ arrival-fate-iff : ArrivalFateIff
 arrival-fate-iff lines u c fate = (λ e. subst (ArrivalIs lines u c) e (arrival-holds lines u c), arrival-from lines u c fate)
 
 -- 2. hearing: a unit hears a session exactly when there is an `mc` line for it
-by-mc : (l : Line) (n s : ℕ) → (hearsBy l n s ≡ true) ↔ (l ≡ Mc n s)
+by-mc : (l : Line) (n s : ℕ) → (hearsBy l n s ≡ true) ↔ (Mc n s ≡ l)
 unfolding hearsBy
 by-mc (Bus bus) n s = (λ e. let z : _≡_ {A = ℕ} 0 1 = cc in absurd (omega arith), λ e. cc)
 by-mc (L·Unit settings limits) n s = (λ e. let z : _≡_ {A = ℕ} 0 1 = cc in absurd (omega arith), λ e. cc)
@@ -178,12 +178,12 @@ by-mc (Mc a session) n s = (
 )
 
 -- so in all the lines
-mc-iff : (lines : List Line) (n s : ℕ) → (hearsIn lines n s ≡ true) ↔ Has lines (Mc n s)
+mc-iff : (lines : List Line) (n s : ℕ) → (hearsIn lines n s ≡ true) ↔ In (Mc n s) lines
 unfolding hearsIn
-mc-iff [] n s = (λ e. let z : _≡_ {A = ℕ} 0 1 = cc in absurd (omega arith), λ e. absurd e)
+mc-iff [] n s = (λ e. let z : _≡_ {A = ℕ} 0 1 = cc in absurd (omega arith), λ e. absurd (List·Memᴰ·not-nil e))
 mc-iff (l ∷ lines) n s = (
-  λ e. ⊎-elim (λ t. inl (by-mc l n s .0 t)) (λ t. inr (mc-iff lines n s .0 t)) (either-true (hearsBy l n s) (hearsIn lines n s) e),
-  λ e. ⊎-elim (λ t. rw (by-mc l n s .1 t)) (λ t. right-true (hearsBy l n s) (hearsIn lines n s) (mc-iff lines n s .1 t)) e,
+  λ e. ⊎-elim (λ t. List·Memᴰ·head (by-mc l n s .0 t)) (λ t. List·Memᴰ·tail (mc-iff lines n s .0 t)) (either-true (hearsBy l n s) (hearsIn lines n s) e),
+  λ e. ⊎-elim (λ t. rw (by-mc l n s .1 t)) (λ t. right-true (hearsBy l n s) (hearsIn lines n s) (mc-iff lines n s .1 t)) (List·Memᴰ·cases-cons e),
 )
 
 -- addressed, as a fact
@@ -308,8 +308,8 @@ fate-counted shelf unit place there = (
 
 -- 4. the line that serves a cell is in the table
 module _ (u v w : ℕ) where
-  own : (a b : ℕ) → (eqb u a && eqb v b) ≡ true → (a ≡ u) × (b ≡ v)
-  own a b e = let t = both-true (eqb u a) (eqb v b) e in (sym (eqb-true u a (t .0)), sym (eqb-true v b (t .1)))
+  own : (a b : ℕ) → (eqb u a && eqb v b) ≡ true → (u ≡ a) × (v ≡ b)
+  own a b e = let t = both-true (eqb u a) (eqb v b) e in (eqb-true u a (t .0), eqb-true v b (t .1))
 
   -- what is given only if a test holds
   of-only : {X : Type 0} (b : Bool) (x y : X) → only b x ≡ some y → (b ≡ true) × (x ≡ y)
@@ -326,41 +326,40 @@ module _ (u v w : ℕ) where
   first-line (Vp a b target class outvpi) lines s e =
       let x = of-only (eqb u a && eqb v b) (by-vp target class outvpi) s e in
       let o = own a b (x .0) in
-      subst (λ y. LineIs (Vp a b target class outvpi ∷ lines) u v w (some y)) (x .1) (inl (λ t. Vp (o .0 t) (o .1 t) target class outvpi))
+      subst (λ y. LineIs (Vp a b target class outvpi ∷ lines) u v w (some y)) (x .1) (List·Memᴰ·head (λ t. Vp (o .0 t) (o .1 t) target class outvpi))
   first-line (Drop a b) lines s e =
       let x = of-only (eqb u a && eqb v b) by-drop s e in
       let o = own a b (x .0) in
-      subst (λ y. LineIs (Drop a b ∷ lines) u v w (some y)) (x .1) (inl (λ t. Drop (o .0 t) (o .1 t)))
+      subst (λ y. LineIs (Drop a b ∷ lines) u v w (some y)) (x .1) (List·Memᴰ·head (λ t. Drop (o .0 t) (o .1 t)))
   first-line (Vc a b c target class outvpi outvci) lines s e =
       let x = of-only ((eqb u a && eqb v b) && eqb w c) (by-vc target class outvpi outvci) s e in
       let two = both-true (eqb u a && eqb v b) (eqb w c) (x .0) in
       let o = own a b (two .0) in
-      let p = sym (eqb-true w c (two .1)) in
-      subst (λ y. LineIs (Vc a b c target class outvpi outvci ∷ lines) u v w (some y)) (x .1) (inl (λ t. Vc (o .0 t) (o .1 t) (p t) target class outvpi outvci))
+      let p = eqb-true w c (two .1) in
+      subst (λ y. LineIs (Vc a b c target class outvpi outvci ∷ lines) u v w (some y)) (x .1) (List·Memᴰ·head (λ t. Vc (o .0 t) (o .1 t) (p t) target class outvpi outvci))
 
   -- a line that does not serve it changes nothing
   other-line : (l : Line) (lines : List Line) (o : Option Serving) → serves l u v w ≡ none → LineIs lines u v w o → LineIs (l ∷ lines) u v w o
   unfolding serves
   other-line l lines none e i = (
     λ target class outvpi.
-        ⊎-elim (λ q. unserved (Vp u v target class outvpi) (by-vp target class outvpi) q (rw (eq-eqb u u refl, eq-eqb v v refl))) (i .0 target class outvpi),
-    ⊎-elim (λ q. unserved (Drop u v) by-drop q (rw (eq-eqb u u refl, eq-eqb v v refl))) (i .1),
+        not-here (Vp u v target class outvpi) (by-vp target class outvpi) (rw (eq-eqb u u refl, eq-eqb v v refl)) (i .0 target class outvpi),
+    not-here (Drop u v) by-drop (rw (eq-eqb u u refl, eq-eqb v v refl)) (i .1),
     λ target class outvpi outvci.
-        ⊎-elim
-        (λ q. unserved (Vc u v w target class outvpi outvci) (by-vc target class outvpi outvci) q (rw (eq-eqb u u refl, eq-eqb v v refl, eq-eqb w w refl)))
-        (i .2 target class outvpi outvci),
+        not-here (Vc u v w target class outvpi outvci) (by-vc target class outvpi outvci) (rw (eq-eqb u u refl, eq-eqb v v refl, eq-eqb w w refl)) (i .2 target class outvpi outvci),
   )
     where
-      unserved : (m : Line) (s : Serving) → l ≡ m → serves m u v w ≡ some s → ⊥
-      unserved m s q some-is = let f = ap (λ x. serves x u v w) (sym q) ∙ e in let z : _≡_ {A = ℕ} 0 1 = cc in omega arith
-  other-line l lines (some by-drop) e i = inr i
-  other-line l lines (some (by-vp target class outvpi)) e i = inr i
-  other-line l lines (some (by-vc target class outvpi outvci)) e i = inr i
+      not-here : (m : Line) (s : Serving) → serves m u v w ≡ some s → (In m lines → ⊥) → In m (l ∷ lines) → ⊥
+      not-here m s some-is away here =
+          ⊎-elim (λ q. let f = ap (λ x. serves x u v w) q ∙ e in let z : _≡_ {A = ℕ} 0 1 = cc in omega arith) away (List·Memᴰ·cases-cons here)
+  other-line l lines (some by-drop) e i = List·Memᴰ·tail i
+  other-line l lines (some (by-vp target class outvpi)) e i = List·Memᴰ·tail i
+  other-line l lines (some (by-vc target class outvpi outvci)) e i = List·Memᴰ·tail i
 
   -- the latest line that serves it, or none does
   line-serves : (lines : List Line) → LineIs lines u v w (served lines u v w)
   unfolding served
-  line-serves [] = (λ t c o h. h, λ h. h, λ t c o p h. h)
+  line-serves [] = (λ t c o h. List·Memᴰ·not-nil h, λ h. List·Memᴰ·not-nil h, λ t c o p h. List·Memᴰ·not-nil h)
   line-serves (l ∷ lines) = go (serves l u v w) refl (line-serves lines)
     where
       go : (o : Option Serving) → serves l u v w ≡ o → LineIs lines u v w (served lines u v w) → LineIs (l ∷ lines) u v w (either o (served lines u v w))

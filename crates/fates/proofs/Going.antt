@@ -1,18 +1,19 @@
 -- Frames go on. Assumes nothing.
-use Prim.Native.Nat.{ℕ, zero, suc, _+_, _<_, _≤_}
+use Prim.Native.Nat.{ℕ, zero, suc, _+_, _-_, _%_, _^_, _<_, _≤_}
 use native.Mathlib.Omega.{arith}
 use mathlib.Core.Path.{_≡_, refl, sym, ap, subst, _∙_}
-use mathlib.Core.Logic.{⊎-elim}
-use mathlib.Core.Bool.{true, cond}
-use mathlib.Core.List.{List, [], _∷_}
-use lib.Dec.{eqb}
-use lib.ListN.{length, length-set, getD, set, replicate, List·getD-map}
+use mathlib.Core.Logic.{_⊎_, inl, inr, ⊎-elim}
+use mathlib.Core.Bool.{true, false, cond}
+use mathlib.Core.List.{List, [], _∷_, _++_}
+use lib.Dec.{eqb, ltb}
+use lib.ListN.{length, length-set, getD, set, replicate, getD-replicate, List·getD-eq-default, List·getD-map}
 use lib.Seq.{getD-set-same, getD-set-other}
-use borrow.Author.Tests.{eq-eqb, le-leb}
+use borrow.Author.Tests.{eqb-true, eq-eqb, ltb-true, ltb-false, lt-ltb, le-ltb}
 use Rattle.card.specs.declared.Card.{Card}
-use Rattle.arbiter.specs.Arbitration.{nobody, besides, asking, due, Asks}
-use Rattle.arbiter.proofs.Requests.{renewed-at}
-use Rattle.arbiter.proofs.Grants.{grants-if-asked, granted-highest, granted-first}
+use Rattle.arbiter.specs.Arbitration.{nobody, fresh, besides, due, arbiterOf, Asks, Changed}
+use Rattle.arbiter.proofs.Requests.{renewed-at, asks-with, asks-without}
+use Rattle.arbiter.proofs.Grants.{not-granted, grants-if-asked, granted-highest, granted-first, granted-changes}
+use Rattle.store.proofs.Slots.{by-lt}
 use Rattle.store.proofs.Queues.{length-cells}
 use Rattle.shelf.specs.Shelves as S
 use Rattle.shelf.specs.declared.Found as F
@@ -20,21 +21,26 @@ use Rattle.shelf.specs.declared.Found.the-variants as found
 use Rattle.shelf.proofs.Finding.{find-nothing}
 use Rattle.soundness.specs.State.{Sound}
 use Rattle.soundness.proofs.Facts.{sound-iff}
+use Rattle.line.specs.declared.Line.{Line}
+use Rattle.told.proofs.Grown.{decide}
 use Rattle.admit.specs.Admission.{unitAt}
 use Rattle.answer.specs.declared.Answer.the-variants.{Framed}
 use Rattle.document.specs.Events.{frame, answers}
 use Rattle.document.specs.Shelf as D
-use Rattle.document.specs.Frame.{asksNow, askingOf, frameOf, sendsFrom, sends, sentIn, framed, framedAnswer}
+use Rattle.document.specs.Frame.{requests, asksNow, askingOf, frameOf, sendsFrom, sends, sentIn, framed, framedAnswer}
 use Rattle.document.specs.Steps.{step, happensTo}
 use Rattle.document.proofs.Fixed.{givenOf, given-kept}
 use Rattle.running.specs.Events.{World, happens}
 use Rattle.refining.proofs.Alike.{WorldAlike, onBus}
 use Rattle.refining.proofs.Rows.{Different}
 use Rattle.refining.proofs.Steps.{once}
+use Rattle.refining.proofs.Refined.{then-alike}
 use Rattle.refining.proofs.Finds.{length-map, find-alike, declared-is}
-use Rattle.fates.specs.Frames.{asksOf, grantedNow, afterFrame, Waits, GrantedInTurn, SendsOldest, Idle, GoesOn, FramesGoOn}
-use Rattle.fates.proofs.Loads.{Full, from-load, then-alike, found-at, four-queues}
+use Rattle.fates.specs.Frames.{asksOf, grantedNow, afterFrame, Renewed, leftBy, AsksRightly, Waits, GrantedInTurn, inOutlets, SendsOldest, Idle, Starts, GoesOn, FramesGoOn}
+use Rattle.fates.proofs.Loads.{Full, renewed-many, from-load, found-at, four-queues}
+use Rattle.fates.proofs.Fated.{untrue}
 use Rattle.fates.proofs.Holding.{hears-all}
+use Rattle.fates.proofs.Copying.{copies-queued}
 
 -- a frame whose buffer has its length is not refused
 pub let-in : (d : D.Shelf) (buffer : List ℕ) → length buffer ≡ 57 → happensTo d (frame buffer) ≡ step (answers (framedAnswer d buffer)) (framed d buffer) (sentIn d buffer .bytes)
@@ -59,6 +65,72 @@ module _ (g : ℕ) where
       ∙ getD-set-same now (D.numberOf u) (asksNow g u) 0 low
   asked-at now (u ∷ us) (suc i) h once low =
       asked-at (set now (D.numberOf u) (asksNow g u)) us i (omega arith) (λ j k l m. once (suc j) (suc k) (omega arith) (omega arith)) (omega (arith, low, length-set now (D.numberOf u) (asksNow g u)))
+
+-- before any request
+no-requests : (n : ℕ) → getD (fresh .asks) n 0 ≡ 0
+no-requests n = by-lt n 32 (getD-replicate 32 n 0 0) (λ h. List·getD-eq-default (fresh .asks) 0 {n = n} h)
+
+-- when a request is renewed
+module _ (d : D.Shelf) (n : ℕ) where
+  is-due : Renewed d n → due (d .bus) (d .frame) n ≡ true
+  unfolding due
+  is-due r =
+      decide (eqb (d .bus) 32)
+      (λ t.
+      ⊎-elim (λ b. absurd (omega (arith, b, eqb-true (d .bus) 32 t)))
+      (⊎-elim (λ e. rw (t, lt-ltb n 16 (e .0), eq-eqb (d .frame % 2) 0 (e .1))) (λ o. rw (t, le-ltb n 16 (o .0), eq-eqb (d .frame % 2) 1 (o .1)))) r)
+      (λ t. rw t)
+
+  -- on a 32 bus only so
+  is-renewed : (d .bus ≡ 16) ⊎ (d .bus ≡ 32) → due (d .bus) (d .frame) n ≡ true → Renewed d n
+  unfolding due
+  is-renewed bus e =
+      ⊎-elim inl
+      (λ b.
+      let f = rw (eq-eqb (d .bus) 32 b) at e in
+      decide (ltb n 16)
+      (λ t. inr (inl (ltb-true n 16 t, eqb-true (d .frame % 2) 0 (rw t at f))))
+      (λ t. inr (inr (ltb-false n 16 t, eqb-true (d .frame % 2) 1 (rw t at f)))))
+      bus
+
+module _ (d : D.Shelf) where
+  -- what all units ask now
+  abbrev asksAll : List ℕ
+  asksAll = askingOf (d .granted) (replicate 32 0) (d .units)
+
+  -- a request, renewed or not
+  request-at : (n : ℕ) → n < length (d .arbiter .asks) → getD (asksOf d) n 0 ≡ cond (due (d .bus) (d .frame) n) (getD asksAll n 0) (getD (d .arbiter .asks) n 0)
+  request-at n h =
+      let z : n ≡ 0 + n = omega arith in
+      renewed-at (d .bus) (d .frame) asksAll 0 (d .arbiter .asks) n h
+      ∙ ap (λ k. cond (due (d .bus) (d .frame) k) (getD asksAll k 0) (getD (d .arbiter .asks) n 0)) (sym z)
+
+  beyond : (n : ℕ) → length (d .arbiter .asks) ≤ n → getD (asksOf d) n 0 ≡ 0
+  beyond n h = let many = renewed-many (d .bus) (d .frame) asksAll 0 (d .arbiter .asks) in List·getD-eq-default (asksOf d) 0 {n = n} (omega arith)
+
+  -- a request that is not due stands
+  stands : (n : ℕ) → due (d .bus) (d .frame) n ≡ false → getD (asksOf d) n 0 ≡ getD (d .arbiter .asks) n 0
+  stands n other =
+      by-lt n (length (d .arbiter .asks))
+      (λ h. request-at n h ∙ ap (λ b. cond b (getD asksAll n 0) (getD (d .arbiter .asks) n 0)) other)
+      (λ h. beyond n h ∙ sym (List·getD-eq-default (d .arbiter .asks) 0 {n = n} h))
+
+  module _ (buffer : List ℕ) (whole : length buffer ≡ 57) where
+    -- the grant that a frame leaves open, its number, its last units granted and its requests
+    opened : afterFrame d buffer .granted ≡ grantedNow d
+    opened = ap (λ s. s .shelf .granted) (let-in d buffer whole)
+
+    numbered : afterFrame d buffer .frame ≡ (d .frame + 1) % 2 ^ 16
+    numbered = ap (λ s. s .shelf .frame) (let-in d buffer whole)
+
+    changed : (grantedNow d ≡ nobody → ⊥) → Changed (d .arbiter .last) (asksOf d) (getD (asksOf d) (grantedNow d) 0) (grantedNow d) (leftBy d buffer)
+    changed some =
+        subst (λ x. Changed (d .arbiter .last) (asksOf d) (getD (asksOf d) (grantedNow d) 0) (grantedNow d) (record { unit = grantedNow d; last = x .last; asks = x .asks }))
+        (ap (λ s. s .shelf .arbiter) (sym (let-in d buffer whole))) (granted-changes (d .arbiter .last) (asksOf d) some)
+
+    -- or no grant
+    rested : grantedNow d ≡ nobody → afterFrame d buffer .arbiter ≡ requests d
+    rested none = ap (λ s. s .shelf .arbiter) (let-in d buffer whole) ∙ ap arbiterOf (not-granted (d .arbiter .last) (asksOf d) none)
 
 module _ (card : Card) (w : World) (d : D.Shelf) (a : WorldAlike card w d) where
   facts : Sound card (w .shelf) (length (w .store)) (length (w .rows))
@@ -137,6 +209,13 @@ module _ (card : Card) (w : World) (d : D.Shelf) (a : WorldAlike card w d) where
     unfolding sendsFrom
     sent-bytes = ap (λ s. s .bytes) (let-in d buffer whole) ∙ ap (λ s. s .bytes) sent-is
 
+    -- the copies that are queued
+    pub sent-copies : inOutlets (afterFrame d buffer .units) ≡ sentIn d buffer .queued + inOutlets (d .units)
+    unfolding sendsFrom
+    sent-copies =
+        ap (λ s. inOutlets (s .shelf .units)) (let-in d buffer whole) ∙ ap (λ s. inOutlets (s .units)) sent-is
+        ∙ copies-queued d (four-queues card w d a) i r rest ∙ ap (λ s. s .queued + inOutlets (d .units)) (sym sent-is)
+
     -- all of it
     abbrev pub sent-at : SendsOldest d buffer
     sent-at =
@@ -152,9 +231,11 @@ module _ (card : Card) (w : World) (d : D.Shelf) (a : WorldAlike card w d) where
           oldest = r;
           others = rest;
           waiting = e;
+          copies = sentIn d buffer .queued;
           says = ap (λ s. s .said) (let-in d buffer whole);
           bytes = sent-bytes;
           gone = hears-all d (four-queues card w d a) buffer i r rest whole there e i (found-at (d .units) (d .granted) i there .0) .2 refl;
+          grown = sent-copies;
         }
 
   -- the unit granted in the frame before sends its oldest cell
@@ -171,44 +252,68 @@ module _ (card : Card) (w : World) (d : D.Shelf) (a : WorldAlike card w d) where
         says = ap (λ s. s .said) (let-in d buffer whole) ∙ (λ t. answers (Framed (d .frame) (n t) (grantedNow d) (sends (none t) d buffer .queued)));
         bytes = ap (λ s. s .bytes) (let-in d buffer whole) ∙ (λ t. sends (none t) d buffer .bytes);
         units = ap (λ s. s .shelf .units) (let-in d buffer whole) ∙ (λ t. sends (none t) d buffer .units);
+        history = ap (λ s. s .shelf .history) (let-in d buffer whole) ∙ (λ t. sends (none t) d buffer .happened ++ d .history);
       }
 
-  -- the grant that a frame leaves open
-  opened : (buffer : List ℕ) → length buffer ≡ 57 → afterFrame d buffer .granted ≡ grantedNow d
-  opened buffer whole = ap (λ s. s .shelf .granted) (let-in d buffer whole)
-
-  -- a unit's request: as it asks now where it is renewed, else as it was
-  request-is : Full d → (i : ℕ) → i < length (d .units) →
+  -- a unit's request that is renewed is what it asks now
+  request-is : Full (d .arbiter) → (i : ℕ) → i < length (d .units) → due (d .bus) (d .frame) (D.numberOf (D.unitAt d i)) ≡ true →
+      getD (asksOf d) (D.numberOf (D.unitAt d i)) 0 ≡ asksNow (d .granted) (D.unitAt d i)
+  request-is full i h turn =
       let n = D.numberOf (D.unitAt d i) in
-      getD (asksOf d) n 0 ≡ cond (due (d .bus) (d .frame) n) (asksNow (d .granted) (D.unitAt d i)) (getD (d .arbiter .asks) n 0)
-  request-is full i h =
-      let n = D.numberOf (D.unitAt d i) in
-      let z : n ≡ 0 + n = omega arith in
       let low : n < 32 = below-32 i h in
-      let now = askingOf (d .granted) (replicate 32 0) (d .units) in
-      renewed-at (d .bus) (d .frame) now 0 (d .arbiter .asks) n (omega arith)
-      ∙ ap (λ k. cond (due (d .bus) (d .frame) k) (getD now k 0) (getD (d .arbiter .asks) n 0)) (sym z)
-      ∙ ap (λ x. cond (due (d .bus) (d .frame) n) x (getD (d .arbiter .asks) n 0)) (asked-at (d .granted) (replicate 32 0) (d .units) i h (once card w d a) low)
+      let many = full .asks in
+      request-at d n (omega arith)
+      ∙ ap (λ b. cond b (getD (asksAll d) n 0) (getD (d .arbiter .asks) n 0)) turn
+      ∙ asked-at (d .granted) (replicate 32 0) (d .units) i h (once card w d a) low
 
-  -- a unit with a cell besides a granted one asks, if it is its turn
-  asks-now : Full d → (i : ℕ) → i < length (d .units) → due (d .bus) (d .frame) (D.numberOf (D.unitAt d i)) ≡ true →
-      1 ≤ besides (length (D.unitAt d i .inlet)) (eqb (D.numberOf (D.unitAt d i)) (d .granted)) → Asks (asksOf d) (D.numberOf (D.unitAt d i))
-  unfolding asking
-  asks-now full i h turn some =
+  -- so it asks at its priority exactly if it has a cell besides a granted one
+  asks-rightly : Full (d .arbiter) → (i : ℕ) → i < length (d .units) → Renewed d (D.numberOf (D.unitAt d i)) → AsksRightly d (D.unitAt d i)
+  asks-rightly full i h renewed =
       let u = D.unitAt d i in
-      let request : getD (asksOf d) (D.numberOf u) 0 ≡ u .settings .priority =
-      request-is full i h ∙ ap (λ b. cond b (asksNow (d .granted) u) (getD (d .arbiter .asks) (D.numberOf u) 0)) turn
-      ∙ ap (λ b. cond b (u .settings .priority) 0) (le-leb 1 (besides (length (u .inlet)) (eqb (D.numberOf u) (d .granted))) some) in
+      let turn = is-due d (D.numberOf u) renewed in
+      let mine = eqb (D.numberOf u) (d .granted) in
+      let cells = besides (length (u .inlet)) mine in
+      let with : 1 ≤ cells → getD (asksOf d) (D.numberOf u) 0 ≡ u .settings .priority =
+      λ s. request-is full i h turn ∙ asks-with (u .settings .priority) (length (u .inlet)) mine s in
+      let without : cells ≡ 0 → getD (asksOf d) (D.numberOf u) 0 ≡ 0 =
+      λ s. request-is full i h turn ∙ asks-without (u .settings .priority) (length (u .inlet)) mine s in
+      let some : 1 ≤ getD (asksOf d) (D.numberOf u) 0 → 1 ≤ cells = λ r. by-lt 0 cells (λ s. s) (λ s. absurd (omega (arith, r, without (omega arith)))) in
       let s = facts .units i (omega (arith, h, a .shelf .many)) in
       let p : getD (S.declared (w .shelf)) i S.blank .settings .priority ≡ u .settings .priority =
       ap (λ x. x .settings .priority) (declared-is card (w .shelf) (w .memory) (w .store) d (a .shelf) i h) ∙ ap (λ x. x .priority) (a .shelf .units i h .settings) in
-      (below-32 i h, omega (arith, request, s .least, p), omega (arith, request, s .most, p))
+      let asking : 1 ≤ cells → Asks (asksOf d) (D.numberOf u) = λ c. (below-32 i h, omega (arith, with c, s .least, p), omega (arith, with c, s .most, p)) in
+      record {
+        exactly = (λ r. some (r .1), asking);
+        at-own = λ r. with (some (r .1));
+        silent = λ no. by-lt 0 cells (λ c. absurd (no (asking c))) (λ c. without (omega arith));
+      }
+
+  -- a number that no unit has
+  unasked : (n : ℕ) → ((i : ℕ) → i < length (d .units) → D.numberOf (D.unitAt d i) ≡ n → ⊥) → getD (asksOf d) n 0 ≡ 0
+  unasked n apart =
+      decide (due (d .bus) (d .frame) n)
+      (λ t.
+      by-lt n (length (d .arbiter .asks))
+      (λ h.
+      request-at d n h ∙ ap (λ b. cond b (getD (asksAll d) n 0) (getD (d .arbiter .asks) n 0)) t
+      ∙ asked-other (d .granted) (replicate 32 0) (d .units) n apart ∙ no-requests n)
+      (beyond d n))
+      (λ t.
+      stands d n t ∙ ap (λ x. getD (x .asks) n 0) (sym (a .shelf .arbiter))
+      ∙ facts .asks n (λ i. let h : i .0 < length (d .units) = omega (arith, i .1, a .shelf .many) in apart (i .0) h (sym (number-is (i .0) h) ∙ i .2)))
+
+  -- the others stand
+  others-stand : (n : ℕ) → (Renewed d n → ⊥) → getD (asksOf d) n 0 ≡ getD (d .arbiter .asks) n 0
+  others-stand n not =
+      let same = a .shelf .bus in
+      let bus : (d .bus ≡ 16) ⊎ (d .bus ≡ 32) = ⊎-elim (λ b. inl (omega arith)) (λ b. inr (omega arith)) (facts .bus) in
+      stands d n (untrue (due (d .bus) (d .frame) n) (λ e. not (is-renewed d n bus e)))
 
 module _ (card : Card) (w : World) (d : D.Shelf) (a : WorldAlike card w d) where
   -- who is granted has a cell after the frame, and is declared in it
   still-waits : (grantedNow d ≡ nobody → ⊥) → (buffer : List ℕ) → length buffer ≡ 57 → Waits (afterFrame d buffer) (grantedNow d)
   still-waits some buffer whole =
-      let e = opened card w d a buffer whole in
+      let e = opened d buffer whole in
       subst (Waits (afterFrame d buffer)) e
       (waits card (happens card w (frame buffer) .world) (afterFrame d buffer) (then-alike card w d a (frame buffer)) (λ n. some (sym e ∙ n)))
 
@@ -230,18 +335,34 @@ module _ (card : Card) (w : World) (d : D.Shelf) (a : WorldAlike card w d) where
       }
 
 -- all of it, where both shelves are alike
-goes-on : (card : Card) (w : World) (d : D.Shelf) → WorldAlike card w d → Full d → GoesOn d
+goes-on : (card : Card) (w : World) (d : D.Shelf) → WorldAlike card w d → Full (d .arbiter) → GoesOn d
 goes-on card w d a full =
     record {
-      asks = asks-now card w d a full;
+      asks = asks-rightly card w d a full;
+      stand = others-stand card w d a;
+      undeclared = unasked card w d a;
       granted = grants-if-asked (d .arbiter .last) (asksOf d);
       in-turn = in-turn card w d a;
+      three = full .lasts;
+      keeps = λ some buffer whole. changed d buffer whole some;
+      rests = λ none buffer whole. rested d buffer whole none;
       sends = sends-oldest card w d a;
       idle = idles card w d a;
       still = still-waits card w d a;
-      opens = opened card w d a;
+      opens = opened d;
+      numbers = numbered d;
+    }
+
+-- how a table starts
+starts : (lines : List Line) → Starts (D.opened lines)
+starts lines =
+    record {
+      number = refl;
+      grant = refl;
+      lasts = λ p least most. getD-replicate 3 (p - 1) nobody 0 (omega arith);
+      asks = no-requests;
     }
 
 -- so from a good load on
 pub frames-go-on : FramesGoOn
-frames-go-on = from-load GoesOn goes-on
+frames-go-on = (starts, from-load GoesOn goes-on)

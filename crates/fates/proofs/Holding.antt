@@ -13,6 +13,7 @@ use borrow.Author.Tests.{eqb-true, eqb-false, eq-eqb}
 use Rattle.octets.specs.Octets.{four, part}
 use Rattle.octets.proofs.Parts.{getD-any}
 use Rattle.header.specs.Check.{check}
+use Rattle.header.specs.declared.Header as H
 use Rattle.routing.specs.declared.Target as T
 use Rattle.routing.specs.declared.Target.the-variants as target
 use Rattle.bus.specs.Frame.{heard, payload}
@@ -30,12 +31,12 @@ use Rattle.answer.specs.declared.Hearing as Q
 use Rattle.answer.specs.declared.Hearing.the-variants as hearing
 use Rattle.document.specs.Events.{arrive, frame, hear}
 use Rattle.document.specs.Shelf.{Cell, Routed, Unit as D·Unit, Shelf, queueAt, withInlet, blank, findIn, unitAt}
-use Rattle.document.specs.Arrival.{Way, goes, lost, routed, wayBy, wayFor, wayOf, arrivalBy, inletBy, arrived}
+use Rattle.document.specs.Arrival.{Way, goes, lost, routed, headerOf, wayBy, wayFor, wayOf, arrivalBy, inletBy, arrived}
 use Rattle.document.specs.Hearing.{addressed, fateIn, hearingOf, keeping, hearingUnit, handedIn}
 use Rattle.document.specs.Frame.{asHeard, allHear, sendsFrom, sends}
 use Rattle.document.specs.Steps.{admitted, happensTo}
 use Rattle.refining.proofs.Finds.{length-map}
-use Rattle.fates.specs.Fates.{headerAt, lineFor}
+use Rattle.fates.specs.Fates.{lineFor}
 use Rattle.fates.specs.Held.{RoutedBy, ArrivalHeld, CopyHeld, unitAfter, Holds, HeldMeansHeld}
 use Rattle.fates.proofs.Loads.{from-load, found-at, four-queues}
 
@@ -45,12 +46,15 @@ longer l x e = let a = ap length e ∙ length-append l (x ∷ []) in omega arith
 
 -- 1. arrival, by the way of the cell
 module _ (lines : List Line) (u : D·Unit) (c : List ℕ) where
+  abbrev h : H.Header
+  h = headerOf (u .settings) c
+
   abbrev payloadOf : List ℕ
   payloadOf = part c 5 48
 
   -- the routed cell that its line makes
   abbrev Made : Routed → Type 0
-  Made r = RoutedBy (lineFor lines u c) (headerAt u c) payloadOf r
+  Made r = RoutedBy (lineFor lines u c) h payloadOf r
 
   -- how the cell ends: it goes, as its line makes it, or it is lost, and not as `queued`
   data Ends : Way → Type 0 where
@@ -58,19 +62,19 @@ module _ (lines : List Line) (u : D·Unit) (c : List ℕ) where
     off : (fate : A.Arrival) → (fate ≡ arrival.Queued → ⊥) → Ends (lost fate)
 
   -- by the line
-  by-line : (o : Option Serving) → lineFor lines u c ≡ o → Ends (wayBy o (headerAt u c) payloadOf)
+  by-line : (o : Option Serving) → lineFor lines u c ≡ o → Ends (wayBy o h payloadOf)
   unfolding wayBy
   by-line none e = off arrival.Misrouted (λ q. let z : _≡_ {A = ℕ} 0 1 = cc in omega arith)
   by-line (some by-drop) e = off arrival.Ignored (λ q. let z : _≡_ {A = ℕ} 0 1 = cc in omega arith)
-  by-line (some (by-vp target class outvpi)) e = on _ (subst (λ o. RoutedBy o (headerAt u c) payloadOf (routed target class outvpi (headerAt u c .vci) (headerAt u c) payloadOf)) (sym e) refl)
-  by-line (some (by-vc target class outvpi outvci)) e = on _ (subst (λ o. RoutedBy o (headerAt u c) payloadOf (routed target class outvpi outvci (headerAt u c) payloadOf)) (sym e) refl)
+  by-line (some (by-vp target class outvpi)) e = on _ (subst (λ o. RoutedBy o h payloadOf (routed target class outvpi (h .vci) h payloadOf)) (sym e) refl)
+  by-line (some (by-vc target class outvpi outvci)) e = on _ (subst (λ o. RoutedBy o h payloadOf (routed target class outvpi outvci h payloadOf)) (sym e) refl)
 
   -- by the tests
   ends : Ends (wayOf lines (u .settings) c)
   unfolding wayOf wayFor
-  ends = pick (eqb (check (four c 0)) (getD c 4 0)) (eqb (headerAt u c .vpi) 0 && eqb (headerAt u c .vci) 0) (ltb (u .settings .top) (headerAt u c .vpi))
+  ends = pick (eqb (check (four c 0)) (getD c 4 0)) (eqb (h .vpi) 0 && eqb (h .vci) 0) (ltb (u .settings .top) (h .vpi))
     where
-      pick : (k z t : Bool) → Ends (cond k (cond z (lost arrival.Ignored) (cond t (lost arrival.Misrouted) (wayBy (lineFor lines u c) (headerAt u c) payloadOf))) (lost arrival.Hec))
+      pick : (k z t : Bool) → Ends (cond k (cond z (lost arrival.Ignored) (cond t (lost arrival.Misrouted) (wayBy (lineFor lines u c) h payloadOf))) (lost arrival.Hec))
       pick false z t = off arrival.Hec (λ q. let z : _≡_ {A = ℕ} 0 1 = cc in omega arith)
       pick true true t = off arrival.Ignored (λ q. let z : _≡_ {A = ℕ} 0 1 = cc in omega arith)
       pick true false true = off arrival.Misrouted (λ q. let z : _≡_ {A = ℕ} 0 1 = cc in omega arith)

@@ -44,9 +44,9 @@ use Rattle.hearing.specs.declared.Plan as P
 use Rattle.hearing.specs.declared.Plan.the-variants as plans
 use Rattle.hearing.proofs.Plans.{plan-queue, outlet-inside}
 use Rattle.taking.specs.Takes as taking
-use Rattle.document.specs.Events.{arrive, frame, hear, take as takes, count}
+use Rattle.document.specs.Events.{arrive, frame, hear, take as takes, count, named}
 use Rattle.running.specs.Events.{World, ended, happens}
-use Rattle.fates.specs.Isolation.{named, Outside, OnlyAt, Isolation}
+use Rattle.fates.specs.Isolation.{Outside, OnlyAt, Isolation}
 
 -- a byte of a list, seen as a part of it
 byte-of : (b : List ℕ) (k : ℕ) → getD (part b k 1) 0 0 ≡ getD b k 0

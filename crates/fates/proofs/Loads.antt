@@ -12,6 +12,7 @@ use Rattle.shelf.specs.Shelves.{placeFrom}
 use Rattle.shelf.specs.declared.Found as F
 use Rattle.shelf.specs.declared.Found.the-variants as found
 use Rattle.arbiter.specs.Arbitration.{renewedFrom}
+use Rattle.arbiter.specs.declared.Arbiter.{Arbiter}
 use Rattle.arbiter.proofs.Grants.{granted-length}
 use Rattle.queueing.specs.declared.Leaving as L
 use Rattle.queueing.specs.declared.Leaving.the-variants as leaves
@@ -24,35 +25,15 @@ use Rattle.document.specs.Hearing.{handedIn}
 use Rattle.document.specs.Frame as page
 use Rattle.document.specs.Take as T
 use Rattle.document.specs.Steps as document
-use Rattle.running.specs.Events.{World, happens}
+use Rattle.running.specs.Events.{World}
 use Rattle.running.specs.Keeping.{run, loaded}
-use Rattle.running.proofs.Kept.{soundness-kept}
 use Rattle.refining.proofs.Alike.{WorldAlike}
 use Rattle.refining.proofs.Finds.{length-map}
 use Rattle.refining.proofs.Opens.{opened-alike}
-use Rattle.refining.proofs.Steps.{StepAlike, arrive-step, frame-step, hear-step, take-step, count-step}
+use Rattle.refining.proofs.Refined.{run-alike}
 use Rattle.fates.specs.Loaded.{FromLoad}
 
--- every event does on both the same
-step-alike : (card : Card) (w : World) (d : D.Shelf) → WorldAlike card w d → (e : Event) → StepAlike card w d (happens card w e) (document.happensTo d e)
-step-alike card w d a (arrive unit c) = arrive-step card w d a unit c
-step-alike card w d a (frame buffer) = frame-step card w d a buffer
-step-alike card w d a (hear unit f) = hear-step card w d a unit f
-step-alike card w d a (take unit buffer) = take-step card w d a unit buffer
-step-alike card w d a (count unit) = count-step card w d a unit
-
--- after an event both are alike again, and so over every sequence of events
-pub then-alike : (card : Card) (w : World) (d : D.Shelf) → WorldAlike card w d → (e : Event) → WorldAlike card (happens card w e .world) (document.happensTo d e .shelf)
-then-alike card w d a e =
-    let x = step-alike card w d a e in
-    record { sound = soundness-kept card w e (a .sound); shelf = x .shelf; rows = λ j h. x .rows j (subst (λ n. j < n) (x .many) h) }
-
-run-alike : (card : Card) (w : World) (d : D.Shelf) → WorldAlike card w d → (es : List Event) → WorldAlike card (run card w es) (document.becomes d es)
-unfolding run document.becomes
-run-alike card w d a [] = a
-run-alike card w d a (e ∷ es) = run-alike card (happens card w e .world) (document.happensTo d e .shelf) (then-alike card w d a e) es
-
--- there are 32 requests, for ever
+-- there are three last units granted and 32 requests, for ever
 module _ (P : document.Step → Type 0) where
   at-unit : (f : F.Found) (right : Bool) (inside outside : ℕ → document.Step) → ((place : ℕ) → P (inside place)) → ((number : ℕ) → P (outside number)) → P (document.admitted f right inside outside)
   unfolding document.admitted
@@ -65,12 +46,13 @@ module _ (P : document.Step → Type 0) where
   either-way true x y p q = p
   either-way false x y p q = q
 
--- a shelf with 32 requests
-abbrev pub Full : D.Shelf → Type 0
-Full d = length (d .arbiter .asks) ≡ 32
+-- an arbiter with all of them
+pub record Full (arbiter : Arbiter) : Type 0 where
+  pub lasts : length (arbiter .last) ≡ 3
+  pub asks : length (arbiter .asks) ≡ 32
 
--- renewing them keeps them 32
-renewed-many : (bus at : ℕ) (now : List ℕ) (n : ℕ) (asks : List ℕ) → length (renewedFrom bus at now n asks) ≡ length asks
+-- renewing the requests keeps their number
+pub renewed-many : (bus at : ℕ) (now : List ℕ) (n : ℕ) (asks : List ℕ) → length (renewedFrom bus at now n asks) ≡ length asks
 unfolding renewedFrom
 renewed-many bus at now n [] = refl
 renewed-many bus at now n (a ∷ asks) = let h = renewed-many bus at now (suc n) asks in omega arith
@@ -87,33 +69,35 @@ took (leaves.Queue q) d place buffer = took-from (D.queueAt (D.unitAt d place) q
 took leaves.Empty d place buffer = refl
 
 -- every event keeps them
-full-kept : (d : D.Shelf) (e : Event) → Full d → Full (document.happensTo d e .shelf)
+full-kept : (d : D.Shelf) (e : Event) → Full (d .arbiter) → Full (document.happensTo d e .shelf .arbiter)
 unfolding document.happensTo arrived handedIn
-full-kept d (arrive unit c) full = at-unit (λ s. Full (s .shelf)) (D.findIn (d .units) unit) (eqb (length c) 53) _ _ (λ place. full) (λ number. full)
+full-kept d (arrive unit c) full = at-unit (λ s. Full (s .shelf .arbiter)) (D.findIn (d .units) unit) (eqb (length c) 53) _ _ (λ place. full) (λ number. full)
 full-kept d (frame buffer) full =
-    let asks = page.requests d .asks in
-    either-way (λ s. Full (s .shelf)) (eqb (length buffer) 57) _ _
-    (granted-length (d .arbiter .last) asks .1
-    ∙ renewed-many (d .bus) (d .frame) (page.askingOf (d .granted) (replicate 32 0) (d .units)) 0 (d .arbiter .asks) ∙ full)
+    let many = granted-length (d .arbiter .last) (page.requests d .asks) in
+    either-way (λ s. Full (s .shelf .arbiter)) (eqb (length buffer) 57) _ _
+    (record {
+      lasts = many .0 ∙ full .lasts;
+      asks = many .1 ∙ renewed-many (d .bus) (d .frame) (page.askingOf (d .granted) (replicate 32 0) (d .units)) 0 (d .arbiter .asks) ∙ full .asks;
+    })
     full
-full-kept d (hear unit f) full = at-unit (λ s. Full (s .shelf)) (D.findIn (d .units) unit) (eqb (length f) 57) _ _ (λ place. full) (λ number. full)
+full-kept d (hear unit f) full = at-unit (λ s. Full (s .shelf .arbiter)) (D.findIn (d .units) unit) (eqb (length f) 57) _ _ (λ place. full) (λ number. full)
 full-kept d (take unit buffer) full =
-    at-unit (λ s. Full (s .shelf)) (D.findIn (d .units) unit) (eqb (length buffer) 53) _ _
-    (λ place. ap (λ a. length (a .asks)) (took (T.leaving (D.unitAt d place)) d place buffer) ∙ full) (λ number. full)
-full-kept d (count unit) full = at-unit (λ s. Full (s .shelf)) (D.findIn (d .units) unit) true _ _ (λ place. full) (λ number. full)
+    at-unit (λ s. Full (s .shelf .arbiter)) (D.findIn (d .units) unit) (eqb (length buffer) 53) _ _
+    (λ place. subst Full (sym (took (T.leaving (D.unitAt d place)) d place buffer)) full) (λ number. full)
+full-kept d (count unit) full = at-unit (λ s. Full (s .shelf .arbiter)) (D.findIn (d .units) unit) true _ _ (λ place. full) (λ number. full)
 
 -- over every sequence
-full-stays : (d : D.Shelf) (es : List Event) → Full d → Full (document.becomes d es)
+full-stays : (d : D.Shelf) (es : List Event) → Full (d .arbiter) → Full (document.becomes d es .arbiter)
 unfolding document.becomes
 full-stays d [] full = full
 full-stays d (e ∷ es) full = full-stays (document.happensTo d e .shelf) es (full-kept d e full)
 
 -- what follows from being alike holds from a good load on
-pub from-load : (P : D.Shelf → Type 0) → ((card : Card) (w : World) (d : D.Shelf) → WorldAlike card w d → Full d → P d) → FromLoad P
+pub from-load : (P : D.Shelf → Type 0) → ((card : Card) (w : World) (d : D.Shelf) → WorldAlike card w d → Full (d .arbiter) → P d) → FromLoad P
 from-load P follows card text memory store rows told good es =
     follows card (run card (loaded card text memory store rows) es) (document.becomes (D.opened told) es)
-    (run-alike card (loaded card text memory store rows) (D.opened told) (opened-alike card text memory store rows told good) es)
-    (full-stays (D.opened told) es refl)
+    (run-alike card (loaded card text memory store rows) (D.opened told) (opened-alike card text memory store rows told good) es .alike)
+    (full-stays (D.opened told) es (record { lasts = refl; asks = refl }))
 
 -- a unit that is found stands in its place, which there is
 placed : (k : ℕ) (ns : List ℕ) (n i : ℕ) → placeFrom k ns n ≡ found.At i → (k ≤ i) × (i < k + length ns) × (getD ns (i - k) 0 ≡ n)

@@ -3,11 +3,10 @@
 use Prim.Native.Nat.{ℕ, _<_, _≤_}
 use mathlib.Core.Path.{_≡_}
 use mathlib.Core.Logic.{_↔_, _⊎_}
-use mathlib.Core.List.{List, [], _∷_, _++_}
+use mathlib.Core.List.{List, _++_, List·Memᴰ as In}
 use mathlib.Core.Option.{Option, none, some}
 use lib.ListN.{length, getD}
 use Rattle.octets.specs.Octets.{four}
-use Rattle.header.specs.Fields.{fields}
 use Rattle.header.specs.Check.{check}
 use Rattle.header.specs.declared.Header as H
 use Rattle.routing.specs.declared.Target as T
@@ -29,14 +28,11 @@ use Rattle.answer.specs.declared.Answer.the-variants.{Arrived, Heard}
 use Rattle.document.specs.Events.{Event, arrive, hear, Said, answers}
 use Rattle.document.specs.Counters.{Counter, entries, arrivalCounts, hearingCounts}
 use Rattle.document.specs.Shelf.{Unit as D·Unit, Shelf, numberOf, held, findIn, unitAt}
-use Rattle.document.specs.Arrival.{arrivalOf}
+use Rattle.document.specs.Arrival.{headerOf, arrivalOf}
 use Rattle.document.specs.Hearing.{hearingOf}
 use Rattle.document.specs.Steps.{happensTo}
 
--- "A line cell is 53 bytes: header 4, check 1, payload 48.": its header "as that link reads it"; the check is right
-abbrev pub headerAt : D·Unit → List ℕ → H.Header
-headerAt u c = fields (u .settings .link) (four c 0)
-
+-- "A line cell is 53 bytes: header 4, check 1, payload 48.": the check is right
 abbrev pub RightCheck : List ℕ → Type 0
 RightCheck c = check (four c 0) ≡ getD c 4 0
 
@@ -46,7 +42,7 @@ Zeros h = (h .vpi ≡ 0) × (h .vci ≡ 0)
 
 -- the line that serves the unit, the VPI and the VCI, if there is one; it is a `vp` or a `vc` line
 abbrev pub lineFor : List Line → D·Unit → List ℕ → Option Serving
-lineFor lines u c = served lines (numberOf u) (headerAt u c .vpi) (headerAt u c .vci)
+lineFor lines u c = served lines (numberOf u) (headerOf (u .settings) c .vpi) (headerOf (u .settings) c .vci)
 
 abbrev pub Routes : Option Serving → Type 0
 Routes none = ⊥
@@ -54,20 +50,15 @@ Routes (some by-drop) = ⊥
 Routes (some (by-vp target class outvpi)) = Unit {0}
 Routes (some (by-vc target class outvpi outvci)) = Unit {0}
 
--- these lines have this line
-abbrev pub Has : List Line → Line → Type 0
-Has [] l = ⊥
-Has (m ∷ lines) l = (m ≡ l) ⊎ Has lines l
-
 -- that line is in the table; or the table has no line for the unit and the VPI, none for the VCI there
 abbrev pub LineIs : List Line → ℕ → ℕ → ℕ → Option Serving → Type 0
 LineIs lines u v w none =
-    ((target : T.Target) (class outvpi : ℕ) → Has lines (Vp u v target class outvpi) → ⊥)
-    × (Has lines (Drop u v) → ⊥)
-    × ((target : T.Target) (class outvpi outvci : ℕ) → Has lines (Vc u v w target class outvpi outvci) → ⊥)
-LineIs lines u v w (some by-drop) = Has lines (Drop u v)
-LineIs lines u v w (some (by-vp target class outvpi)) = Has lines (Vp u v target class outvpi)
-LineIs lines u v w (some (by-vc target class outvpi outvci)) = Has lines (Vc u v w target class outvpi outvci)
+    ((target : T.Target) (class outvpi : ℕ) → In (Vp u v target class outvpi) lines → ⊥)
+    × (In (Drop u v) lines → ⊥)
+    × ((target : T.Target) (class outvpi outvci : ℕ) → In (Vc u v w target class outvpi outvci) lines → ⊥)
+LineIs lines u v w (some by-drop) = In (Drop u v) lines
+LineIs lines u v w (some (by-vp target class outvpi)) = In (Vp u v target class outvpi) lines
+LineIs lines u v w (some (by-vc target class outvpi outvci)) = In (Vc u v w target class outvpi outvci) lines
 
 abbrev pub LineServes : Type 0
 LineServes = (lines : List Line) (u v w : ℕ) → LineIs lines u v w (served lines u v w)
@@ -75,8 +66,8 @@ LineServes = (lines : List Line) (u v w : ℕ) → LineIs lines u v w (served li
 -- "a routed cell"
 pub record Goes (lines : List Line) (u : D·Unit) (c : List ℕ) : Type 0 where
   pub check : RightCheck c
-  pub some : Zeros (headerAt u c) → ⊥
-  pub top : headerAt u c .vpi ≤ u .settings .top
+  pub some : Zeros (headerOf (u .settings) c) → ⊥
+  pub top : headerOf (u .settings) c .vpi ≤ u .settings .top
   pub line : Routes (lineFor lines u c)
 
 -- "Wrong header check: `hec`. VPI 0 with VCI 0: `ignored`. Then the record for the VPI as that link reads it: above the top or kind 0, `misrouted`;
@@ -84,16 +75,16 @@ pub record Goes (lines : List Line) (u : D·Unit) (c : List ℕ) : Type 0 where
 abbrev pub ArrivalIs : List Line → D·Unit → List ℕ → A.Arrival → Type 0
 ArrivalIs lines u c arrival.Hec = RightCheck c → ⊥
 ArrivalIs lines u c arrival.Ignored =
-    RightCheck c × (Zeros (headerAt u c) ⊎ ((headerAt u c .vpi ≤ u .settings .top) × (lineFor lines u c ≡ some by-drop)))
+    RightCheck c × (Zeros (headerOf (u .settings) c) ⊎ ((headerOf (u .settings) c .vpi ≤ u .settings .top) × (lineFor lines u c ≡ some by-drop)))
 ArrivalIs lines u c arrival.Misrouted =
-    RightCheck c × (Zeros (headerAt u c) → ⊥) × ((u .settings .top < headerAt u c .vpi) ⊎ (lineFor lines u c ≡ none))
+    RightCheck c × (Zeros (headerOf (u .settings) c) → ⊥) × ((u .settings .top < headerOf (u .settings) c .vpi) ⊎ (lineFor lines u c ≡ none))
 ArrivalIs lines u c arrival.Inletfull = Goes lines u c × (4 ≤ length (u .inlet))
 ArrivalIs lines u c arrival.Queued = Goes lines u c × (length (u .inlet) < 4)
 
 -- "address 8 (unit, session, or 0 for broadcast)", "`mc` unit, session: the unit hears that session", "All declared units hear a broadcast"
 abbrev pub Addressed : List Line → D·Unit → T.Target → Type 0
 Addressed lines u (target.Unit number) = numberOf u ≡ number
-Addressed lines u (target.Session session) = Has lines (Mc (numberOf u) session)
+Addressed lines u (target.Session session) = In (Mc (numberOf u) session) lines
 Addressed lines u target.All = Unit {0}
 
 -- what is heard is a sound frame, and this holds of its target, class and header

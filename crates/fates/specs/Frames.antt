@@ -1,17 +1,18 @@
 -- Frames go on: who asks is granted in its turn, who is granted sends. Assumes nothing.
-use Prim.Native.Nat.{ℕ, _<_, _≤_}
+use Prim.Native.Nat.{ℕ, _+_, _%_, _^_, _<_, _≤_}
 use mathlib.Core.Path.{_≡_}
-use mathlib.Core.Logic.{_↔_}
-use mathlib.Core.Bool.{true}
-use mathlib.Core.List.{List, _∷_}
+use mathlib.Core.Logic.{_↔_, _⊎_}
+use mathlib.Core.List.{List, [], _∷_}
 use lib.Dec.{eqb}
 use lib.ListN.{length, getD}
-use Rattle.arbiter.specs.Arbitration.{nobody, besides, due, cyclic, lastAt, Asks, FirstOf}
+use Rattle.arbiter.specs.Arbitration.{nobody, besides, cyclic, lastAt, Asks, FirstOf, Changed}
+use Rattle.arbiter.specs.declared.Grant.{Grant}
 use Rattle.shelf.specs.declared.Found.the-variants.{At}
+use Rattle.line.specs.declared.Line.{Line}
 use Rattle.answer.specs.declared.Answer.the-variants.{Framed}
 use Rattle.document.specs.Events.{frame, answers}
-use Rattle.document.specs.Shelf.{Routed, Shelf, numberOf, findIn, unitAt}
-use Rattle.document.specs.Frame.{requests, frameOf, sentIn, granting}
+use Rattle.document.specs.Shelf.{Routed, Unit as D·Unit, Shelf, numberOf, held, findIn, unitAt, opened}
+use Rattle.document.specs.Frame.{requests, frameOf, granting}
 use Rattle.document.specs.Steps.{happensTo}
 use Rattle.fates.specs.Held.{unitAfter}
 use Rattle.fates.specs.Loaded.{FromLoad}
@@ -26,6 +27,20 @@ grantedNow d = granting d .unit
 -- the shelf after a frame
 abbrev pub afterFrame : Shelf → List ℕ → Shelf
 afterFrame d buffer = happensTo d (frame buffer) .shelf
+
+-- "On a 16 bus each unit's request is renewed every frame; on a 32 bus units 0 to 15 are renewed in even frames and 16 to 31 in odd ones"
+abbrev pub Renewed : Shelf → ℕ → Type 0
+Renewed d n = (d .bus ≡ 16) ⊎ ((n < 16) × (d .frame % 2 ≡ 0)) ⊎ ((16 ≤ n) × (d .frame % 2 ≡ 1))
+
+-- what a frame leaves of its grant: the last units granted, and the requests
+abbrev pub leftBy : Shelf → List ℕ → Grant
+leftBy d buffer = record { unit = grantedNow d; last = afterFrame d buffer .arbiter .last; asks = afterFrame d buffer .arbiter .asks }
+
+-- "a unit asks if it has a cell besides one already granted": exactly then, and at its own priority; else it has no request
+pub record AsksRightly (d : Shelf) (u : D·Unit) : Type 0 where
+  pub exactly : Asks (asksOf d) (numberOf u) ↔ (1 ≤ besides (length (u .inlet)) (eqb (numberOf u) (d .granted)))
+  pub at-own : Asks (asksOf d) (numberOf u) → getD (asksOf d) (numberOf u) 0 ≡ u .settings .priority
+  pub silent : (Asks (asksOf d) (numberOf u) → ⊥) → getD (asksOf d) (numberOf u) 0 ≡ 0
 
 -- the unit with this number is declared, and has a cell
 pub record Waits (d : Shelf) (number : ℕ) : Type 0 where
@@ -44,37 +59,65 @@ pub record GrantedInTurn (d : Shelf) : Type 0 where
   pub first :
       FirstOf (asksOf d) (getD (asksOf d) (grantedNow d) 0) (cyclic (lastAt (d .arbiter .last) (getD (asksOf d) (grantedNow d) 0))) (grantedNow d)
 
--- "Then the unit granted in the frame before sends its oldest cell.": the frame is that cell's, and the cell has left the inlet
+-- how many cells a unit has in its outlet, and these units in theirs
+abbrev pub inOutlet : D·Unit → ℕ
+inOutlet u = held u 0 + held u 1 + held u 2 + held u 3
+
+unfoldable pub inOutlets : List D·Unit → ℕ
+inOutlets [] = 0
+inOutlets (u ∷ us) = inOutlet u + inOutlets us
+
+-- "Then the unit granted in the frame before sends its oldest cell.": the frame is that cell's, and the cell has left the inlet; "copies queued" is by how
+-- many cells the outlets have grown
 pub record SendsOldest (d : Shelf) (buffer : List ℕ) : Type 0 where
   pub sender : Waits d (d .granted)
   pub found : findIn (d .units) (d .granted) ≡ At (sender .place)
   pub oldest : Routed
   pub others : List Routed
   pub waiting : unitAt d (sender .place) .inlet ≡ oldest ∷ others
-  pub says : happensTo d (frame buffer) .said ≡ answers (Framed (d .frame) (d .granted) (grantedNow d) (sentIn d buffer .queued))
+  pub copies : ℕ
+  pub says : happensTo d (frame buffer) .said ≡ answers (Framed (d .frame) (d .granted) (grantedNow d) copies)
   pub bytes : happensTo d (frame buffer) .bytes ≡ frameOf oldest
   pub gone : unitAfter d (frame buffer) (sender .place) .inlet ≡ others
+  pub grown : inOutlets (afterFrame d buffer .units) ≡ copies + inOutlets (d .units)
 
--- "An idle frame has no bytes and leaves the frame buffer unchanged."
+-- "An idle frame has no bytes and leaves the frame buffer unchanged.": nothing is sent, heard or counted
 pub record Idle (d : Shelf) (buffer : List ℕ) : Type 0 where
   pub says : happensTo d (frame buffer) .said ≡ answers (Framed (d .frame) nobody (grantedNow d) 0)
   pub bytes : happensTo d (frame buffer) .bytes ≡ buffer
   pub units : afterFrame d buffer .units ≡ d .units
+  pub history : afterFrame d buffer .history ≡ d .history
+
+-- "numbered from 0"; "before any grant, from unit 0": no unit was granted at any priority, and nobody asks
+pub record Starts (d : Shelf) : Type 0 where
+  pub number : d .frame ≡ 0
+  pub grant : d .granted ≡ nobody
+  pub lasts : (p : ℕ) → 1 ≤ p → p ≤ 3 → lastAt (d .arbiter .last) p ≡ nobody
+  pub asks : (n : ℕ) → getD (d .arbiter .asks) n 0 ≡ 0
 
 pub record GoesOn (d : Shelf) : Type 0 where
-  -- "a unit asks if it has a cell besides one already granted", where its request is renewed in this frame
-  pub asks : (i : ℕ) → i < length (d .units) → due (d .bus) (d .frame) (numberOf (unitAt d i)) ≡ true →
-      1 ≤ besides (length (unitAt d i .inlet)) (eqb (numberOf (unitAt d i)) (d .granted)) → Asks (asksOf d) (numberOf (unitAt d i))
+  -- a unit whose request is renewed asks rightly, "and the others stand"; nobody asks at a number that no unit has
+  pub asks : (i : ℕ) → i < length (d .units) → Renewed d (numberOf (unitAt d i)) → AsksRightly d (unitAt d i)
+  pub stand : (n : ℕ) → (Renewed d n → ⊥) → getD (asksOf d) n 0 ≡ getD (d .arbiter .asks) n 0
+  pub undeclared : (n : ℕ) → ((i : ℕ) → i < length (d .units) → numberOf (unitAt d i) ≡ n → ⊥) → getD (asksOf d) n 0 ≡ 0
   -- one is granted exactly if one asks, and in its turn
   pub granted : (grantedNow d ≡ nobody → ⊥) ↔ ((n : ℕ) × Asks (asksOf d) n)
   pub in-turn : (grantedNow d ≡ nobody → ⊥) → GrantedInTurn d
+  -- "the last unit granted at each of the three priorities, its own kept for each", "A grant clears that request."
+  pub three : length (d .arbiter .last) ≡ 3
+  pub keeps : (grantedNow d ≡ nobody → ⊥) → (buffer : List ℕ) → length buffer ≡ 57 →
+      Changed (d .arbiter .last) (asksOf d) (getD (asksOf d) (grantedNow d) 0) (grantedNow d) (leftBy d buffer)
+  -- without a grant the last units granted and the requests are as they were when these were renewed
+  pub rests : grantedNow d ≡ nobody → (buffer : List ℕ) → length buffer ≡ 57 → afterFrame d buffer .arbiter ≡ requests d
   -- a granted unit's oldest cell is sent in the next frame
   pub sends : (d .granted ≡ nobody → ⊥) → (buffer : List ℕ) → length buffer ≡ 57 → SendsOldest d buffer
   pub idle : d .granted ≡ nobody → (buffer : List ℕ) → length buffer ≡ 57 → Idle d buffer
   -- nobody without a cell is ever granted: who is granted in a frame is declared, and still has a cell after it
   pub still : (grantedNow d ≡ nobody → ⊥) → (buffer : List ℕ) → length buffer ≡ 57 → Waits (afterFrame d buffer) (grantedNow d)
   pub opens : (buffer : List ℕ) → length buffer ≡ 57 → afterFrame d buffer .granted ≡ grantedNow d
+  -- "numbered .. modulo 65,536"
+  pub numbers : (buffer : List ℕ) → length buffer ≡ 57 → afterFrame d buffer .frame ≡ (d .frame + 1) % 2 ^ 16
 
 -- from a good load on, over every sequence of events; "a frame that sends once and then only numbers frames" is none of ours
 abbrev pub FramesGoOn : Type 0
-FramesGoOn = FromLoad GoesOn
+FramesGoOn = ((lines : List Line) → Starts (opened lines)) × FromLoad GoesOn

@@ -17,11 +17,11 @@ use Rattle.answer.specs.declared.Arrival.the-variants as arrival
 use Rattle.answer.specs.declared.Hearing.the-variants as hearing
 use Rattle.document.specs.Events.{Event, arrive, frame, hear}
 use Rattle.document.specs.Shelf.{Routed, Unit as D·Unit, Shelf, queueAt, findIn, unitAt}
-use Rattle.document.specs.Arrival.{routed, arrivalOf}
+use Rattle.document.specs.Arrival.{routed, headerOf, arrivalOf}
 use Rattle.document.specs.Hearing.{hearingOf}
 use Rattle.document.specs.Frame.{asHeard}
 use Rattle.document.specs.Steps.{happensTo}
-use Rattle.fates.specs.Fates.{headerAt, lineFor, SoundWith}
+use Rattle.fates.specs.Fates.{lineFor, SoundWith}
 use Rattle.fates.specs.Loaded.{FromLoad}
 
 -- "route, VCI kept; page, the VCI's record", "PT and CLP are kept": the routed cell that its line makes of a header and a payload
@@ -35,7 +35,7 @@ RoutedBy (some (by-vc target class outvpi outvci)) h bytes r = r ≡ routed targ
 pub record ArrivalHeld (lines : List Line) (before : D·Unit) (c : List ℕ) (after : D·Unit) : Type 0 where
   pub queued :
       (arrivalOf lines before c ≡ arrival.Queued)
-      ↔ ((r : Routed) × RoutedBy (lineFor lines before c) (headerAt before c) (part c 5 48) r × (after .inlet ≡ before .inlet ++ (r ∷ [])))
+      ↔ ((r : Routed) × RoutedBy (lineFor lines before c) (headerOf (before .settings) c) (part c 5 48) r × (after .inlet ≡ before .inlet ++ (r ∷ [])))
   pub lost : (arrivalOf lines before c ≡ arrival.Queued → ⊥) → after .inlet ≡ before .inlet
   pub queues : after .queues ≡ before .queues
 

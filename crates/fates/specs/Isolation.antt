@@ -2,7 +2,7 @@
 use Prim.Native.Nat.{ℕ, _+_, _<_, _≤_}
 use mathlib.Core.Path.{_≡_}
 use mathlib.Core.Logic.{_≢_, _⊎_}
-use mathlib.Core.Option.{Option, none, some}
+use mathlib.Core.Option.{some}
 use lib.ListN.{length, getD}
 use Rattle.card.specs.declared.Card.{Card}
 use Rattle.store.specs.Places.{partOf}
@@ -10,16 +10,8 @@ use Rattle.shelf.specs.Shelves.{declared, findIn}
 use Rattle.shelf.specs.declared.Found.the-variants.{At, Nothing}
 use Rattle.counters.specs.Counting.{zero}
 use Rattle.admit.specs.Admission.{unitAt}
-use Rattle.document.specs.Events.{Event, arrive, frame, hear, take, count}
+use Rattle.document.specs.Events.{Event, named}
 use Rattle.running.specs.Events.{World, happens}
-
--- the unit that an event names; a frame names none
-unfoldable pub named : Event → Option ℕ
-named (arrive unit cell) = some unit
-named (frame buffer) = none
-named (hear unit heard) = some unit
-named (take unit buffer) = some unit
-named (count unit) = some unit
 
 -- a byte of the store outside the 8,192 bytes of the unit in a place
 abbrev pub Outside : ℕ → ℕ → Type 0

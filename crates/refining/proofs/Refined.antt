@@ -42,7 +42,7 @@ step-alike card w d a (take unit buffer) = take-step card w d a unit buffer
 step-alike card w d a (count unit) = count-step card w d a unit
 
 -- after an event both are alike again
-then-alike : (card : Card) (w : World) (d : D.Shelf) → WorldAlike card w d → (e : Event) → WorldAlike card (happens card w e .world) (document.happensTo d e .shelf)
+pub then-alike : (card : Card) (w : World) (d : D.Shelf) → WorldAlike card w d → (e : Event) → WorldAlike card (happens card w e .world) (document.happensTo d e .shelf)
 then-alike card w d a e =
     let x = step-alike card w d a e in
     record {
@@ -65,12 +65,12 @@ refines card text memory store rows told good es =
     gives-alike card (loaded card text memory store rows) (D.opened told) (opened-alike card text memory store rows told good) es
 
 -- what is left after the events: rows alike, rows beyond as they were, and the units are the same ones
-record Left (card : Card) (w : World) (d : D.Shelf) (w′ : World) (d′ : D.Shelf) : Type 0 where
-  alike : WorldAlike card w′ d′
-  beyond : (j : ℕ) → length (d .units) ≤ j → getD (w′ .rows) j zero ≡ getD (w .rows) j zero
-  many : length (d′ .units) ≡ length (d .units)
+pub record Left (card : Card) (w : World) (d : D.Shelf) (w′ : World) (d′ : D.Shelf) : Type 0 where
+  pub alike : WorldAlike card w′ d′
+  pub beyond : (j : ℕ) → length (d .units) ≤ j → getD (w′ .rows) j zero ≡ getD (w .rows) j zero
+  pub many : length (d′ .units) ≡ length (d .units)
 
-run-alike : (card : Card) (w : World) (d : D.Shelf) → WorldAlike card w d → (es : List Event) → Left card w d (run card w es) (document.becomes d es)
+pub run-alike : (card : Card) (w : World) (d : D.Shelf) → WorldAlike card w d → (es : List Event) → Left card w d (run card w es) (document.becomes d es)
 unfolding run document.becomes
 run-alike card w d a [] = record { alike = a; beyond = λ j h. refl; many = refl }
 run-alike card w d a (e ∷ es) =
