@@ -18,7 +18,6 @@ use Rattle.header.specs.declared.Link.{Link}
 use Rattle.header.specs.declared.Link.the-variants.{Nni}
 use Rattle.header.proofs.Laws.{fields-word}
 use Rattle.routing.specs.declared.Target.{Target}
-use Rattle.card.specs.declared.Card.{Card}
 use Rattle.shelf.specs.declared.Settings.{Settings}
 use Rattle.line.specs.declared.Line.{Line}
 use Rattle.line.specs.declared.Line.the-variants.{Bus, Unit as L·Unit, Vp, Drop, Page, Vc, Mc}
@@ -29,8 +28,8 @@ use Rattle.promise.specs.Served.{Serving, by-vp, by-drop, by-vc, serves, served
 use Rattle.promise.proofs.Runs.{AllInRange, good-in-range}
 use Rattle.answer.specs.declared.Arrival.the-variants.{Hec, Ignored, Misrouted}
 use Rattle.document.specs.Shelf.{Routed}
-use Rattle.document.specs.Arrival.{Way, goes, lost, routed, wayBy, wayFor, wayOf}
-use Rattle.flow.specs.Street.{headerOf, LineGives, by-path, by-circuit, Follows, Ranged, LineFollowed, AcceptedRanged}
+use Rattle.document.specs.Arrival.{Way, goes, lost, routed, wayBy, wayFor, wayOf, headerOf}
+use Rattle.flow.specs.Street.{LineGives, by-path, by-circuit, Follows, Ranged, LineFollowed, AcceptedRanged}
 
 -- the line that says so
 abbrev lineOf : ℕ → ℕ → ℕ → Serving → Line

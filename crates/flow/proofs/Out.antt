@@ -28,13 +28,14 @@ use Rattle.queueing.proofs.Headers.{outgoing-fields, vpi-kept, outgoing-lt}
 use Rattle.taking.specs.Takes.{lineCell}
 use Rattle.line.specs.declared.Line.{Line}
 use Rattle.told.proofs.Grown.{decide}
+use Rattle.document.specs.Arrival.{headerOf}
 use Rattle.document.specs.Events.{Event, take}
 use Rattle.document.specs.Shelf.{Cell, Unit, queueAt, unitAt, opened}
 use Rattle.document.specs.Take.{leaving}
 use Rattle.document.proofs.Fixed.{given-stays}
 use Rattle.flow.specs.Parts.{Part, rests, arrives, hears, takes, sends, partOf, oldestIn, takenBy}
 use Rattle.flow.specs.Order.{HandedOut}
-use Rattle.flow.specs.Street.{declaredAt, CameFrom, by-bus, by-hand, headerOf}
+use Rattle.flow.specs.Street.{declaredAt, CameFrom, by-bus, by-hand}
 use Rattle.flow.specs.Out.{reached, out, linkAt, marksAt, ReadsAs, RightlyTaken, TakenRight, LineDelivered, SentRight}
 use Rattle.flow.proofs.Kept.{given-at, number-at, as-many, still-different}
 use Rattle.flow.proofs.Streets.{right-street}

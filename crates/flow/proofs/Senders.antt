@@ -28,7 +28,7 @@ use Rattle.document.specs.Frame.{asksNow, askingOf, requests, frameOf, sendsFro
 use Rattle.document.specs.Take.{leaving, takesFrom, takesBy}
 use Rattle.document.specs.Steps.{Step, step, refused, admitted, happensTo, becomes}
 use Rattle.document.proofs.Fixed.{given-kept}
-use Rattle.flow.specs.Parts.{Part, rests, arrives, hears, takes, onlyAt, partOf, broughtIn, sentBy, sentFrom}
+use Rattle.flow.specs.Parts.{Part, rests, arrives, takes, onlyAt, partOf, broughtIn, sentBy, sentFrom}
 use Rattle.flow.specs.Lost.{Different}
 use Rattle.flow.proofs.Times.{different-apart, found}
 use Rattle.flow.proofs.Turns.{does}

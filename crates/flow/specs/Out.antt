@@ -14,13 +14,14 @@ use Rattle.queueing.specs.Taking.{marked}
 use Rattle.arbiter.specs.Arbitration.{nobody}
 use Rattle.line.specs.declared.Line.{Line}
 use Rattle.answer.specs.declared.Answer.the-variants.{Taken}
+use Rattle.document.specs.Arrival.{headerOf}
 use Rattle.document.specs.Events.{Event, frame, take, answers}
 use Rattle.document.specs.Shelf.{Cell, Routed, Shelf, numberOf, queueAt, unitAt, unitsOf, opened}
 use Rattle.document.specs.Frame.{frameOf}
 use Rattle.document.specs.Take.{marks, handed}
 use Rattle.document.specs.Steps.{happensTo, becomes}
 use Rattle.flow.specs.Lost.{Different}
-use Rattle.flow.specs.Street.{declaredAt, Arrived, CameFrom, headerOf, Follows, Ranged}
+use Rattle.flow.specs.Street.{declaredAt, Arrived, CameFrom, Follows, Ranged}
 
 -- the shelf after some events
 abbrev pub reached : List Line → List Event → Shelf

@@ -4,7 +4,7 @@ use mathlib.Core.Path.{_≡_}
 use mathlib.Core.Bool.{true}
 use mathlib.Core.List.{List, List·Memᴰ as In}
 use lib.ListN.{length, getD}
-use Rattle.octets.specs.Octets.{four, part}
+use Rattle.octets.specs.Octets.{part}
 use Rattle.header.specs.Fields.{fields}
 use Rattle.header.specs.declared.Header as H
 use Rattle.header.specs.declared.Link.the-variants.{Nni}
@@ -20,7 +20,7 @@ use Rattle.line.specs.Ranges.{InRange}
 use Rattle.promise.specs.Refusals.{Accepts}
 use Rattle.document.specs.Events.{Event, arrive, hear}
 use Rattle.document.specs.Shelf.{Cell, Routed, Unit, numberOf, queueAt, blank, unitAt, unitsOf, opened}
-use Rattle.document.specs.Arrival.{goes, wayOf}
+use Rattle.document.specs.Arrival.{goes, headerOf, wayOf}
 use Rattle.document.specs.Hearing.{addressed}
 use Rattle.document.specs.Steps.{becomes}
 use Rattle.flow.specs.Order.{takenAll, sentAll}
@@ -56,10 +56,6 @@ pub record Streets (lines : List Line) (es : List Event) (i : ℕ) : Type 0 wher
 
 abbrev pub RightStreet : Type 0
 RightStreet = (lines : List Line) (es : List Event) (i : ℕ) → i < length (unitsOf lines) → Streets lines es i
-
--- the header of a cell, as the link of the unit at which it arrived reads it
-abbrev pub headerOf : Settings → List ℕ → H.Header
-headerOf s bytes = fields (s .link) (four bytes 0)
 
 -- "`vp` unit, VPI, target, class, outgoing VPI", "route, VCI kept"; "`vc` unit, VPI, VCI, target, class, outgoing VPI, outgoing VCI": one of these lines gives a cell that arrives at
 -- this unit with this header its target and class, and the VPI and VCI with which it goes on

@@ -1,13 +1,11 @@
 -- What `told` reads off the lines is what some line before says. Assumes nothing.
-use mathlib.Core.Path.{_≡_, refl, sym, ap, ap₂, _∙_}
+use mathlib.Core.Path.{_≡_, refl, sym, ap, _∙_}
 use mathlib.Core.Bool.{Bool, true, false, _&&_, false≢true}
-use mathlib.Core.List.{List, [], _∷_, List·Memᴰ as In, Memᴰ·cast}
-use mathlib.Core.Option.{Option, none, some}
+use mathlib.Core.List.{List, List·Memᴰ as In, Memᴰ·cast}
+use mathlib.Core.Option.{none, some}
 use Prim.Native.Nat.{ℕ, _*_}
-use native.Mathlib.Omega.{arith}
 use lib.Dec.{eqb}
 use borrow.Author.Tests.{eqb-true, eq-eqb}
-use Rattle.card.specs.declared.Card.{Card}
 use Rattle.record.specs.Record.{size}
 use Rattle.record.specs.declared.Record as R
 use Rattle.record.specs.declared.Record.the-variants.{Empty, Page as R·Page}
@@ -16,11 +14,10 @@ use Rattle.line.specs.declared.Line.{Line}
 use Rattle.line.specs.declared.Line.the-variants.{Bus, Unit as L·Unit, Vp, Drop, Page, Vc, Mc}
 use Rattle.verdict.specs.Verdicts.{taken}
 use Rattle.told.specs.Told.{ofUnit, ofPage, same, opens, gives, only, topBy, topOf, givenBy, recordOf}
-use Rattle.told.specs.Lines.{Good}
 use Rattle.told.proofs.Tabulate.{none-some, only-true, only-is}
 use Rattle.told.proofs.Regions.{start, same-self, both-left, both-right}
 use Rattle.told.proofs.Fits.{free}
-use Rattle.told.proofs.Grown.{Grown, decide, grown}
+use Rattle.told.proofs.Grown.{Grown}
 use Rattle.told.proofs.Members.{top-in, in-top, given-in, in-given}
 use Rattle.promise.specs.Says.{Declares, Gives, IsVc}
 use Rattle.promise.specs.Faults.{Before}
