@@ -37,7 +37,7 @@ use Rattle.refining.proofs.Alike.{WorldAlike, Sendable, AllSendable}
 use Rattle.refining.proofs.Rows.{occurs, times-append, times-here, times-other}
 use Rattle.fates.specs.Fates.{Addressed}
 use Rattle.fates.specs.Frames.{afterFrame}
-use Rattle.fates.specs.Clean.{SomeAddressed, risenAfter, risenBefore, CleanFrame, CleanTableCleanBus}
+use Rattle.fates.specs.Clean.{SomeAddressed, risen, CleanFrame, CleanTableCleanBus}
 use Rattle.fates.proofs.Fated.{either-true, right-true, untrue, addressed-iff, fate-iff}
 use Rattle.fates.proofs.Loads.{from-load, found-at}
 use Rattle.fates.proofs.Going.{let-in, open-grant, has-cell, sent-is, sent-at}
@@ -169,7 +169,7 @@ module _ (card : Card) (w : World) (d : Shelf) (a : WorldAlike card w d) (buffer
 
   -- so a counter that no hearing unit counts rises as the sender's entries say
   rises : (n : ℕ) (c : Counter) → ((u : D·Unit) → occurs (hearingCounts (hearingOf (d .lines) u (asHeard r))) (placeOf c) ≡ 0) →
-      risenAfter d buffer n c ≡ times (entries (d .granted) (sentCounts some-hears)) n c + risenBefore d n c
+      risen (afterFrame d buffer) n c ≡ times (entries (d .granted) (sentCounts some-hears)) n c + risen d n c
   rises n c none =
       let own = entries (d .granted) (sentCounts some-hears) in
       let x = ap (λ h. times h n c) new-is in
@@ -179,10 +179,10 @@ module _ (card : Card) (w : World) (d : Shelf) (a : WorldAlike card w d) (buffer
       omega arith
 
   -- `unheard` at the sender
-  unheard-is : (b : Bool) → some-hears ≡ b → risenAfter d buffer (d .granted) unheard ≡ occurs (sentCounts b) (placeOf unheard) + risenBefore d (d .granted) unheard
+  unheard-is : (b : Bool) → some-hears ≡ b → risen (afterFrame d buffer) (d .granted) unheard ≡ occurs (sentCounts b) (placeOf unheard) + risen d (d .granted) unheard
   unheard-is b t =
       rises (d .granted) unheard (λ u. no-unheard (hearingOf (d .lines) u (asHeard r)))
-      ∙ ap (λ k. k + risenBefore d (d .granted) unheard) (times-here (d .granted) (sentCounts some-hears) unheard ∙ ap (λ x. occurs (sentCounts x) (placeOf unheard)) t)
+      ∙ ap (λ k. k + risen d (d .granted) unheard) (times-here (d .granted) (sentCounts some-hears) unheard ∙ ap (λ x. occurs (sentCounts x) (placeOf unheard)) t)
 
   -- the cell is one that a line of the table made
   sendable : Sendable r
@@ -208,12 +208,12 @@ module _ (card : Card) (w : World) (d : Shelf) (a : WorldAlike card w d) (buffer
         carried = carries;
         undamaged = λ n.
             rises n damaged (λ u. no-damaged (hearingOf (d .lines) u (asHeard r)) (undamaged (d .lines) r u))
-            ∙ ap (λ k. k + risenBefore d n damaged) (entries-none (d .granted) (sentCounts some-hears) n damaged (no-sent-damaged some-hears)) ∙ omega arith;
+            ∙ ap (λ k. k + risen d n damaged) (entries-none (d .granted) (sentCounts some-hears) n damaged (no-sent-damaged some-hears)) ∙ omega arith;
         unheard-once = λ none. unheard-is false (untrue some-hears (λ t. none (hears-iff .0 t))) ∙ omega arith;
         heard-by-some = λ some. unheard-is true (hears-iff .1 some) ∙ omega arith;
         elsewhere = λ n apart.
             rises n unheard (λ u. no-unheard (hearingOf (d .lines) u (asHeard r)))
-            ∙ ap (λ k. k + risenBefore d n unheard) (times-other (d .granted) (sentCounts some-hears) n unheard (λ q. apart (sym q))) ∙ omega arith;
+            ∙ ap (λ k. k + risen d n unheard) (times-other (d .granted) (sentCounts some-hears) n unheard (λ q. apart (sym q))) ∙ omega arith;
       }
 
 -- from a good load on there is a sender, and it has a cell

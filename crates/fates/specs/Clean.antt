@@ -20,12 +20,9 @@ use Rattle.fates.specs.Loaded.{FromLoad}
 abbrev pub SomeAddressed : Shelf → Target → Type 0
 SomeAddressed d target = (j : ℕ) × (j < length (d .units)) × Addressed (d .lines) (unitAt d j) target
 
--- how often a unit's counter has risen once a frame is over, and before it
-abbrev pub risenAfter : Shelf → List ℕ → ℕ → Counter → ℕ
-risenAfter d buffer number c = times (afterFrame d buffer .history) number c
-
-abbrev pub risenBefore : Shelf → ℕ → Counter → ℕ
-risenBefore d number c = times (d .history) number c
+-- how often a counter of the unit with this number has risen
+abbrev pub risen : Shelf → ℕ → Counter → ℕ
+risen d number c = times (d .history) number c
 
 -- a frame that is not idle: its bytes are heard as the cell that was sent, so no unit counts it as `damaged`; "A sent cell addressing no declared unit
 -- also counts `unheard` at its sender"
@@ -33,10 +30,10 @@ pub record CleanFrame (d : Shelf) (buffer : List ℕ) : Type 0 where
   pub sent : SendsOldest d buffer
   pub sound : heard (happensTo d (frame buffer) .bytes) ≡ Cell (sent .oldest .target) (sent .oldest .class) (sent .oldest .cell .header)
   pub carried : payload (happensTo d (frame buffer) .bytes) ≡ sent .oldest .cell .payload
-  pub undamaged : (number : ℕ) → risenAfter d buffer number damaged ≡ risenBefore d number damaged
-  pub unheard-once : (SomeAddressed d (sent .oldest .target) → ⊥) → risenAfter d buffer (d .granted) unheard ≡ suc (risenBefore d (d .granted) unheard)
-  pub heard-by-some : SomeAddressed d (sent .oldest .target) → risenAfter d buffer (d .granted) unheard ≡ risenBefore d (d .granted) unheard
-  pub elsewhere : (number : ℕ) → number ≢ d .granted → risenAfter d buffer number unheard ≡ risenBefore d number unheard
+  pub undamaged : (number : ℕ) → risen (afterFrame d buffer) number damaged ≡ risen d number damaged
+  pub unheard-once : (SomeAddressed d (sent .oldest .target) → ⊥) → risen (afterFrame d buffer) (d .granted) unheard ≡ suc (risen d (d .granted) unheard)
+  pub heard-by-some : SomeAddressed d (sent .oldest .target) → risen (afterFrame d buffer) (d .granted) unheard ≡ risen d (d .granted) unheard
+  pub elsewhere : (number : ℕ) → number ≢ d .granted → risen (afterFrame d buffer) number unheard ≡ risen d number unheard
 
 -- "Bad parity, bad check, kind 3, unicast above 31 or broadcast address not 0 is `damaged`": none of our own frames
 abbrev pub CleanTableCleanBus : Type 0
