@@ -1,14 +1,15 @@
 -- A line gets a number exactly when 01's condition for it holds and none before it does. Assumes nothing.
 use mathlib.Core.Path.{_≡_, refl, sym, ap, ap₂, subst, _∙_}
-use mathlib.Core.Bool.{Bool, true, false, cond, false≢true}
+use mathlib.Core.Bool.{Bool, true, false, cond, not, false≢true}
 use mathlib.Core.List.{List, [], _∷_, List·Memᴰ as In, List·Memᴰ·not-nil, Memᴰ·cast}
-use mathlib.Core.Logic.{_⊎_, inl, inr, ⊎-elim}
+use mathlib.Core.Logic.{_⊎_, _↔_, inl, inr, ⊎-elim}
 use mathlib.Core.Option.{Option, none, some}
 use Prim.Native.Nat.{ℕ, _+_, _*_, _<_, _≤_}
 use native.Mathlib.Omega.{arith}
 use lib.Dec.{eqb, leb, ltb}
 use lib.ListN.{length}
-use borrow.Author.Tests.{eqb-true, eq-eqb, leb-true, leb-false, ltb-true, ltb-false}
+use borrow.Author.Tests.{eqb-true, eq-eqb, leb-true, leb-false, lt-leb, ltb-true, ltb-false}
+use Rattle.header.specs.declared.Link.{Link}
 use Rattle.header.specs.declared.Link.the-variants.{Uni, Nni}
 use Rattle.routing.specs.declared.Target.{Target}
 use Rattle.routing.specs.declared.Target.the-variants.{Unit as T·Unit, Session, All}
@@ -33,14 +34,15 @@ use Rattle.verdict.specs.declared.Verdict.the-variants.{Fine, Form, Order, Twic
 use Rattle.verdict.specs.Verdicts.{numberOf, asked, roomFor, offBus, taken, pageIn}
 use Rattle.judge.specs.Judge.{inPage, judgeBus, judgeUnit, judgeVp, judgeDrop, judgePage, judgeVc, judgeMc}
 use Rattle.told.specs.Told.{ofUnit, ofPage, opens, topOf, total, recordOf, hearsIn, shelfOf}
-use Rattle.told.specs.Lines.{started, isFirst, owned, isDeclared, judge, Good}
+use Rattle.told.specs.Lines.{started, isFirst, owned, isDeclared, judge, Good, verdictOn}
 use Rattle.told.proofs.Tabulate.{some-inj, none-some}
 use Rattle.told.proofs.Regions.{start}
 use Rattle.told.proofs.Grown.{Grown, decide, grown}
 use Rattle.told.proofs.Memory.{fits-room}
 use Rattle.told.proofs.Members.{heard-in, in-heard, first-is, bus-in, in-bus, below-bus}
-use Rattle.promise.specs.Says.{Declares, Uses, HasUnit, IsUnit, HasTarget, HasVpi, Gives, IsVc, TooWide}
-use Rattle.promise.specs.Faults.{OutOfOrder, first-not-bus, bus-again, unit-off, target-off, not-declared, vpi-above, no-page, vci-above, Again, unit-again, vpi-again, vc-again, mc-again, Exceeds, Condition, form, order, twice, wide, room, Faultless, FaultIff, GoodIff}
+use Rattle.promise.specs.Says.{Declares, Uses, HasUnit, IsUnit, HasTarget, HasVpi, Gives, IsVc, IsWide}
+use Rattle.promise.specs.Narrow.{tooWide, WideIff}
+use Rattle.promise.specs.Faults.{Before, OutOfOrder, first-not-bus, bus-again, unit-off, target-off, not-declared, vpi-above, no-page, vci-above, Again, unit-again, vpi-again, vc-again, mc-again, Exceeds, Condition, form, order, twice, wide, room, Faultless, FaultIff, GoodIff}
 use Rattle.promise.proofs.Said.{declared, page-in, given-before, before-given, vc-before, before-vc, top-is, top-of-page, page-stands}
 
 -- A. what a verdict means, where Order, Twice, Wide and Room are these facts
@@ -115,6 +117,20 @@ narrow-asks (On Uni) = (λ e. absurd (false≢true (sym e)), λ e h. let z : _�
 narrow-asks (On Nni) = (λ e. refl, λ e. absurd (false≢true e))
 narrow-asks (Out outvpi) = (λ e. leb-false outvpi 255 e, λ e h. let k = leb-true outvpi 255 e in omega arith)
 
+asks-iff : (ask : Ask) → (not (narrowHolds ask) ≡ true) ↔ Asks ask
+asks-iff ask =
+    decide (narrowHolds ask) (λ t. rw t (λ e. absurd (false≢true e), λ h. absurd (narrow-asks ask .1 t h))) (λ t. rw t (λ e. narrow-asks ask .0 t, λ h. refl))
+
+pub wide-iff : WideIff
+unfolding tooWide
+wide-iff (Bus n) = asks-iff (A·Bus n)
+wide-iff (L·Unit settings limits) = asks-iff (On (settings .link))
+wide-iff (Vp u v target class outvpi) = asks-iff (Out outvpi)
+wide-iff (Drop u v) = (λ e. absurd (false≢true e), λ h. absurd h)
+wide-iff (Page u v topvci) = (λ e. absurd (false≢true e), λ h. absurd h)
+wide-iff (Vc u v w target class outvpi outvci) = asks-iff (Out outvpi)
+wide-iff (Mc u session) = (λ e. absurd (false≢true e), λ h. absurd h)
+
 -- a card that does not hold it is narrow, and it is too wide
 too-wide : (card : Card) (ask : Ask) → holds card ask ≡ false → (card ≡ Narrow) × Asks ask
 unfolding holds
@@ -177,7 +193,7 @@ module _ (card : Card) (memory : List ℕ) (told : List Line) (good : Good card 
 
   -- what it means for a line
   abbrev Says : Line → Verdict → Type 0
-  Says l = Means (OutOfOrder told l) (Again told l) ((card ≡ Narrow) × TooWide l) (Exceeds memory (l ∷ told))
+  Says l = Means (OutOfOrder told l) (Again told l) ((card ≡ Narrow) × IsWide l) (Exceeds memory (l ∷ told))
 
   -- a line that takes no records
   still : (l : Line) → opens l ≡ none → Exceeds memory (l ∷ told) → ⊥
@@ -204,13 +220,13 @@ module _ (card : Card) (memory : List ℕ) (told : List Line) (good : Good card 
       (λ o. let k = off-bus bus target o in target-off bus (k .0) (bus-in card (usable memory) told good b) (h (k .0) (k .1)) (k .2)) rest
 
   -- with an outgoing VPI
-  goes-out : (l : Line) (outvpi : ℕ) → (255 < outvpi → TooWide l) → (TooWide l → 255 < outvpi) → opens l ≡ none → (OutOfOrder told l → ⊥) → (Again told l → ⊥) → Says l (asked card (Out outvpi) Fine)
+  goes-out : (l : Line) (outvpi : ℕ) → (255 < outvpi → IsWide l) → (IsWide l → 255 < outvpi) → opens l ≡ none → (OutOfOrder told l → ⊥) → (Again told l → ⊥) → Says l (asked card (Out outvpi) Fine)
   goes-out l outvpi to from o ok new =
       wide-test _ _ _ _ (holds card (Out outvpi)) Fine ok new (λ t. let w = too-wide card (Out outvpi) t in (w .0, to (w .1)))
       (λ t. (ok, new, λ w. not-wide card (Out outvpi) t (w .0, from (w .1)), still l o))
 
   -- with records of its own
-  takes-room : (l : Line) (top : ℕ) → total (l ∷ told) ≡ total told + (top + 1) → (OutOfOrder told l → ⊥) → (Again told l → ⊥) → ((card ≡ Narrow) × TooWide l → ⊥) → Says l (roomFor (usable memory) (size * total told) (top + 1))
+  takes-room : (l : Line) (top : ℕ) → total (l ∷ told) ≡ total told + (top + 1) → (OutOfOrder told l → ⊥) → (Again told l → ⊥) → ((card ≡ Narrow) × IsWide l → ⊥) → Says l (roomFor (usable memory) (size * total told) (top + 1))
   takes-room l top e ok new narrow =
       room-test _ _ _ _ (leb (size * total told + size * (top + 1)) (usable memory)) ok new narrow
       (λ t. over memory (size * total (l ∷ told)) (let k = leb-false (size * total told + size * (top + 1)) (usable memory) t in omega arith))
@@ -358,11 +374,11 @@ module _ (card : Card) (memory : List ℕ) (told : List Line) where
   only-form wrong n (room l e h k) = absurd (read-bad (sym e))
 
   -- one that can has four
-  by-condition : (P : Type 0) (l : Line) (n : ℕ) → (n ≡ 3 → OutOfOrder told l → P) → (n ≡ 4 → Again told l → P) → (n ≡ 5 → (card ≡ Narrow) × TooWide l → P) → (n ≡ 6 → Exceeds memory (l ∷ told) → P) → Condition card memory told (Read l) n → P
+  by-condition : (P : Type 0) (l : Line) (n : ℕ) → (n ≡ 3 → OutOfOrder told l → P) → (n ≡ 4 → Again told l → P) → (n ≡ 5 → (card ≡ Narrow) × IsWide l → P) → (n ≡ 6 → Exceeds memory (l ∷ told) → P) → Condition card memory told (Read l) n → P
   by-condition P l n o a w m (form wrong e k) = absurd (read-bad e)
   by-condition P l n o a w m (order x e h k) = o k (subst (OutOfOrder told) (read-is e) h)
   by-condition P l n o a w m (twice x e h k) = a k (subst (Again told) (read-is e) h)
-  by-condition P l n o a w m (wide x e c h k) = w k (c, subst TooWide (read-is e) h)
+  by-condition P l n o a w m (wide x e c h k) = w k (c, subst IsWide (read-is e) h)
   by-condition P l n o a w m (room x e h k) = m k (subst (λ y. Exceeds memory (y ∷ told)) (read-is e) h)
 
   -- the number is that of the first condition that holds
@@ -370,7 +386,7 @@ module _ (card : Card) (memory : List ℕ) (told : List Line) where
   First l n = Condition card memory told (Read l) n × ((m : ℕ) → m < n → Condition card memory told (Read l) m → ⊥)
 
   abbrev Meant : Line → Verdict → Type 0
-  Meant l = Means (OutOfOrder told l) (Again told l) ((card ≡ Narrow) × TooWide l) (Exceeds memory (l ∷ told))
+  Meant l = Means (OutOfOrder told l) (Again told l) ((card ≡ Narrow) × IsWide l) (Exceeds memory (l ∷ told))
 
   number-first : (l : Line) (n : ℕ) (v : Verdict) → Meant l v → (n ≡ 0 → ⊥) → numberOf v ≡ n → First l n
   number-first l n Fine h least e = absurd (least (sym e))

@@ -15,7 +15,7 @@ use Rattle.line.specs.declared.Reading.the-variants.{Good as Read, Bad}
 use Rattle.verdict.specs.Verdicts.{numberOf}
 use Rattle.told.specs.Told.{total}
 use Rattle.told.specs.Lines.{Good, verdictOn}
-use Rattle.promise.specs.Says.{Declares, Uses, HasUnit, HasTarget, HasVpi, Gives, IsVc, TooWide}
+use Rattle.promise.specs.Says.{Declares, Uses, HasUnit, HasTarget, HasVpi, Gives, IsVc, IsWide}
 
 -- some line before it is such
 abbrev pub Before : List Line → (Line → Type 0) → Type 0
@@ -64,7 +64,7 @@ pub data Condition (card : Card) (memory : List ℕ) (told : List Line) (r : Rea
   -- "4 Twice"
   twice : (l : Line) → r ≡ Read l → Again told l → number ≡ 4 → Condition card memory told r number
   -- "5 Wide": "narrow card only"
-  wide : (l : Line) → r ≡ Read l → card ≡ Narrow → TooWide l → number ≡ 5 → Condition card memory told r number
+  wide : (l : Line) → r ≡ Read l → card ≡ Narrow → IsWide l → number ≡ 5 → Condition card memory told r number
   -- "6 Room"
   room : (l : Line) → r ≡ Read l → Exceeds memory (l ∷ told) → number ≡ 6 → Condition card memory told r number
 

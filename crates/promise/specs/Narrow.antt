@@ -3,11 +3,13 @@ use Prim.Native.Nat.{ℕ, _+_}
 use mathlib.Core.Path.{_≡_}
 use mathlib.Core.Bool.{Bool, true, false, not}
 use mathlib.Core.List.{List, [], _∷_, _++_}
+use mathlib.Core.Logic.{_↔_}
 use lib.ListN.{length}
 use Rattle.card.specs.Cards.{narrowHolds}
 use Rattle.card.specs.declared.Ask.the-variants.{Bus as A·Bus, On, Out}
 use Rattle.line.specs.declared.Line.{Line}
 use Rattle.line.specs.declared.Line.the-variants.{Bus, Unit as L·Unit, Vp, Drop, Page, Vc, Mc}
+use Rattle.promise.specs.Says.{IsWide}
 
 -- "narrow card only: `bus` 32, `nni`, or outgoing VPI above 255"
 unfoldable pub tooWide : Line → Bool
@@ -18,6 +20,10 @@ tooWide (Drop u v) = false
 tooWide (Page u v top) = false
 tooWide (Vc u v w target class outvpi outvci) = not (narrowHolds (Out outvpi))
 tooWide (Mc u session) = false
+
+-- the test is 01's phrase
+abbrev pub WideIff : Type 0
+WideIff = (l : Line) → (tooWide l ≡ true) ↔ IsWide l
 
 abbrev pub NoneWide : List Line → Type 0
 NoneWide [] = Unit {0}

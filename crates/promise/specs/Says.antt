@@ -73,11 +73,11 @@ abbrev pub HasUnit : ℕ → Line → Type 0
 HasUnit u l = ((top : ℕ) × Declares u top l) ⊎ Uses u l
 
 -- "`bus` 32, `nni`, or outgoing VPI above 255"
-abbrev pub TooWide : Line → Type 0
-TooWide (Bus bus) = bus ≡ 32
-TooWide (L·Unit settings limits) = settings .link ≡ Nni
-TooWide (Vp a b target class outvpi) = 255 < outvpi
-TooWide (Drop a b) = ⊥
-TooWide (Page a b topvci) = ⊥
-TooWide (Vc a b c target class outvpi outvci) = 255 < outvpi
-TooWide (Mc a session) = ⊥
+abbrev pub IsWide : Line → Type 0
+IsWide (Bus bus) = bus ≡ 32
+IsWide (L·Unit settings limits) = settings .link ≡ Nni
+IsWide (Vp a b target class outvpi) = 255 < outvpi
+IsWide (Drop a b) = ⊥
+IsWide (Page a b topvci) = ⊥
+IsWide (Vc a b c target class outvpi outvci) = 255 < outvpi
+IsWide (Mc a session) = ⊥
