@@ -8,8 +8,7 @@ use Prim.Native.Nat.{ℕ, _+_, _*_, _<_, _≤_}
 use native.Mathlib.Omega.{arith}
 use lib.Dec.{eqb, leb, ltb}
 use lib.ListN.{length}
-use borrow.Author.Tests.{eqb-true, eq-eqb, leb-true, leb-false, lt-leb, ltb-true, ltb-false}
-use Rattle.header.specs.declared.Link.{Link}
+use borrow.Author.Tests.{eqb-true, eq-eqb, leb-true, leb-false, ltb-true, ltb-false}
 use Rattle.header.specs.declared.Link.the-variants.{Uni, Nni}
 use Rattle.routing.specs.declared.Target.{Target}
 use Rattle.routing.specs.declared.Target.the-variants.{Unit as T·Unit, Session, All}
@@ -34,7 +33,7 @@ use Rattle.verdict.specs.declared.Verdict.the-variants.{Fine, Form, Order, Twic
 use Rattle.verdict.specs.Verdicts.{numberOf, asked, roomFor, offBus, taken, pageIn}
 use Rattle.judge.specs.Judge.{inPage, judgeBus, judgeUnit, judgeVp, judgeDrop, judgePage, judgeVc, judgeMc}
 use Rattle.told.specs.Told.{ofUnit, ofPage, opens, topOf, total, recordOf, hearsIn, shelfOf}
-use Rattle.told.specs.Lines.{started, isFirst, owned, isDeclared, judge, Good, verdictOn}
+use Rattle.told.specs.Lines.{started, isFirst, owned, isDeclared, judge, Good}
 use Rattle.told.proofs.Tabulate.{some-inj, none-some}
 use Rattle.told.proofs.Regions.{start}
 use Rattle.told.proofs.Grown.{Grown, decide, grown}
@@ -42,7 +41,7 @@ use Rattle.told.proofs.Memory.{fits-room}
 use Rattle.told.proofs.Members.{heard-in, in-heard, first-is, bus-in, in-bus, below-bus}
 use Rattle.promise.specs.Says.{Declares, Uses, HasUnit, IsUnit, HasTarget, HasVpi, Gives, IsVc, IsWide}
 use Rattle.promise.specs.Narrow.{tooWide, WideIff}
-use Rattle.promise.specs.Faults.{Before, OutOfOrder, first-not-bus, bus-again, unit-off, target-off, not-declared, vpi-above, no-page, vci-above, Again, unit-again, vpi-again, vc-again, mc-again, Exceeds, Condition, form, order, twice, wide, room, Faultless, FaultIff, GoodIff}
+use Rattle.promise.specs.Faults.{OutOfOrder, first-not-bus, bus-again, unit-off, target-off, not-declared, vpi-above, no-page, vci-above, Again, unit-again, vpi-again, vc-again, mc-again, Exceeds, Condition, form, order, twice, wide, room, Faultless, FaultIff, GoodIff}
 use Rattle.promise.proofs.Said.{declared, page-in, given-before, before-given, vc-before, before-vc, top-is, top-of-page, page-stands}
 
 -- A. what a verdict means, where Order, Twice, Wide and Room are these facts
