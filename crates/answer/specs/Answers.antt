@@ -1,6 +1,6 @@
 -- What an event answers, and which counters of which units rise by it. Assumes nothing.
 use Prim.Native.Nat.{ℕ, _+_}
-use mathlib.Core.Bool.{true, false}
+use mathlib.Core.Bool.{true, false, Bool}
 use mathlib.Core.List.{List, [], _∷_}
 use lib.ListN.{set, replicate}
 use Rattle.shelf.specs.declared.Shelf.{Shelf}
@@ -70,6 +70,24 @@ hearingRises hearing.Wide = #wide
 hearingRises hearing.Full = #full
 hearingRises hearing.Clp = #clp
 hearingRises hearing.Queued = #queued
+
+-- "copies queued"
+unfoldable pub queuedOne : He.Hearing → ℕ
+queuedOne hearing.Damaged = 0
+queuedOne hearing.Other = 0
+queuedOne hearing.Wide = 0
+queuedOne hearing.Full = 0
+queuedOne hearing.Clp = 0
+queuedOne hearing.Queued = 1
+
+-- "a damaged frame addresses none"
+unfoldable pub isAddressed : He.Hearing → Bool
+isAddressed hearing.Damaged = false
+isAddressed hearing.Other = false
+isAddressed hearing.Wide = true
+isAddressed hearing.Full = true
+isAddressed hearing.Clp = true
+isAddressed hearing.Queued = true
 
 -- 01's words for the fates, as bytes: of an arrival
 unfoldable pub arrivalWord : Ar.Arrival → List ℕ

@@ -100,3 +100,8 @@ hearingCounts hearing.Queued = queued ∷ []
 unfoldable pub sentCounts : Bool → List Counter
 sentCounts true = sent ∷ []
 sentCounts false = sent ∷ unheard ∷ []
+
+-- how often the counter with this place is in a list
+unfoldable pub occurs : List Counter → ℕ → ℕ
+occurs [] k = 0
+occurs (c ∷ cs) k = cond (eqb (placeOf c) k) (suc (occurs cs k)) (occurs cs k)

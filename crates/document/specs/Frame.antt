@@ -1,6 +1,6 @@
 -- 01's Frame. Assumes nothing.
 use Prim.Native.Nat.{ℕ, _+_, _%_, _^_}
-use mathlib.Core.Bool.{Bool, true, false, _||_}
+use mathlib.Core.Bool.{Bool, false, _||_}
 use mathlib.Core.List.{List, [], _∷_, _++_, map}
 use lib.Dec.{eqb}
 use lib.ListN.{length, set, replicate}
@@ -15,9 +15,9 @@ use Rattle.shelf.specs.declared.Found as F
 use Rattle.shelf.specs.declared.Found.the-variants.{At, Nothing}
 use Rattle.line.specs.declared.Line.{Line}
 use Rattle.answer.specs.declared.Hearing as A
-use Rattle.answer.specs.declared.Hearing.the-variants.{Damaged, Other, Wide, Full, Clp, Queued}
 use Rattle.answer.specs.declared.Answer.the-variants.{Framed}
 use Rattle.answer.specs.declared.Answer as N
+use Rattle.answer.specs.Answers.{queuedOne, isAddressed}
 use Rattle.document.specs.Counters.{Entry, entries, hearingCounts, sentCounts}
 use Rattle.document.specs.Shelf.{Cell, Routed, Unit, Shelf, numberOf, withInlet, findIn, unitAt}
 use Rattle.document.specs.Hearing.{hearingOf, hearingUnit}
@@ -45,25 +45,9 @@ asHeard r = frame.Cell (r .target) (r .class) (r .cell .header)
 abbrev pub allHear : List Line → List Unit → Routed → List Unit
 allHear lines us r = map (λ u. hearingUnit lines u (asHeard r) (r .cell .payload)) us
 
-unfoldable pub isQueued : A.Hearing → ℕ
-isQueued Damaged = 0
-isQueued Other = 0
-isQueued Wide = 0
-isQueued Full = 0
-isQueued Clp = 0
-isQueued Queued = 1
-
-unfoldable pub isAddressed : A.Hearing → Bool
-isAddressed Damaged = false
-isAddressed Other = false
-isAddressed Wide = true
-isAddressed Full = true
-isAddressed Clp = true
-isAddressed Queued = true
-
 unfoldable pub copies : List Line → List Unit → Routed → ℕ
 copies lines [] r = 0
-copies lines (u ∷ us) r = isQueued (hearingOf lines u (asHeard r)) + copies lines us r
+copies lines (u ∷ us) r = queuedOne (hearingOf lines u (asHeard r)) + copies lines us r
 
 unfoldable pub someAddressed : List Line → List Unit → Routed → Bool
 someAddressed lines [] r = false

@@ -25,16 +25,17 @@ use Rattle.told.proofs.Grown.{decide}
 use Rattle.shelf.specs.declared.Found.the-variants as found
 use Rattle.answer.specs.declared.Hearing as Q
 use Rattle.answer.specs.declared.Hearing.the-variants as hearing
+use Rattle.answer.specs.Answers.{isAddressed}
 use Rattle.document.specs.Events.{frame}
-use Rattle.document.specs.Counters.{Counter, unheard, damaged, placeOf, entries, times, hearingCounts, sentCounts}
+use Rattle.document.specs.Counters.{Counter, unheard, damaged, placeOf, entries, times, hearingCounts, sentCounts, occurs}
 use Rattle.document.specs.Shelf.{Routed, Unit as D·Unit, Shelf, numberOf, held, withInlet, blank, findIn, unitAt}
 use Rattle.document.specs.Hearing.{addressed, fateIn, hearingOf}
-use Rattle.document.specs.Frame.{asHeard, isAddressed, someAddressed, heardEntries, sendsFrom}
+use Rattle.document.specs.Frame.{asHeard, someAddressed, heardEntries, sendsFrom}
 use Rattle.document.specs.Steps.{happensTo}
 use Rattle.running.specs.Events.{World}
 use Rattle.running.proofs.Changed.{set-or}
 use Rattle.refining.proofs.Alike.{WorldAlike, Sendable, AllSendable}
-use Rattle.refining.proofs.Rows.{occurs, times-append, times-here, times-other}
+use Rattle.refining.proofs.Rows.{times-append, times-here, times-other}
 use Rattle.fates.specs.Fates.{Addressed}
 use Rattle.fates.specs.Frames.{afterFrame}
 use Rattle.fates.specs.Clean.{SomeAddressed, risen, CleanFrame, CleanTableCleanBus}

@@ -11,9 +11,10 @@ use Rattle.queueing.proofs.Fates.{queue-lt}
 use Rattle.line.specs.declared.Line.{Line}
 use Rattle.answer.specs.declared.Hearing as Q
 use Rattle.answer.specs.declared.Hearing.the-variants as hearing
+use Rattle.answer.specs.Answers.{queuedOne}
 use Rattle.document.specs.Shelf.{Cell, Routed, Unit as D·Unit, Shelf, queueAt, held, withInlet, withQueue, blank, unitAt}
 use Rattle.document.specs.Hearing.{hearingOf, keeping, hearingUnit}
-use Rattle.document.specs.Frame.{asHeard, allHear, isQueued, copies}
+use Rattle.document.specs.Frame.{asHeard, allHear, copies}
 use Rattle.running.proofs.Changed.{set-or}
 use Rattle.fates.specs.Frames.{inOutlet, inOutlets}
 
@@ -36,8 +37,8 @@ module _ (u : D·Unit) (four : length (u .queues) ≡ 4) (x : Cell) where
   one-more (suc (suc (suc (suc q)))) few = absurd (omega arith)
 
   -- only a queued copy is one more
-  by-fate : (fate : Q.Hearing) (q : ℕ) → q < 4 → inOutlet (keeping fate u q x) ≡ isQueued fate + inOutlet u
-  unfolding keeping isQueued
+  by-fate : (fate : Q.Hearing) (q : ℕ) → q < 4 → inOutlet (keeping fate u q x) ≡ queuedOne fate + inOutlet u
+  unfolding keeping queuedOne
   by-fate hearing.Damaged q few = omega arith
   by-fate hearing.Other q few = omega arith
   by-fate hearing.Wide q few = omega arith
@@ -47,7 +48,7 @@ module _ (u : D·Unit) (four : length (u .queues) ≡ 4) (x : Cell) where
 
 -- a unit that hears a sent cell
 one-hears : (lines : List Line) (u : D·Unit) → length (u .queues) ≡ 4 → (r : Routed) →
-    inOutlet (hearingUnit lines u (asHeard r) (r .cell .payload)) ≡ isQueued (hearingOf lines u (asHeard r)) + inOutlet u
+    inOutlet (hearingUnit lines u (asHeard r) (r .cell .payload)) ≡ queuedOne (hearingOf lines u (asHeard r)) + inOutlet u
 unfolding hearingUnit
 one-hears lines u four r = by-fate u four (r .cell) (hearingOf lines u (asHeard r)) (queueOf (u .limits) (r .class)) (queue-lt (u .limits) (r .class))
 

@@ -16,16 +16,16 @@ use Rattle.queueing.specs.Hearing.{queueOf}
 use Rattle.line.specs.declared.Line.{Line}
 use Rattle.answer.specs.declared.Hearing as A
 use Rattle.answer.specs.declared.Hearing.the-variants as hearing
-use Rattle.document.specs.Counters.{placeOf, times}
+use Rattle.answer.specs.Answers.{queuedOne}
+use Rattle.document.specs.Counters.{placeOf, times, occurs}
 use Rattle.document.specs.Events.{Event, arrive, frame, hear, take, count, named}
 use Rattle.document.specs.Shelf.{Cell, Routed, Unit, Shelf, numberOf, withInlet, findIn, unitAt, opened}
 use Rattle.document.specs.Arrival.{Way, goes, lost, wayOf}
 use Rattle.document.specs.Hearing.{addressed, fateIn, hearingOf}
-use Rattle.document.specs.Frame.{asHeard, isQueued}
+use Rattle.document.specs.Frame.{asHeard}
 use Rattle.document.specs.Steps.{happensTo}
 use Rattle.document.proofs.Fixed.{given-kept}
 use Rattle.flow.specs.Parts.{Part, rests, arrives, hears, takes, sends, onlyAt, partOf, among, roomFor, routedIn, routedBy, routedAt, broughtBy, broughtIn, copyIn, copyFor, queuedBy, queuedIn, meantBy, meantFor, countsBy}
-use Rattle.flow.specs.Counted.{occurs}
 use Rattle.flow.specs.Order.{over, takenAll, sentAll}
 use Rattle.flow.specs.Apart.{Isolation, OnceOnly}
 use Rattle.flow.proofs.Times.{found}
@@ -115,7 +115,7 @@ brought-routed test lines u (sends r rest) = omega arith
 
 -- a queue takes no more than is meant for it
 copy-meant : (test : Cell → Bool) (lines : List Line) (u : Unit) (h : H.Heard) (bytes : List ℕ) (q : ℕ) → meet test (copyIn lines u h bytes q) ≤ meet test (copyFor lines u h bytes q)
-unfolding copyIn copyFor hearingOf isQueued among
+unfolding copyIn copyFor hearingOf queuedOne among
 copy-meant test lines u frames.Length bytes q = omega arith
 copy-meant test lines u frames.Damaged bytes q = omega arith
 copy-meant test lines u (frames.Cell target class header) bytes q = go (addressed lines u target) (fateIn u (queueOf (u .limits) class) header) (eqb q (queueOf (u .limits) class)) _
@@ -124,8 +124,8 @@ copy-meant test lines u (frames.Cell target class header) bytes q = go (addresse
     either true b cells = omega arith
     either false b cells = omega arith
 
-    go : (a : Bool) (fate : A.Hearing) (b : Bool) (cells : List Cell) → meet test (cond (eqb (isQueued (cond a fate hearing.Other)) 1 && b) cells []) ≤ meet test (cond (a && b) cells [])
-    go true fate b cells = either (eqb (isQueued fate) 1) b cells
+    go : (a : Bool) (fate : A.Hearing) (b : Bool) (cells : List Cell) → meet test (cond (eqb (queuedOne (cond a fate hearing.Other)) 1 && b) cells []) ≤ meet test (cond (a && b) cells [])
+    go true fate b cells = either (eqb (queuedOne fate) 1) b cells
     go false fate b cells = omega arith
 
 -- whatever the part

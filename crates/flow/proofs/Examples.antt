@@ -16,11 +16,12 @@ use Rattle.shelf.specs.Shelves.{placeFrom}
 use Rattle.told.specs.Told.{hearsBy, hearsIn}
 use Rattle.promise.specs.Served.{serves, served}
 use Rattle.taking.specs.Takes.{lineCell}
+use Rattle.answer.specs.Answers.{queuedOne, isAddressed}
 use Rattle.document.specs.Counters.{times, arrivalCounts, hearingCounts, sentCounts}
 use Rattle.document.specs.Shelf.{Cell, unitsOf, busOf, opened}
 use Rattle.document.specs.Arrival.{wayBy, wayFor, wayOf, arrivalBy, inletBy, arrived}
 use Rattle.document.specs.Hearing.{addressed, fateIn, hearingOf, keeping, hearingUnit, handedIn}
-use Rattle.document.specs.Frame.{askingOf, isQueued, isAddressed, copies, someAddressed, heardEntries, sendsFrom, sends}
+use Rattle.document.specs.Frame.{askingOf, copies, someAddressed, heardEntries, sendsFrom, sends}
 use Rattle.document.specs.Take.{congested, takesFrom, takesBy}
 use Rattle.document.specs.Steps.{admitted, happensTo}
 use Rattle.document.specs.Examples.{table, events}
@@ -32,5 +33,5 @@ abbrev printed : Cell
 printed = record { header = 0x00900280; payload = replicate 48 0xa5 }
 
 pub listed : (queuedAll (opened table) events 1 2 ≡ printed ∷ []) × (takenAll (opened table) events 1 2 ≡ printed ∷ [])
-unfolding bits number minus divide remainder residue fields topOf word header-check routing-check upper routing address cell exclusiveOr sealed heard capacity queueOf limit tooWide lowest marked outgoing asking due renewedFrom run cyclic next someAsks highest first granted placeFrom hearsBy hearsIn serves served lineCell times arrivalCounts hearingCounts sentCounts unitsOf busOf wayBy wayFor wayOf arrivalBy inletBy arrived addressed fateIn hearingOf keeping hearingUnit handedIn askingOf isQueued isAddressed copies someAddressed heardEntries sendsFrom sends congested takesFrom takesBy admitted happensTo table events onlyAt sending sendingBy partOf copyIn queuedBy oldestIn takenBy over
+unfolding bits number minus divide remainder residue fields topOf word header-check routing-check upper routing address cell exclusiveOr sealed heard capacity queueOf limit tooWide lowest marked outgoing asking due renewedFrom run cyclic next someAsks highest first granted placeFrom hearsBy hearsIn serves served lineCell times arrivalCounts hearingCounts sentCounts unitsOf busOf wayBy wayFor wayOf arrivalBy inletBy arrived addressed fateIn hearingOf keeping hearingUnit handedIn askingOf queuedOne isAddressed copies someAddressed heardEntries sendsFrom sends congested takesFrom takesBy admitted happensTo table events onlyAt sending sendingBy partOf copyIn queuedBy oldestIn takenBy over
 listed = (refl, refl)

@@ -29,22 +29,22 @@ use Rattle.answer.specs.declared.Arrival as N
 use Rattle.answer.specs.declared.Arrival.the-variants as arrival
 use Rattle.answer.specs.declared.Hearing as A
 use Rattle.answer.specs.declared.Hearing.the-variants as hearing
-use Rattle.document.specs.Counters.{Counter, arrived, hec, ignored, misrouted, inletfull, sent, queued, full, clp, wide, taken, placeOf, arrivalCounts, hearingCounts, sentCounts}
+use Rattle.answer.specs.Answers.{queuedOne}
+use Rattle.document.specs.Counters.{Counter, arrived, hec, ignored, misrouted, inletfull, sent, queued, full, clp, wide, taken, placeOf, arrivalCounts, hearingCounts, sentCounts, occurs}
 use Rattle.document.specs.Shelf.{Cell, Unit, queueAt, held, withInlet, withQueue}
 use Rattle.document.specs.Arrival.{Way, goes, lost, wayBy, wayFor, wayOf, arrivalBy, inletBy}
 use Rattle.document.specs.Hearing.{addressed, fateIn, hearingOf, keeping, hearingUnit}
-use Rattle.document.specs.Frame.{asHeard, isQueued, someAddressed}
+use Rattle.document.specs.Frame.{asHeard, someAddressed}
 use Rattle.document.specs.Take.{leaving}
 use Rattle.flow.specs.Parts.{Part, rests, arrives, hears, takes, sends, arrivedBy, heardBy, isFor, among, roomFor, broughtBy, sentBy, copyIn, queuedBy, oldestIn, takenBy, tookBy, countsBy}
 use Rattle.flow.specs.Lost.{inAll}
-use Rattle.flow.specs.Counted.{occurs}
 use Rattle.flow.proofs.Times.{occurs-append}
 use Rattle.flow.proofs.Turns.{leftFrom, leftBy, unitBy, heard-without, holds-one}
 
 -- A. the queues
 -- a copy in a queue, or none
-kept-queue : (fate : A.Hearing) (u : Unit) (q p : ℕ) (c : Cell) → q < length (u .queues) → queueAt (keeping fate u q c) p ≡ queueAt u p ++ cond (eqb (isQueued fate) 1 && eqb p q) (c ∷ []) []
-unfolding keeping isQueued
+kept-queue : (fate : A.Hearing) (u : Unit) (q p : ℕ) (c : Cell) → q < length (u .queues) → queueAt (keeping fate u q c) p ≡ queueAt u p ++ cond (eqb (queuedOne fate) 1 && eqb p q) (c ∷ []) []
+unfolding keeping queuedOne
 kept-queue hearing.Damaged u q p c h = sym (append-nil (queueAt u p))
 kept-queue hearing.Other u q p c h = sym (append-nil (queueAt u p))
 kept-queue hearing.Wide u q p c h = sym (append-nil (queueAt u p))
@@ -259,8 +259,8 @@ heard-in hearing.Clp = (refl, refl)
 heard-in hearing.Queued = (refl, refl)
 
 -- at the outlet: one copy, if it is queued
-heard-out : (fate : A.Hearing) → Copies (hearingCounts fate) (isQueued fate) 0
-unfolding hearingCounts occurs isQueued
+heard-out : (fate : A.Hearing) → Copies (hearingCounts fate) (queuedOne fate) 0
+unfolding hearingCounts occurs queuedOne
 heard-out hearing.Damaged = (refl, refl)
 heard-out hearing.Other = (refl, refl)
 heard-out hearing.Wide = (refl, refl)
@@ -277,8 +277,8 @@ in-one (suc (suc (suc zero))) cells h = omega arith
 in-one (suc (suc (suc (suc q)))) cells h = absurd (omega arith)
 
 -- a copy is in one queue, if it is queued
-kept-all : (fate : A.Hearing) (q : ℕ) (c : Cell) → q < 4 → inAll (λ p. cond (eqb (isQueued fate) 1 && eqb p q) (c ∷ []) []) ≡ isQueued fate
-unfolding isQueued
+kept-all : (fate : A.Hearing) (q : ℕ) (c : Cell) → q < 4 → inAll (λ p. cond (eqb (queuedOne fate) 1 && eqb p q) (c ∷ []) []) ≡ queuedOne fate
+unfolding queuedOne
 kept-all hearing.Damaged q c h = refl
 kept-all hearing.Other q c h = refl
 kept-all hearing.Wide q c h = refl
@@ -287,8 +287,8 @@ kept-all hearing.Clp q c h = refl
 kept-all hearing.Queued q c h = in-one q (c ∷ []) h
 
 -- so of a hearing
-heard-all : (lines : List Line) (u : Unit) (h : H.Heard) (bytes : List ℕ) → inAll (copyIn lines u h bytes) ≡ isQueued (hearingOf lines u h)
-unfolding copyIn hearingOf isQueued
+heard-all : (lines : List Line) (u : Unit) (h : H.Heard) (bytes : List ℕ) → inAll (copyIn lines u h bytes) ≡ queuedOne (hearingOf lines u h)
+unfolding copyIn hearingOf queuedOne
 heard-all lines u frames.Length bytes = refl
 heard-all lines u frames.Damaged bytes = refl
 heard-all lines u (frames.Cell target class header) bytes =
@@ -338,7 +338,7 @@ counts-out lines us u (sends r rest) four =
     let each = occurs-append (sentCounts b) (hearingCounts fate) in
     let x = heard-out fate in
     let y = sent-in b .1 in
-    let z = heard-all lines (withInlet u rest) (asHeard r) (r .cell .payload) ∙ ap isQueued (heard-without lines u rest r) in
+    let z = heard-all lines (withInlet u rest) (asHeard r) (r .cell .payload) ∙ ap queuedOne (heard-without lines u rest r) in
     (omega (arith, each 8, x .0, y .0, z), omega (arith, each 12, x .1, y .1))
 
 -- E. what comes to a unit, and its fates

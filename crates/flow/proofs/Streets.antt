@@ -19,11 +19,12 @@ use Rattle.line.specs.declared.Line.{Line}
 use Rattle.answer.specs.declared.Hearing as A
 use Rattle.answer.specs.declared.Hearing.the-variants as hearing
 use Rattle.told.specs.Told.{hearsIn}
+use Rattle.answer.specs.Answers.{queuedOne}
 use Rattle.document.specs.Events.{Event, arrive, hear}
 use Rattle.document.specs.Shelf.{Cell, Routed, Unit, Shelf, numberOf, queueAt, withInlet, unitAt, unitsOf, opened}
 use Rattle.document.specs.Arrival.{Way, goes, lost, wayOf}
 use Rattle.document.specs.Hearing.{addressed, fateIn, hearingOf}
-use Rattle.document.specs.Frame.{asHeard, isQueued}
+use Rattle.document.specs.Frame.{asHeard}
 use Rattle.document.specs.Steps.{happensTo, becomes}
 use Rattle.document.proofs.Fixed.{givenOf, given-kept}
 use Rattle.flow.specs.Parts.{Part, rests, arrives, hears, takes, sends, partOf, roomFor, broughtBy, copyIn, queuedBy, broughtIn, sentFrom, queuedIn}
@@ -44,18 +45,18 @@ pub record Copy (lines : List Line) (u : Unit) (h : H.Heard) (bytes : List ℕ) 
   pub cell : c ≡ record { header = header; payload = bytes }
 
 -- what is not addressed is not queued
-reaches : (b : Bool) (fate : A.Hearing) → isQueued (cond b fate hearing.Other) ≡ 1 → (b ≡ true) × (isQueued fate ≡ 1)
-unfolding isQueued
+reaches : (b : Bool) (fate : A.Hearing) → queuedOne (cond b fate hearing.Other) ≡ 1 → (b ≡ true) × (queuedOne fate ≡ 1)
+unfolding queuedOne
 reaches true fate e = (refl, e)
 reaches false fate e = absurd (omega arith)
 
 -- nor is what is too wide
-fits : (b : Bool) (fate : A.Hearing) → isQueued (cond b hearing.Wide fate) ≡ 1 → b ≡ false
-unfolding isQueued
+fits : (b : Bool) (fate : A.Hearing) → queuedOne (cond b hearing.Wide fate) ≡ 1 → b ≡ false
+unfolding queuedOne
 fits true fate e = absurd (omega arith)
 fits false fate e = refl
 
-room-for : (u : Unit) (q header : ℕ) → isQueued (fateIn u q header) ≡ 1 → TooWide (u .settings .link) header → ⊥
+room-for : (u : Unit) (q header : ℕ) → queuedOne (fateIn u q header) ≡ 1 → TooWide (u .settings .link) header → ⊥
 unfolding fateIn
 room-for u q header e w = false≢true (sym (fits (tooWide (u .settings .link) header) _ e) ∙ wide-iff (u .settings .link) header .1 w)
 
@@ -65,18 +66,18 @@ unfolding copyIn hearingOf
 copied lines u frames.Length bytes q c m = absurd (List·Memᴰ·not-nil m)
 copied lines u frames.Damaged bytes q c m = absurd (List·Memᴰ·not-nil m)
 copied lines u (frames.Cell target class header) bytes q c m =
-    go (eqb (isQueued (hearingOf lines u (frames.Cell target class header))) 1) refl (eqb q (queueOf (u .limits) class)) refl m
+    go (eqb (queuedOne (hearingOf lines u (frames.Cell target class header))) 1) refl (eqb q (queueOf (u .limits) class)) refl m
   where
-    go : (a : Bool) → eqb (isQueued (hearingOf lines u (frames.Cell target class header))) 1 ≡ a → (b : Bool) → eqb q (queueOf (u .limits) class) ≡ b → In c (cond (a && b) (record { header = header; payload = bytes } ∷ []) []) → Copy lines u (frames.Cell target class header) bytes q c
+    go : (a : Bool) → eqb (queuedOne (hearingOf lines u (frames.Cell target class header))) 1 ≡ a → (b : Bool) → eqb q (queueOf (u .limits) class) ≡ b → In c (cond (a && b) (record { header = header; payload = bytes } ∷ []) []) → Copy lines u (frames.Cell target class header) bytes q c
     go true x true y m =
         record {
           target = target;
           class = class;
           header = header;
           frame-is = refl;
-          reached = reaches (addressed lines u target) (fateIn u (queueOf (u .limits) class) header) (eqb-true (isQueued (hearingOf lines u (frames.Cell target class header))) 1 x) .0;
+          reached = reaches (addressed lines u target) (fateIn u (queueOf (u .limits) class) header) (eqb-true (queuedOne (hearingOf lines u (frames.Cell target class header))) 1 x) .0;
           queue = sym (eqb-true q (queueOf (u .limits) class) y);
-          narrow = room-for u (queueOf (u .limits) class) header (reaches (addressed lines u target) (fateIn u (queueOf (u .limits) class) header) (eqb-true (isQueued (hearingOf lines u (frames.Cell target class header))) 1 x) .1);
+          narrow = room-for u (queueOf (u .limits) class) header (reaches (addressed lines u target) (fateIn u (queueOf (u .limits) class) header) (eqb-true (queuedOne (hearingOf lines u (frames.Cell target class header))) 1 x) .1);
           cell = List·Memᴰ·eq-of-singleton m;
         }
     go true x false y m = absurd (List·Memᴰ·not-nil m)

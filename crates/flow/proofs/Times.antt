@@ -12,12 +12,11 @@ use Rattle.shelf.specs.Shelves.{placeFrom}
 use Rattle.shelf.specs.declared.Found.the-variants.{At}
 use Rattle.line.specs.declared.Line.{Line}
 use Rattle.told.proofs.Grown.{decide}
-use Rattle.document.specs.Counters.{Counter, placeOf, Entry, entries, matches, times, hearingCounts}
+use Rattle.document.specs.Counters.{Counter, placeOf, Entry, entries, matches, times, hearingCounts, occurs}
 use Rattle.document.specs.Shelf.{Routed, Unit, numberOf, blank, findIn}
 use Rattle.document.specs.Hearing.{hearingOf, hearingUnit}
 use Rattle.document.specs.Frame.{asHeard, allHear, heardEntries}
 use Rattle.flow.specs.Lost.{Different}
-use Rattle.flow.specs.Counted.{occurs}
 
 -- one more or not, before a sum and in its first part
 plus : (b : Bool) (m n : ℕ) → cond b (suc (m + n)) (m + n) ≡ cond b (suc m) m + n

@@ -21,17 +21,17 @@ use Rattle.shelf.specs.declared.Found as F
 use Rattle.shelf.specs.declared.Found.the-variants.{At, Nothing}
 use Rattle.line.specs.declared.Line.{Line}
 use Rattle.answer.specs.declared.Hearing.the-variants as hearing
+use Rattle.answer.specs.Answers.{isAddressed}
 use Rattle.document.specs.Events.{Event, arrive, frame, hear, take as takes·out, count, answers, counts}
-use Rattle.document.specs.Counters.{Counter, placeOf, Entry, entries, times, countersOf, hearingCounts, sentCounts}
+use Rattle.document.specs.Counters.{Counter, placeOf, Entry, entries, times, countersOf, hearingCounts, sentCounts, occurs}
 use Rattle.document.specs.Shelf.{Cell, Routed, Unit, Shelf, numberOf, queueAt, held, withInlet, withQueue, blank, findIn, unitAt}
 use Rattle.document.specs.Arrival.{wayOf, inletBy, arrived}
 use Rattle.document.specs.Hearing.{addressed, fateIn, hearingOf, hearingUnit, handedIn}
-use Rattle.document.specs.Frame.{asHeard, allHear, isAddressed, someAddressed, heardEntries, sendsFrom, sends as sends·out, sentIn, framed, framedAnswer}
+use Rattle.document.specs.Frame.{asHeard, allHear, someAddressed, heardEntries, sendsFrom, sends as sends·out, sentIn, framed, framedAnswer}
 use Rattle.document.specs.Take.{leaving, takesFrom, takesBy}
 use Rattle.document.specs.Steps.{Step, step, refused, admitted, happensTo}
 use Rattle.flow.specs.Parts.{Part, rests, arrives, hears, takes, sends, onlyAt, sending, sendingBy, partOf, tookBy, countsBy}
 use Rattle.flow.specs.Lost.{Different}
-use Rattle.flow.specs.Counted.{occurs}
 use Rattle.flow.proofs.Times.{occurs-append, times-append, times-here, times-other, different-apart, same-numbers, same-different, heard-unit, heard-times, found}
 
 -- what a take leaves of a unit

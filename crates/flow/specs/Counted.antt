@@ -1,23 +1,16 @@
 -- Promise: the counters equal that history. Assumes nothing.
-use Prim.Native.Nat.{ℕ, suc, _+_, _<_}
+use Prim.Native.Nat.{ℕ, _+_, _<_}
 use mathlib.Core.Path.{_≡_}
-use mathlib.Core.Bool.{cond}
-use mathlib.Core.List.{List, [], _∷_}
-use lib.Dec.{eqb}
+use mathlib.Core.List.{List}
 use lib.ListN.{length}
 use Rattle.line.specs.declared.Line.{Line}
 use Rattle.document.specs.Events.{Event}
-use Rattle.document.specs.Counters.{Counter, arrived, sent, queued, full, clp, wide, taken, placeOf}
+use Rattle.document.specs.Counters.{Counter, arrived, sent, queued, full, clp, wide, taken, placeOf, occurs}
 use Rattle.document.specs.Shelf.{unitsOf, opened}
 use Rattle.document.specs.Steps.{becomes}
 use Rattle.flow.specs.Parts.{countedAt, arrivedAt, addressedAt}
 use Rattle.flow.specs.Lost.{Different, inAll, happened}
 use Rattle.flow.specs.Order.{over, queuedAll, takenAll, sentAll}
-
--- how often the counter with this place is in a list
-unfoldable pub occurs : List Counter → ℕ → ℕ
-occurs [] k = 0
-occurs (c ∷ cs) k = cond (eqb (placeOf c) k) (suc (occurs cs k)) (occurs cs k)
 
 -- of the unit in place i: each of the thirteen says how often the events counted it there. Some of them in cells: those that arrived, were sent, were queued, were taken; and
 -- "each copy on the bus meets exactly one fate at each unit it addresses"

@@ -13,12 +13,13 @@ use Rattle.queueing.specs.declared.Leaving.the-variants as leaves
 use Rattle.shelf.specs.declared.Found as F
 use Rattle.shelf.specs.declared.Found.the-variants.{At, Nothing}
 use Rattle.line.specs.declared.Line.{Line}
+use Rattle.answer.specs.Answers.{queuedOne}
 use Rattle.document.specs.Counters.{Counter, taken, arrivalCounts, hearingCounts, sentCounts}
 use Rattle.document.specs.Events.{Event, arrive, frame, hear, take as takes·out, count}
 use Rattle.document.specs.Shelf.{Cell, Routed, Unit, Shelf, queueAt, withInlet, findIn, unitAt}
 use Rattle.document.specs.Arrival.{Way, goes, lost, wayOf, arrivalOf}
 use Rattle.document.specs.Hearing.{addressed, hearingOf}
-use Rattle.document.specs.Frame.{asHeard, isQueued, someAddressed}
+use Rattle.document.specs.Frame.{asHeard, someAddressed}
 use Rattle.document.specs.Take.{leaving}
 
 -- it does nothing; a cell arrives; it hears a frame with a payload; it is asked for a cell; it sends its oldest cell, the others wait on, and hears it
@@ -114,7 +115,7 @@ unfoldable pub copyIn : List Line → Unit → H.Heard → List ℕ → ℕ → 
 copyIn lines u frames.Length bytes q = []
 copyIn lines u frames.Damaged bytes q = []
 copyIn lines u (frames.Cell target class header) bytes q =
-    cond (eqb (isQueued (hearingOf lines u (frames.Cell target class header))) 1 && eqb q (queueOf (u .limits) class)) (record { header = header; payload = bytes } ∷ []) []
+    cond (eqb (queuedOne (hearingOf lines u (frames.Cell target class header))) 1 && eqb q (queueOf (u .limits) class)) (record { header = header; payload = bytes } ∷ []) []
 
 unfoldable pub queuedBy : List Line → Unit → Part → ℕ → List Cell
 queuedBy lines u rests q = []

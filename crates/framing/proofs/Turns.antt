@@ -1,8 +1,8 @@
 -- One declared unit at a time. Assumes nothing.
-use Prim.Native.Nat.{ℕ, suc, _+_, _≤_, _<_, min}
+use Prim.Native.Nat.{ℕ, _+_, _≤_, _<_, min}
 use native.Mathlib.Numerals.{add-one}
 use native.Mathlib.Omega.{arith}
-use mathlib.Core.Path.{_≡_, refl, sym, ap, _∙_}
+use mathlib.Core.Path.{_≡_, sym, ap, _∙_}
 use mathlib.Core.Bool.{Bool, _||_}
 use mathlib.Core.List.{List, [], _∷_}
 use lib.ListN.{length, getD, set, drop, drop-of-length-le}
@@ -19,7 +19,8 @@ use Rattle.admit.proofs.Laws.{nowhere}
 use Rattle.hearing.specs.Hearings.{copyOf, storeOf}
 use Rattle.hearing.specs.declared.Copy.{Copy}
 use Rattle.framing.specs.Requests.{asksNow, askingOf}
-use Rattle.framing.specs.Sending.{queuedOne, isAddressed, after, heardFrom, storeFrom}
+use Rattle.answer.specs.Answers.{queuedOne, isAddressed}
+use Rattle.framing.specs.Sending.{after, heardFrom, storeFrom}
 use Rattle.framing.specs.declared.Listened.{Listened}
 
 -- what has been heard so far

@@ -12,30 +12,11 @@ use Rattle.shelf.specs.Shelves.{declared}
 use Rattle.shelf.specs.declared.Unit as U
 use Rattle.shelf.specs.declared.Shelf.{Shelf}
 use Rattle.answer.specs.declared.Hearing as A
-use Rattle.answer.specs.declared.Hearing.the-variants.{Damaged, Other, Wide, Full, Clp, Queued}
-use Rattle.answer.specs.Answers.{#sent, #unheard, hearingRises}
+use Rattle.answer.specs.Answers.{#sent, #unheard, hearingRises, queuedOne, isAddressed}
 use Rattle.admit.specs.Admission.{unitAt, withUnit, withInlet, Housed}
 use Rattle.hearing.specs.Hearings.{copyOf, storeOf}
 use Rattle.hearing.specs.declared.Copy.{Copy}
 use Rattle.framing.specs.declared.Listened.{Listened}
-
--- "copies queued"
-unfoldable pub queuedOne : A.Hearing → ℕ
-queuedOne Damaged = 0
-queuedOne Other = 0
-queuedOne Wide = 0
-queuedOne Full = 0
-queuedOne Clp = 0
-queuedOne Queued = 1
-
--- "a damaged frame addresses none"
-unfoldable pub isAddressed : A.Hearing → Bool
-isAddressed Damaged = false
-isAddressed Other = false
-isAddressed Wide = true
-isAddressed Full = true
-isAddressed Clp = true
-isAddressed Queued = true
 
 -- nothing is heard yet
 abbrev pub silence : Shelf → Listened

@@ -14,8 +14,9 @@ ghost use mathlib.Core.Path.{_≡_};
 ghost use Prim.Native.Nat.{_<_, _≤_};
 ghost use lib.ListN.{length};
 ghost use Rattle.shelf.specs.Shelves.{declared};
+ghost use Rattle.answer.specs.Answers.{queuedOne, isAddressed};
 ghost use Rattle.framing.specs.Requests.{askingNow, requests};
-ghost use Rattle.framing.specs.Sending.{queuedOne, isAddressed, silence as silenceOf, heardByAll, heardStore, sentRises, sentBy, sentStore, sentFrame, AllHoused};
+ghost use Rattle.framing.specs.Sending.{silence as silenceOf, heardByAll, heardStore, sentRises, sentBy, sentStore, sentFrame, AllHoused};
 ghost use Rattle.framing.specs.Frames.{listenedOf, doneAt, storeAt, bufferAt, frameDone, frameStore, frameBuffer};
 
 // The shelf after a frame, the counters that rise at each declared unit, how many copies were queued, whether some unit was addressed.

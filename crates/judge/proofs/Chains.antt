@@ -10,7 +10,7 @@ use Rattle.card.specs.declared.Card.{Card}
 use Rattle.card.specs.declared.Ask.the-variants.{On, Out}
 use Rattle.record.specs.Record.{size}
 use Rattle.record.specs.declared.Got.{Got}
-use Rattle.shelf.specs.Shelves.{declared, findIn}
+use Rattle.shelf.specs.Shelves.{declared, findIn, isAt}
 use Rattle.shelf.specs.declared.Unit as U
 use Rattle.shelf.specs.declared.Shelf.{Shelf}
 use Rattle.shelf.specs.declared.Found.{Found}
@@ -24,7 +24,7 @@ use Rattle.verdict.specs.declared.Verdict.the-variants.{Fine, Order, Twice, Wid
 use Rattle.verdict.specs.Verdicts.{asked, roomFor, offBus, taken, pageIn}
 use Rattle.judge.specs.Judge.{judgeBus, judgeUnit, judgeVp, judgeDrop, judgePage, judgeVc}
 use Rattle.verdict.specs.Owners.{ownerAt, ownerOf, ownedBy, spot}
-use Rattle.judge.specs.Standing.{second, isAt, judgeFirst, judgeAt}
+use Rattle.judge.specs.Standing.{second, judgeFirst, judgeAt}
 
 -- by the owner
 pub nobody : (o : Owner) (f : U.Unit → Verdict) → not (o .known) ≡ true → Order 2 ≡ ownedBy o f

@@ -1,18 +1,16 @@
 -- What stands in the shelf and in a memory that a line is judged by. Assumes nothing.
 use Prim.Native.Nat.{ℕ, _+_, _*_}
-use mathlib.Core.Bool.{Bool, true, false, cond}
+use mathlib.Core.Bool.{Bool, cond}
 use Rattle.routing.specs.declared.Target.{Target}
 use Rattle.card.specs.declared.Card.{Card}
 use Rattle.card.specs.declared.Ask.the-variants.{Bus as A·Bus}
 use Rattle.record.specs.Record.{size}
 use Rattle.record.specs.declared.Got.{Got}
 use Rattle.record.specs.declared.Got.the-variants.{Nothing as Got·Nothing}
-use Rattle.shelf.specs.Shelves.{declared, findIn}
+use Rattle.shelf.specs.Shelves.{declared, findIn, isAt}
 use Rattle.shelf.specs.Sessions.{hears}
 use Rattle.shelf.specs.declared.Unit as U
 use Rattle.shelf.specs.declared.Shelf.{Shelf}
-use Rattle.shelf.specs.declared.Found.{Found}
-use Rattle.shelf.specs.declared.Found.the-variants.{At, Nothing}
 use Rattle.line.specs.declared.Line.{Line}
 use Rattle.line.specs.declared.Line.the-variants.{Bus, Unit as L·Unit, Vp, Drop, Page, Vc, Mc}
 use Rattle.verdict.specs.declared.Paged.{Paged}
@@ -25,10 +23,6 @@ use Rattle.judge.specs.Judge.{judgeBus, judgeUnit, judgeVp, judgeDrop, j
 -- what stands in a page's record for a VCI; nothing where there is no page
 abbrev pub second : (ℕ → Got) → Paged → ℕ → Got
 second stands page vci = cond (page .known) (stands (page .place + size * vci)) Got·Nothing
-
-abbrev pub isAt : Found → Bool
-isAt (At i) = true
-isAt Nothing = false
 
 -- a `vc` line at a declared unit
 abbrev pub judgeVcAt : Card → ℕ → (ℕ → Got) → U.Unit → ℕ → ℕ → Target → ℕ → Verdict

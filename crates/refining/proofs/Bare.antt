@@ -22,7 +22,7 @@ use Rattle.document.specs.Events.{Event, arrive, frame, hear, take as takes, co
 use Rattle.document.specs.Shelf as D
 use Rattle.running.specs.Events.{World, happens}
 use Rattle.running.specs.Keeping.{soundIn, run}
-use Rattle.running.specs.Refusing.{there, known, fits}
+use Rattle.running.specs.Refusing.{known, fits}
 use Rattle.running.proofs.Refused.{refusal-changes-nothing}
 use Rattle.running.proofs.Tables.{refused-table-zeroes}
 use Rattle.refining.specs.Refines.{gives, RefinesRefused}
@@ -30,9 +30,9 @@ use Rattle.refining.proofs.Alike.{WorldAlike}
 use Rattle.refining.proofs.Refined.{gives-alike}
 
 -- nobody is found
-not-there : (shelf : Shelf) → shelf .count ≡ 0 → (unit : ℕ) → findIn (declared shelf) unit ≡ Nothing
+not-isAt : (shelf : Shelf) → shelf .count ≡ 0 → (unit : ℕ) → findIn (declared shelf) unit ≡ Nothing
 unfolding findIn placeFrom
-not-there shelf none unit = ap (λ n. findIn (take n (shelf .units)) unit) none
+not-isAt shelf none unit = ap (λ n. findIn (take n (shelf .units)) unit) none
 
 -- what an event leaves: no unit still, and all the rest as it was
 record Same (w v : World) : Type 0 where
@@ -48,10 +48,10 @@ unknown false k f e z = omega arith
 
 module _ (card : Card) (w : World) (none : w .shelf .count ≡ 0) where
   -- an event at a unit is refused
-  at-nobody : (e : Event) (unit : ℕ) → known (w .shelf) e ≡ there (findIn (declared (w .shelf)) unit) → Same w (happens card w e .world)
-  unfolding there
+  at-nobody : (e : Event) (unit : ℕ) → known (w .shelf) e ≡ isAt (findIn (declared (w .shelf)) unit) → Same w (happens card w e .world)
+  unfolding isAt
   at-nobody e unit k =
-      subst (Same w) (sym (ap (λ o. o .world) (refusal-changes-nothing card w e (unknown (soundIn card w) (known (w .shelf) e) (fits e) (k ∙ ap there (not-there (w .shelf) none unit))))))
+      subst (Same w) (sym (ap (λ o. o .world) (refusal-changes-nothing card w e (unknown (soundIn card w) (known (w .shelf) e) (fits e) (k ∙ ap isAt (not-isAt (w .shelf) none unit))))))
       (record { none = none; memory = refl; store = refl; rows = refl })
 
   -- a frame is idle
@@ -67,7 +67,7 @@ module _ (card : Card) (w : World) (none : w .shelf .count ≡ 0) where
   stays : (e : Event) → Same w (happens card w e .world)
   unfolding happens known framing.checked
   stays (arrive unit cell) = at-nobody (arrive unit cell) unit refl
-  stays (frame buffer) = framed (soundIn card w) (eqb (length buffer) 57) (framing.sender (w .shelf)) (not-there (w .shelf) none (w .shelf .granted))
+  stays (frame buffer) = framed (soundIn card w) (eqb (length buffer) 57) (framing.sender (w .shelf)) (not-isAt (w .shelf) none (w .shelf .granted))
   stays (hear unit heard) = at-nobody (hear unit heard) unit refl
   stays (takes unit buffer) = at-nobody (takes unit buffer) unit refl
   stays (count unit) = at-nobody (count unit) unit refl

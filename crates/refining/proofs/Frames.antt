@@ -33,9 +33,8 @@ use Rattle.line.specs.declared.Line.{Line}
 use Rattle.soundness.specs.State.{soundOf}
 use Rattle.soundness.proofs.Facts.{sound-iff}
 use Rattle.answer.specs.declared.Hearing as A
-use Rattle.answer.specs.declared.Hearing.the-variants.{Damaged, Other, Wide, Full, Clp, Queued}
 use Rattle.answer.specs.declared.Answer.the-variants.{Framed}
-use Rattle.answer.specs.Answers.{hearingRises}
+use Rattle.answer.specs.Answers.{hearingRises, queuedOne, isAddressed}
 use Rattle.admit.specs.Admission.{unitAt, withUnit, withInlet, Housed}
 use Rattle.admit.proofs.Laws.{sound-housed}
 use Rattle.hearing.specs.Hearings as hearing
@@ -196,25 +195,6 @@ module _ (h : H.Heard) where
 sets-at : {X : Type 0} (vs l : List X) (k : ℕ) (x : X) → length vs ≤ length l → k < length vs → getD (sets l 0 vs) k x ≡ getD vs k x
 sets-at vs l k x fits few = ap (λ m. getD m k x) (sets-eq vs l 0 (omega arith)) ∙ List·getD-append vs (drop (0 + length vs) l) x k few
 
--- copies are counted alike, and so is who is addressed
-queued-same : (f : A.Hearing) → sending.queuedOne f ≡ page.isQueued f
-unfolding sending.queuedOne page.isQueued
-queued-same Damaged = refl
-queued-same Other = refl
-queued-same Wide = refl
-queued-same Full = refl
-queued-same Clp = refl
-queued-same Queued = refl
-
-addressed-same : (f : A.Hearing) → sending.isAddressed f ≡ page.isAddressed f
-unfolding sending.isAddressed page.isAddressed
-addressed-same Damaged = refl
-addressed-same Other = refl
-addressed-same Wide = refl
-addressed-same Full = refl
-addressed-same Clp = refl
-addressed-same Queued = refl
-
 -- one of three, from the left or from the right
 either : (a b c : Bool) → ((a || b) || c) ≡ (a || (b || c))
 either true b c = refl
@@ -233,7 +213,7 @@ module _ (card : Card) (memory : List ℕ) (lines : List Line) (store : List ℕ
   unfolding sending.heardFrom page.copies
   copies-alike none l = omega arith
   copies-alike {place} (more {u = u} {d = d} {ds = ds} x rest) l =
-      let f = queued-same (hearing.copyOf u (page.asHeard r) .fate) ∙ ap page.isQueued (copy-fates place u d x) in
+      let f = ap queuedOne (copy-fates place u d x) in
       let e = copies-alike rest (sending.after place (hearing.copyOf u (page.asHeard r)) l) in
       omega arith
 
@@ -248,8 +228,8 @@ module _ (card : Card) (memory : List ℕ) (lines : List Line) (store : List ℕ
       or-false false = refl
   addressed-alike {place} (more {u = u} {d = d} {ds = ds} x rest) l =
       addressed-alike rest (sending.after place (hearing.copyOf u (page.asHeard r)) l)
-      ∙ ap (λ b. (l .addressed || b) || page.someAddressed lines ds r) (addressed-same (hearing.copyOf u (page.asHeard r) .fate) ∙ ap page.isAddressed (copy-fates place u d x))
-      ∙ either (l .addressed) (page.isAddressed (paper.hearingOf lines d (page.asHeard r))) (page.someAddressed lines ds r)
+      ∙ ap (λ b. (l .addressed || b) || page.someAddressed lines ds r) (ap isAddressed (copy-fates place u d x))
+      ∙ either (l .addressed) (isAddressed (paper.hearingOf lines d (page.asHeard r))) (page.someAddressed lines ds r)
 
   -- what rises in each row
   rises-alike : {place : ℕ} {us : List U.Unit} {ds : List D.Unit} → Both card memory lines store place us ds → (k : ℕ) → k < length ds →

@@ -24,18 +24,13 @@ use Rattle.counters.specs.declared.Counters as C
 use Rattle.counters.proofs.Settling.{raised-value, settled-row, settled-ahead, settled-behind}
 use Rattle.framing.specs.Sending.{sentRises}
 use Rattle.told.proofs.Grown.{decide}
-use Rattle.document.specs.Counters.{Counter, arrived, hec, ignored, misrouted, inletfull, sent, unheard, damaged, queued, full, clp, wide, taken, placeOf, Entry, entries, matches, times, counterOf, arrivalCounts, hearingCounts, sentCounts}
+use Rattle.document.specs.Counters.{Counter, arrived, hec, ignored, misrouted, inletfull, sent, unheard, damaged, queued, full, clp, wide, taken, placeOf, Entry, entries, matches, times, counterOf, arrivalCounts, hearingCounts, sentCounts, occurs}
 use Rattle.document.specs.Shelf as D
 use Rattle.document.specs.Hearing.{hearingOf, keeping, hearingUnit}
 use Rattle.document.specs.Frame.{asHeard, allHear, someAddressed, heardEntries}
 use Rattle.refining.proofs.Alike.{RowAlike}
 
 -- A. how often something stands in a history
--- how often the counter with this place is in a list
-unfoldable pub occurs : List Counter → ℕ → ℕ
-occurs [] k = 0
-occurs (c ∷ cs) k = cond (eqb (placeOf c) k) (suc (occurs cs k)) (occurs cs k)
-
 -- one more or not, before a sum and in its first part
 plus : (b : Bool) (m n : ℕ) → cond b (suc (m + n)) (m + n) ≡ cond b (suc m) m + n
 plus true m n = omega arith

@@ -7,7 +7,7 @@ use lib.Dec.{eqb}
 use lib.ListN.{length}
 use borrow.Author.Tests.{eqb-true}
 use Rattle.card.specs.declared.Card.{Card}
-use Rattle.shelf.specs.Shelves.{declared, findIn}
+use Rattle.shelf.specs.Shelves.{declared, findIn, isAt}
 use Rattle.shelf.specs.declared.Shelf.{Shelf}
 use Rattle.shelf.specs.declared.Found as F
 use Rattle.shelf.specs.declared.Found.the-variants as found
@@ -34,7 +34,7 @@ use Rattle.answer.specs.declared.Arrival.the-variants.{Inletfull, Queued}
 use Rattle.answer.specs.declared.Answer.the-variants as answer
 use Rattle.document.specs.Events.{Event, arrive, frame, hear, take, count, bytesOf, answers, numberSaid}
 use Rattle.running.specs.Events.{World, Outcome, ended, countSaid, happens}
-use Rattle.running.specs.Refusing.{there, known, fits, refusal, RefusedIff, RefusalChangesNothing}
+use Rattle.running.specs.Refusing.{known, fits, refusal, RefusedIff, RefusalChangesNothing}
 
 -- an event that is refused, or let in
 unfoldable numberBy : A.Admitted → ℕ
@@ -42,8 +42,8 @@ numberBy (At place) = 0
 numberBy (Refused number) = number
 
 -- State, Unit, Length, in that order
-in-order : (s : Bool) (f : F.Found) (r : Bool) → numberBy (cond s (atUnit f r) (Refused 8)) ≡ cond s (cond (there f) (cond r 0 10) 9) 8
-unfolding atUnit there numberBy
+in-order : (s : Bool) (f : F.Found) (r : Bool) → numberBy (cond s (atUnit f r) (Refused 8)) ≡ cond s (cond (isAt f) (cond r 0 10) 9) 8
+unfolding atUnit numberBy
 in-order true (found.At place) true = refl
 in-order true (found.At place) false = refl
 in-order true found.Nothing r = refl
@@ -137,7 +137,7 @@ module _ (card : Card) (w : World) where
   abbrev let-in : ℕ → Bool → A.Admitted
   let-in unit right = admitted card (w .shelf) (length (w .store)) (length (w .rows)) unit right
 
-  by-order : (unit : ℕ) (right : Bool) → numberBy (let-in unit right) ≡ cond sound (cond (there (findIn (declared (w .shelf)) unit)) (cond right 0 10) 9) 8
+  by-order : (unit : ℕ) (right : Bool) → numberBy (let-in unit right) ≡ cond sound (cond (isAt (findIn (declared (w .shelf)) unit)) (cond right 0 10) 9) 8
   unfolding admitted
   by-order unit right = in-order sound (findIn (declared (w .shelf)) unit) right
 

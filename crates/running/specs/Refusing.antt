@@ -1,30 +1,25 @@
 -- Demand 1 over every event: "A bad .. frame, cell, buffer or shelf state is refused with a fixed number"; "every other refusal changes nothing". Assumes nothing.
 use Prim.Native.Nat.{ℕ}
 use mathlib.Core.Path.{_≡_}
-use mathlib.Core.Bool.{Bool, true, false, cond}
+use mathlib.Core.Bool.{Bool, true, cond}
 use lib.Dec.{eqb}
 use lib.ListN.{length}
 use Rattle.card.specs.declared.Card.{Card}
-use Rattle.shelf.specs.Shelves.{declared, findIn}
+use Rattle.shelf.specs.Shelves.{declared, findIn, isAt}
 use Rattle.shelf.specs.declared.Shelf.{Shelf}
 use Rattle.shelf.specs.declared.Found as F
-use Rattle.shelf.specs.declared.Found.the-variants.{At, Nothing}
 use Rattle.soundness.specs.State.{soundOf}
 use Rattle.answer.specs.declared.Answer.the-variants.{Refused}
 use Rattle.document.specs.Events.{Event, arrive, frame, hear, take, count, bytesOf, answers, numberSaid}
 use Rattle.running.specs.Events.{World, happens}
 
-unfoldable pub there : F.Found → Bool
-there (At place) = true
-there Nothing = false
-
 -- "9 Unit: unit not declared"; a frame names none
 unfoldable pub known : Shelf → Event → Bool
-known shelf (arrive unit cell) = there (findIn (declared shelf) unit)
+known shelf (arrive unit cell) = isAt (findIn (declared shelf) unit)
 known shelf (frame buffer) = true
-known shelf (hear unit heard) = there (findIn (declared shelf) unit)
-known shelf (take unit buffer) = there (findIn (declared shelf) unit)
-known shelf (count unit) = there (findIn (declared shelf) unit)
+known shelf (hear unit heard) = isAt (findIn (declared shelf) unit)
+known shelf (take unit buffer) = isAt (findIn (declared shelf) unit)
+known shelf (count unit) = isAt (findIn (declared shelf) unit)
 
 -- "10 Length: cell slice or buffer not 53 bytes, frame not 57"
 unfoldable pub fits : Event → Bool

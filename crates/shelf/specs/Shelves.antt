@@ -1,7 +1,7 @@
 -- The state of a shelf: its declared units, a fresh one, which unit has a number. Assumes nothing.
 use Prim.Native.Nat.{ℕ, suc, _<_}
 use mathlib.Core.Path.{_≡_}
-use mathlib.Core.Bool.{false, cond}
+use mathlib.Core.Bool.{Bool, true, false, cond}
 use mathlib.Core.List.{List, [], _∷_, map}
 use lib.Dec.{eqb}
 use lib.ListN.{length, getD, take, replicate}
@@ -52,6 +52,11 @@ placeFrom i (n ∷ ns) number = cond (eqb n number) (At i) (placeFrom (suc i) ns
 
 unfoldable pub findIn : List U.Unit → ℕ → Found
 findIn units number = placeFrom 0 (numbers units) number
+
+-- whether it was found
+abbrev pub isAt : Found → Bool
+isAt (At i) = true
+isAt Nothing = false
 
 -- a unit with this number stands at this place, and none does before it
 pub record FoundAt (units : List U.Unit) (number i : ℕ) : Type 0 where

@@ -16,7 +16,7 @@ use Rattle.record.specs.declared.Record as R
 use Rattle.record.specs.declared.Record.the-variants.{Empty, Drop as R·Drop, Route, Page as R·Page}
 use Rattle.record.specs.declared.Got.{Got}
 use Rattle.record.specs.declared.Got.the-variants.{Is}
-use Rattle.shelf.specs.Shelves.{blank, declared, findIn}
+use Rattle.shelf.specs.Shelves.{blank, declared, findIn, isAt}
 use Rattle.shelf.specs.declared.Unit as U
 use Rattle.shelf.specs.declared.Found.the-variants.{Nothing}
 use Rattle.line.specs.declared.Line.{Line}
@@ -28,7 +28,7 @@ use Rattle.judge.specs.Judge.{inPage, judgeUnit, judgeVp, judgeDrop, judgePage,
 use Rattle.told.specs.Told.{Whose, ofUnit, ofPage, opens, gives, topOf, total, recordOf, shelfOf, memoryOf}
 use Rattle.told.specs.Lines.{started, isFirst, owned, isDeclared, judge}
 use Rattle.verdict.specs.Owners.{ownerAt, ownerOf, ownedBy, spot}
-use Rattle.judge.specs.Standing.{second, isAt, judgeAt}
+use Rattle.judge.specs.Standing.{second, judgeAt}
 use Rattle.told.specs.Enact.{putBy, putIn, putVc, memoryBy}
 use Rattle.told.proofs.Regions.{start}
 use Rattle.told.proofs.Fits.{fine-unit, fine-vp, fine-drop, fine-page, fine-vc}

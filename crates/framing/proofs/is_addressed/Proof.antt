@@ -1,5 +1,5 @@
 -- `framing::is_addressed` meets its contract. Assumes nothing.
-use Rattle.framing.specs.Sending.{isAddressed}
+use Rattle.answer.specs.Answers.{isAddressed}
 use borrow.Author.Needs.{needs}
 use Rattle.framing.proofs.is_addressed.Statement.{statement}
 use Rattle.framing.proofs.is_addressed.Tie as tie

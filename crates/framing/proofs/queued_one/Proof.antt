@@ -1,5 +1,5 @@
 -- `framing::queued_one` meets its contract. Assumes nothing.
-use Rattle.framing.specs.Sending.{queuedOne}
+use Rattle.answer.specs.Answers.{queuedOne}
 use mathlib.Core.Path.{sym, ap}
 use native.Mathlib.Omega.{arith}
 use borrow.Author.Needs.{needs}
