@@ -2,7 +2,7 @@
 use Prim.Native.Nat.{ℕ, _+_, _%_, _≤_, _<_}
 use native.Mathlib.Omega.{arith}
 use mathlib.Core.Path.{_≡_, refl, sym, ap, subst, _∙_}
-use mathlib.Core.Logic.{⊎-elim}
+use mathlib.Core.Logic.{_↔_, ⊎-elim}
 use mathlib.Core.Bool.{Bool, true, false, cond}
 use mathlib.Core.List.{List, [], _∷_, List·Memᴰ as In, List·Memᴰ·head}
 use lib.Dec.{eqb}
@@ -20,7 +20,11 @@ use Rattle.bus.specs.Frame.{heard}
 use Rattle.bus.specs.declared.Heard.the-variants as frames
 use Rattle.bus.proofs.Laws.{heard-length}
 use Rattle.routing.specs.declared.Target.{Target}
-use Rattle.queueing.specs.Hearing.{TooWide}
+use Rattle.outlet.specs.declared.Mode.{Mode}
+use Rattle.outlet.specs.declared.Mode.the-variants.{One, Four}
+use Rattle.outlet.proofs.Truth.{le-iff, and-iff, or-iff}
+use Rattle.queueing.specs.Hearing.{limit, TooWide}
+use Rattle.queueing.proofs.Fates.{limit-in}
 use Rattle.queueing.specs.Taking.{marked, outgoing}
 use Rattle.queueing.specs.declared.Leaving as L
 use Rattle.queueing.specs.declared.Leaving.the-variants as leaves
@@ -30,13 +34,13 @@ use Rattle.line.specs.declared.Line.{Line}
 use Rattle.told.proofs.Grown.{decide}
 use Rattle.document.specs.Arrival.{headerOf}
 use Rattle.document.specs.Events.{Event, take}
-use Rattle.document.specs.Shelf.{Cell, Unit, queueAt, unitAt, opened}
-use Rattle.document.specs.Take.{leaving}
+use Rattle.document.specs.Shelf.{Cell, Unit, queueAt, held, unitAt, opened}
+use Rattle.document.specs.Take.{leaving, atLimit, congested, marks}
 use Rattle.document.proofs.Fixed.{given-stays}
 use Rattle.flow.specs.Parts.{Part, rests, arrives, hears, takes, sends, partOf, oldestIn, takenBy}
 use Rattle.flow.specs.Order.{HandedOut}
 use Rattle.flow.specs.Street.{declaredAt, CameFrom, by-bus, by-hand}
-use Rattle.flow.specs.Out.{reached, out, linkAt, marksAt, ReadsAs, RightlyTaken, TakenRight, LineDelivered, SentRight}
+use Rattle.flow.specs.Out.{reached, out, linkAt, heldAt, Crowded, Marks, ReadsAs, RightlyTaken, TakenRight, LineDelivered, SentRight}
 use Rattle.flow.proofs.Kept.{given-at, number-at, as-many, still-different}
 use Rattle.flow.proofs.Streets.{right-street}
 use Rattle.flow.proofs.Follows.{payload-kept, line-followed}
@@ -108,6 +112,20 @@ reads-back link mark c bytes narrow full e =
       payload-is = ap (drop 5) e;
     }
 
+-- a unit marks the cell that leaves it exactly when 01 says so
+at-limit-iff : (u : Unit) (q n : ℕ) → limit (u .limits) q ≡ n → (atLimit u q ≡ true) ↔ (n ≤ held u q)
+at-limit-iff u q n e = rw e (le-iff n (held u q))
+
+marks-when : (u : Unit) → (marks u ≡ true) ↔ Marks (u .limits) (held u)
+unfolding congested
+marks-when u = and-iff (λ e. e, λ e. e) (go (u .limits .mode) refl)
+  where
+    go : (mode : Mode) → u .limits .mode ≡ mode → (congested mode u ≡ true) ↔ Crowded mode (u .limits) (held u)
+    go One e = at-limit-iff u 0 (u .limits .vbrlimit) (limit-in (u .limits) 0 One e)
+    go Four e =
+        or-iff (at-limit-iff u 1 (u .limits .cbrlimit) (limit-in (u .limits) 1 Four e))
+        (at-limit-iff u 2 (u .limits .vbrlimit) (limit-in (u .limits) 2 Four e))
+
 module _ (lines : List Line) (es : List Event) where
   -- there are as many units as the lines declare, with their numbers
   many : length (reached lines es .units) ≡ length (opened lines .units)
@@ -132,8 +150,10 @@ module _ (lines : List Line) (es : List Event) where
         oldest = o .1;
         origin = origin;
         bytes = h .bytes;
-        reads = reads-back (linkAt lines (h .place)) (marksAt lines es (h .place)) (h .cell) (out lines es unit buffer) (not-wide lines es (h .place) (h .queue) (h .cell) origin) (payload-length lines es (h .place) (h .queue) (h .cell) origin)
-            (h .bytes ∙ ap (λ g. lineCell (outgoing (g .settings .link) (marksAt lines es (h .place)) (h .cell .header)) (h .cell .payload)) (given-at (opened lines) d (given-stays (opened lines) es) (h .place)));
+        mark = marks (unitAt d (h .place));
+        marks-iff = subst (λ g. (marks (unitAt d (h .place)) ≡ true) ↔ Marks (g .limits) (heldAt lines es (h .place))) (given-at (opened lines) d (given-stays (opened lines) es) (h .place)) (marks-when (unitAt d (h .place)));
+        reads = reads-back (linkAt lines (h .place)) (marks (unitAt d (h .place))) (h .cell) (out lines es unit buffer) (not-wide lines es (h .place) (h .queue) (h .cell) origin) (payload-length lines es (h .place) (h .queue) (h .cell) origin)
+            (h .bytes ∙ ap (λ g. lineCell (outgoing (g .settings .link) (marks (unitAt d (h .place))) (h .cell .header)) (h .cell .payload)) (given-at (opened lines) d (given-stays (opened lines) es) (h .place)));
       }
 
 -- every take
@@ -152,7 +172,7 @@ line-delivered lines good es unit buffer t place r a same =
       reads =
           record {
             whole = t .reads .whole;
-            header = t .reads .header ∙ (λ i. record { gfc = 0; vpi = e i .vpi; vci = e i .vci; pt = marked (marksAt lines es (t .place)) (e i .pt); clp = e i .clp });
+            header = t .reads .header ∙ (λ i. record { gfc = 0; vpi = e i .vpi; vci = e i .vci; pt = marked (t .mark) (e i .pt); clp = e i .clp });
             checked = t .reads .checked;
             payload-is = t .reads .payload-is ∙ ap (λ c. c .payload) same ∙ f .payload;
           };

@@ -8,7 +8,7 @@ use lib.Dec.{eqb}
 use lib.ListN.{length, take}
 use Rattle.card.specs.declared.Card.{Card}
 use Rattle.record.specs.Record.{cleared}
-use Rattle.shelf.specs.Shelves.{declared, findIn, placeFrom, fresh}
+use Rattle.shelf.specs.Shelves.{declared, findIn, placeFrom, fresh, isAt}
 use Rattle.shelf.specs.declared.Found.{Found}
 use Rattle.shelf.specs.declared.Found.the-variants.{At, Nothing}
 use Rattle.shelf.specs.declared.Shelf.{Shelf}
@@ -30,9 +30,9 @@ use Rattle.refining.proofs.Alike.{WorldAlike}
 use Rattle.refining.proofs.Refined.{gives-alike}
 
 -- nobody is found
-not-isAt : (shelf : Shelf) → shelf .count ≡ 0 → (unit : ℕ) → findIn (declared shelf) unit ≡ Nothing
+not-there : (shelf : Shelf) → shelf .count ≡ 0 → (unit : ℕ) → findIn (declared shelf) unit ≡ Nothing
 unfolding findIn placeFrom
-not-isAt shelf none unit = ap (λ n. findIn (take n (shelf .units)) unit) none
+not-there shelf none unit = ap (λ n. findIn (take n (shelf .units)) unit) none
 
 -- what an event leaves: no unit still, and all the rest as it was
 record Same (w v : World) : Type 0 where
@@ -49,9 +49,8 @@ unknown false k f e z = omega arith
 module _ (card : Card) (w : World) (none : w .shelf .count ≡ 0) where
   -- an event at a unit is refused
   at-nobody : (e : Event) (unit : ℕ) → known (w .shelf) e ≡ isAt (findIn (declared (w .shelf)) unit) → Same w (happens card w e .world)
-  unfolding isAt
   at-nobody e unit k =
-      subst (Same w) (sym (ap (λ o. o .world) (refusal-changes-nothing card w e (unknown (soundIn card w) (known (w .shelf) e) (fits e) (k ∙ ap isAt (not-isAt (w .shelf) none unit))))))
+      subst (Same w) (sym (ap (λ o. o .world) (refusal-changes-nothing card w e (unknown (soundIn card w) (known (w .shelf) e) (fits e) (k ∙ ap isAt (not-there (w .shelf) none unit))))))
       (record { none = none; memory = refl; store = refl; rows = refl })
 
   -- a frame is idle
@@ -67,7 +66,7 @@ module _ (card : Card) (w : World) (none : w .shelf .count ≡ 0) where
   stays : (e : Event) → Same w (happens card w e .world)
   unfolding happens known framing.checked
   stays (arrive unit cell) = at-nobody (arrive unit cell) unit refl
-  stays (frame buffer) = framed (soundIn card w) (eqb (length buffer) 57) (framing.sender (w .shelf)) (not-isAt (w .shelf) none (w .shelf .granted))
+  stays (frame buffer) = framed (soundIn card w) (eqb (length buffer) 57) (framing.sender (w .shelf)) (not-there (w .shelf) none (w .shelf .granted))
   stays (hear unit heard) = at-nobody (hear unit heard) unit refl
   stays (takes unit buffer) = at-nobody (takes unit buffer) unit refl
   stays (count unit) = at-nobody (count unit) unit refl
