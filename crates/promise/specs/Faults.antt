@@ -21,7 +21,7 @@ use Rattle.promise.specs.Says.{Declares, Uses, HasUnit, HasTarget, HasVp
 abbrev pub Before : List Line → (Line → Type 0) → Type 0
 Before told P = (l : Line) × In l told × P l
 
--- "3 Order": a line after those told before it
+-- "3 Order", of a line after those told before it, the latest of them first
 pub data OutOfOrder (told : List Line) (l : Line) : Type 0 where
   -- "first line is not `bus`"
   first-not-bus : told ≡ [] → ((bus : ℕ) → l ≡ Bus bus → ⊥) → OutOfOrder told l
@@ -40,7 +40,7 @@ pub data OutOfOrder (told : List Line) (l : Line) : Type 0 where
   -- "or above its top VCI"
   vci-above : (u vpi vci top : ℕ) → IsVc u vpi vci l → In (Page u vpi top) told → top < vci → OutOfOrder told l
 
--- "4 Twice"
+-- "4 Twice", of the same
 pub data Again (told : List Line) (l : Line) : Type 0 where
   -- "unit declared again"
   unit-again : (u top top₁ : ℕ) → Declares u top l → Before told (Declares u top₁) → Again told l
@@ -51,21 +51,21 @@ pub data Again (told : List Line) (l : Line) : Type 0 where
   -- "same `mc`"
   mc-again : (u session : ℕ) → l ≡ Mc u session → In (Mc u session) told → Again told l
 
--- "records so far exceed the memory or 262,144 bytes", "8 bytes a record"
+-- the records of these lines exceed "the memory or 262,144 bytes", at "8 bytes a record"
 abbrev pub Exceeds : List ℕ → List Line → Type 0
 Exceeds memory told = (length memory < size * total told) ⊎ (262144 < size * total told)
 
 -- the condition for a number, of a line after those told before it
 pub data Condition (card : Card) (memory : List ℕ) (told : List Line) (r : Reading) (number : ℕ) : Type 0 where
-  -- "2 Form": a line that cannot be read
+  -- "2 Form: unknown word, wrong field count, field outside its range, missing final newline, empty text (line 1)": a line that cannot be read
   form : (wrong : Wrong) → r ≡ Bad wrong → number ≡ 2 → Condition card memory told r number
-  -- "3 Order"
+  -- "3 Order", as above
   order : (l : Line) → r ≡ Read l → OutOfOrder told l → number ≡ 3 → Condition card memory told r number
-  -- "4 Twice"
+  -- "4 Twice", as above
   twice : (l : Line) → r ≡ Read l → Again told l → number ≡ 4 → Condition card memory told r number
-  -- "5 Wide": "narrow card only"
+  -- "5 Wide: narrow card only: `bus` 32, `nni`, or outgoing VPI above 255"
   wide : (l : Line) → r ≡ Read l → card ≡ Narrow → IsWide l → number ≡ 5 → Condition card memory told r number
-  -- "6 Room"
+  -- "6 Room: records so far exceed the memory or 262,144 bytes": those of this line too
   room : (l : Line) → r ≡ Read l → Exceeds memory (l ∷ told) → number ≡ 6 → Condition card memory told r number
 
 -- no condition holds of any of these lines, each after those before it; the latest comes first
