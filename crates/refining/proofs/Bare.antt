@@ -1,5 +1,5 @@
 -- After a refused load: a bus without units, which is the document's without a line. Assumes nothing.
-use Prim.Native.Nat.{ℕ, _<_}
+use Prim.Native.Nat.{ℕ}
 use native.Mathlib.Omega.{arith}
 use mathlib.Core.Path.{_≡_, refl, sym, ap, subst, _∙_}
 use mathlib.Core.Bool.{Bool, true, false, cond, false≢true}
@@ -16,15 +16,13 @@ use Rattle.soundness.specs.State.{soundOf}
 use Rattle.counters.specs.Counting.{settled, settledTo}
 use Rattle.counters.specs.declared.Counters as C
 use Rattle.answer.specs.Answers.{refused}
-use Rattle.answer.specs.declared.Done.{Done}
 use Rattle.framing.specs.Frames as framing
-use Rattle.promise.specs.Refusals.{Refuses}
 use Rattle.promise.proofs.Loads.{load-sound}
 use Rattle.document.specs.Events.{Event, arrive, frame, hear, take as takes, count}
 use Rattle.document.specs.Shelf as D
 use Rattle.running.specs.Events.{World, happens}
-use Rattle.running.specs.Keeping.{soundIn, run, loaded}
-use Rattle.running.specs.Refusing.{there, known, fits, refusal}
+use Rattle.running.specs.Keeping.{soundIn, run}
+use Rattle.running.specs.Refusing.{there, known, fits}
 use Rattle.running.proofs.Refused.{refusal-changes-nothing}
 use Rattle.running.proofs.Tables.{refused-table-zeroes}
 use Rattle.refining.specs.Refines.{gives, RefinesRefused}

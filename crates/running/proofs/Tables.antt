@@ -6,25 +6,23 @@ use mathlib.Core.Path.{_≡_, refl, sym, ap, ap₂, subst, _∙_}
 use mathlib.Core.Bool.{true}
 use mathlib.Core.List.{List, [], _∷_, _++_, append-assoc, append-nil}
 use mathlib.Core.Option.{Option, none, some}
-use lib.ListN.{length, getD, set, drop, replicate, length-append, length-drop, length-replicate, length-set, getD-replicate, replicate-append-replicate, List·getD-append}
-use lib.Seq.{drop-cons, getD-append-add, getD-drop, getD-set-same, getD-set-other, set-at}
-use Rattle.octets.specs.Octets.{part}
+use lib.ListN.{length, getD, set, drop, replicate, length-append, length-drop, length-replicate, getD-replicate, replicate-append-replicate, List·getD-append}
+use lib.Seq.{drop-cons, getD-append-add, getD-drop, set-at}
 use Rattle.octets.proofs.Parts.{get-at}
 use Rattle.card.specs.declared.Card.{Card}
-use Rattle.record.specs.Record.{size, most, usable, bytesOf, image}
+use Rattle.record.specs.Record.{size, usable, bytesOf, image}
 use Rattle.record.specs.declared.Record as R
 use Rattle.record.specs.declared.Record.the-variants.{Empty}
 use Rattle.record.proofs.Laws.{bytes-length, image-length}
 use Rattle.outlet.specs.Outlets.{empty}
-use Rattle.shelf.specs.Shelves.{unit, blank, fresh, declared, findIn}
+use Rattle.shelf.specs.Shelves.{unit, blank, declared, findIn}
 use Rattle.shelf.specs.declared.Unit as U
 use Rattle.shelf.specs.declared.Shelf.{Shelf}
 use Rattle.shelf.specs.declared.Found.{Found}
 use Rattle.shelf.specs.declared.Found.the-variants.{At, Nothing}
 use Rattle.line.specs.declared.Line.{Line}
 use Rattle.line.specs.declared.Line.the-variants.{Bus, Unit as L·Unit, Vp, Drop, Page, Vc, Mc}
-use Rattle.told.specs.Told.{Whose, Opening, opens, takes, total, recordOf, regionBy, regions, records, hearing, declare, joinAt, shelfBy, shelfOf, memoryOf}
-use Rattle.told.specs.Lines.{Good}
+use Rattle.told.specs.Told.{Whose, Opening, opens, total, recordOf, regionBy, regions, records, hearing, declare, joinAt, shelfBy, shelfOf, memoryOf}
 use Rattle.told.proofs.Tabulate.{tabulate-at, tabulate-length, some-inj, none-some}
 use Rattle.told.proofs.Regions.{regions-length}
 use Rattle.told.proofs.Memory.{fits-room}
@@ -37,13 +35,11 @@ use Rattle.answer.specs.declared.Answer.the-variants.{Loaded, Unloaded}
 use Rattle.table.specs.declared.Outcome as O
 use Rattle.table.specs.declared.Outcome.the-variants as outcome
 use Rattle.table.specs.Load.{load}
-use Rattle.loading.specs.Loads.{answerOf, doneOf, loadDone}
+use Rattle.loading.specs.Loads.{answerOf, doneOf}
 use Rattle.admit.specs.Admission.{unitAt}
-use Rattle.promise.specs.Refusals.{Accepts}
 use Rattle.promise.proofs.Runs.{good-ranged}
 use Rattle.promise.proofs.Refusals as promise
-use Rattle.running.specs.Keeping.{loaded}
-use Rattle.running.specs.Tables.{answerTo, TableRefusedIff, TableLoadedIff, RefusedTableZeroes, Laid, NoCell, Fresh, GoodLoad}
+use Rattle.running.specs.Tables.{TableRefusedIff, TableLoadedIff, RefusedTableZeroes, Laid, NoCell, GoodLoad}
 
 -- A. the answer is the outcome
 answer-refused : (o : O.Outcome) (number line : ℕ) → answerOf o ≡ Unloaded number line → o ≡ outcome.Refused number line
@@ -85,7 +81,7 @@ regions-split f (x ∷ after) l before =
     let s = regions-split f after l before in (
       s .0 ++ regionBy f (opens x),
       ap (λ y. y ++ regionBy f (opens x)) (s .1) ∙ append-assoc (regions f before) (regionBy f (opens l) ++ s .0) (regionBy f (opens x))
-      ∙ ap (λ y. regions f before ++ y) (append-assoc (regionBy f (opens l)) (s .0) (regionBy f (opens x))),
+          ∙ ap (λ y. regions f before ++ y) (append-assoc (regionBy f (opens l)) (s .0) (regionBy f (opens x))),
     )
 
 -- what a line opens: so many records, each the function's

@@ -7,7 +7,7 @@ use mathlib.Core.Option.{some}
 use lib.ListN.{length, getD, drop, replicate}
 use Rattle.octets.specs.Octets.{part}
 use Rattle.card.specs.declared.Card.{Card}
-use Rattle.record.specs.Record.{size, most, bytesOf, cleared}
+use Rattle.record.specs.Record.{size, bytesOf, cleared}
 use Rattle.outlet.specs.Outlets.{queue}
 use Rattle.shelf.specs.Shelves.{fresh}
 use Rattle.shelf.specs.declared.Unit as U
