@@ -125,10 +125,10 @@ unfolding answerOf
 too-wide text memory memory′ store store′ rows rows′ equal told a number line =
     let b = moved text memory memory′ store store′ rows rows′ equal told Wide a in
     let wide : (n : ℕ) → FirstWide told n → answerTo Narrow text memory′ (length store′) (length rows′) ≡ Unloaded 5 n
-        = λ n w. ap answerOf (narrow-refuses-iff text memory′ (length store′) (length rows′) told b n .0 w) in (
+    = λ n w. ap answerOf (narrow-refuses-iff text memory′ (length store′) (length rows′) told b n .0 w) in (
       λ e.
-      ⊎-elim (λ n. absurd (loaded-unloaded (sym (ap (λ x. answerOf (x .outcome)) (accepted Narrow text memory′ (length store′) (length rows′) told (narrow-accepts text memory′ (length store′) (length rows′) told b n) .0)) ∙ e)))
-      (λ w. let z = sym (wide (w .0) (w .1)) ∙ e in (sym (unloaded-number z), subst (FirstWide told) (unloaded-line z) (w .1))) (wide-or-not told),
+          ⊎-elim (λ n. absurd (loaded-unloaded (sym (ap (λ x. answerOf (x .outcome)) (accepted Narrow text memory′ (length store′) (length rows′) told (narrow-accepts text memory′ (length store′) (length rows′) told b n) .0)) ∙ e)))
+          (λ w. let z = sym (wide (w .0) (w .1)) ∙ e in (sym (unloaded-number z), subst (FirstWide told) (unloaded-line z) (w .1))) (wide-or-not told),
       λ w. wide line (w .1) ∙ ap (λ n. Unloaded n line) (sym (w .0)),
     )
 

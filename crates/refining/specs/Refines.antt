@@ -22,7 +22,7 @@ gives card w [] = []
 gives card w (e ∷ es) =
     record { said = happens card w e .said; bytes = happens card w e .bytes } ∷ gives card (happens card w e .world) es
 
--- "The shelf does what .. document 01 say[s]": from a good load, over every sequence of events with every argument, on either card, whatever memory,
+-- "The shelf does what .. document 01 say": from a good load, over every sequence of events with every argument, on either card, whatever memory,
 -- store and rows held before, each answer and each lent byte is that of the document's shelf with the table's lines
 abbrev pub Refines : Type 0
 Refines =

@@ -81,7 +81,7 @@ regions-split f (x ∷ after) l before =
     let s = regions-split f after l before in (
       s .0 ++ regionBy f (opens x),
       ap (λ y. y ++ regionBy f (opens x)) (s .1) ∙ append-assoc (regions f before) (regionBy f (opens l) ++ s .0) (regionBy f (opens x))
-      ∙ ap (λ y. regions f before ++ y) (append-assoc (regionBy f (opens l)) (s .0) (regionBy f (opens x))),
+          ∙ ap (λ y. regions f before ++ y) (append-assoc (regionBy f (opens l)) (s .0) (regionBy f (opens x))),
     )
 
 -- what a line opens: so many records, each the function's

@@ -76,12 +76,12 @@ pub listing-prints : ListingPrints
 unfolding answerOf listing
 listing-prints card memory store rows m s r =
     let a : Accepts card listing memory (length store) (length rows) X.table =
-        record {
-          short = (let l : length listing ≡ 99 = refl in omega arith);
-          fine = record { all = listing-read; good = listing-good card (usable memory) (omega arith) };
-          store-enough = omega (arith, listing-units);
-          rows-enough = omega (arith, listing-units);
-        } in
+    record {
+      short = (let l : length listing ≡ 99 = refl in omega arith);
+      fine = record { all = listing-read; good = listing-good card (usable memory) (omega arith) };
+      store-enough = omega (arith, listing-units);
+      rows-enough = omega (arith, listing-units);
+    } in
     record {
       load = ap (λ x. answerOf (x .outcome)) (accepted card listing memory (length store) (length rows) X.table a .0) ∙ ap (λ n. Loaded (8 * n)) listing-total;
       print = refines card listing memory store rows X.table a X.events ∙ document-listing;
