@@ -1,5 +1,6 @@
 -- The three demands are met. Assumes nothing.
 use Rattle.soundness.proofs.Facts.{sound-iff}
+use Rattle.promise.proofs.Faults.{fault-iff, good-iff}
 use Rattle.promise.proofs.Refusals.{either-way}
 use Rattle.promise.proofs.Cards.{wide-or-not}
 use Rattle.promise.proofs.Values.{starred-hold}
@@ -14,9 +15,9 @@ use Rattle.flow.proofs.Kept.{nothing-lost, in-order, counters-true}
 use Rattle.flow.proofs.Once.{numbers-once}
 use Rattle.flow.proofs.Bytes.{taken-handed, sent-framed, lowest-first}
 use Rattle.flow.proofs.Streets.{right-street}
-use Rattle.flow.proofs.Follows.{line-followed}
+use Rattle.flow.proofs.Follows.{line-followed, accepted-ranged}
 use Rattle.flow.proofs.Apart.{once-only}
-use Rattle.flow.proofs.Out.{taken-right, sent-right}
+use Rattle.flow.proofs.Out.{taken-right, line-delivered, sent-right}
 use Rattle.fates.proofs.Fated.{fate-iff}
 use Rattle.fates.proofs.Damages.{damaged-iff}
 use Rattle.fates.proofs.Holding.{held-means-held}
@@ -35,6 +36,8 @@ demand-1 =
       steps = steps;
       determined = determined;
       table-refused-iff = table-refused-iff;
+      fault-iff = fault-iff;
+      good-iff = good-iff;
       table-loaded-iff = table-loaded-iff;
       either-way = either-way;
       refused-table-zeroes = refused-table-zeroes;
@@ -68,8 +71,10 @@ demand-2 =
       lowest-first = lowest-first;
       right-street = right-street;
       line-followed = line-followed;
+      accepted-ranged = accepted-ranged;
       once-only = once-only;
       taken-right = taken-right;
+      line-delivered = line-delivered;
       sent-right = sent-right;
       isolation = isolation;
     }

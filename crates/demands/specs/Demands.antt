@@ -11,6 +11,7 @@ use Rattle.shelf.specs.declared.Shelf.{Shelf}
 use Rattle.soundness.specs.State.{soundOf, Sound}
 use Rattle.line.specs.declared.Line.{Line}
 use Rattle.promise.specs.Refusals.{Accepts, Refuses}
+use Rattle.promise.specs.Faults.{FaultIff, GoodIff}
 use Rattle.promise.specs.Narrow.{NoneWide, FirstWide}
 use Rattle.promise.specs.Sheet.{sheet}
 use Rattle.promise.specs.Starred.{starred, all-hold}
@@ -23,9 +24,9 @@ use Rattle.refining.specs.Cards.{TooWide, SameCard}
 use Rattle.flow.specs.Lost.{NothingLost, NumbersOnce}
 use Rattle.flow.specs.Order.{InOrder, TakenHanded, SentFramed, LowestFirst}
 use Rattle.flow.specs.Counted.{CountersTrue}
-use Rattle.flow.specs.Street.{RightStreet, LineFollowed}
+use Rattle.flow.specs.Street.{RightStreet, LineFollowed, AcceptedRanged}
 use Rattle.flow.specs.Apart.{OnceOnly}
-use Rattle.flow.specs.Out.{TakenRight, SentRight}
+use Rattle.flow.specs.Out.{TakenRight, LineDelivered, SentRight}
 use Rattle.fates.specs.Fates.{FateIff}
 use Rattle.fates.specs.Damage.{DamagedIff}
 use Rattle.fates.specs.Held.{HeldMeansHeld}
@@ -49,6 +50,10 @@ pub record Demand1 : Type 2 where
   pub determined : (card : Card) → Determined card
   -- "A bad table .. is refused with a fixed number": each of 1 to 7, with its line, exactly when 01 says so
   pub table-refused-iff : TableRefusedIff
+  -- 2 to 6 of a line, as facts about the lines before it: "with 2 to 6 tried in that order on it"
+  pub fault-iff : FaultIff
+  -- the lines of a good table are those of which no such fact holds
+  pub good-iff : GoodIff
   -- a table that is good has none of these faults; "`table` gives `ok` and bytes used"
   pub table-loaded-iff : TableLoadedIff
   -- and there is no third way
@@ -111,11 +116,15 @@ pub record Demand2 : Type 0 where
   pub right-street : RightStreet
   -- "route, VCI kept; page, the VCI's record"; "PT and CLP are kept.": target, class, outgoing VPI and VCI are those of a line of the table
   pub line-followed : LineFollowed
-  -- one event moves a cell once
+  -- that the lines have their numbers in range, as `line-followed` and `line-delivered` ask, is so of every table that a card accepts
+  pub accepted-ranged : AcceptedRanged
+  -- no cell goes out twice: of those that meet any test no more are sent than arrived and were routed, and no more are taken than came in frames meant for the unit
   pub once-only : OnceOnly
   -- so are the bytes that a take hands out a cell meant for that unit
   pub taken-right : TakenRight
-  -- and those of a frame a cell that arrived at its sender
+  -- and their VPI and VCI are the line's, payload and CLP the arrival's, PT but for the mark: "A UNI unit writes GFC 0. The check is new."
+  pub line-delivered : LineDelivered
+  -- those of a frame after a grant are the oldest cell of the unit granted, which arrived there
   pub sent-right : SentRight
   -- an event at a unit leaves every other unit, row and part of the store alone
   pub isolation : Isolation
