@@ -149,6 +149,21 @@ not-over : (memory : List ℕ) (n : ℕ) → n ≤ usable memory → (length mem
 not-over memory n h (inl k) = omega arith
 not-over memory n h (inr k) = omega arith
 
+-- what a line is not
+no-bus : (l : Line) (u : ℕ) → Uses u l → (n : ℕ) → l ≡ Bus n → ⊥
+no-bus l u h n e = subst (Uses u) e h
+
+no-mc : (l : Line) (u v : ℕ) → HasVpi u v l → (a session : ℕ) → l ≡ Mc a session → ⊥
+no-mc l u v h a session e = ⊎-elim (λ z. z) (λ z. z .1) (subst (HasVpi u v) e h)
+
+first-of : {P : Type 0} → P ⊎ ((n : ℕ) × ⊥) → P
+first-of (inl p) = p
+first-of (inr z) = absurd (z .1)
+
+second-of : {P : Type 0} → ((n : ℕ) × ⊥) ⊎ P → P
+second-of (inl z) = absurd (z .1)
+second-of (inr p) = p
+
 -- C. a line after good lines
 module _ (card : Card) (memory : List ℕ) (told : List Line) (good : Good card (usable memory) told) where
   abbrev bus : ℕ
@@ -158,26 +173,26 @@ module _ (card : Card) (memory : List ℕ) (told : List Line) (good : Good card 
   grew = grown card (usable memory) told good
 
   -- a line that uses a declared unit is in order if its target is below the bus number, its VPI is not above the top, and its VCI is in its page
-  in-order : (l : Line) (a v top : ℕ) → v ≤ top → isFirst told ≡ false → topOf told (ofUnit a) ≡ some top → ((n : ℕ) → l ≡ Bus n → ⊥) → ((u : ℕ) → HasUnit u l → a ≡ u) → ((u : ℕ) → HasTarget u l → u < bus) → ((u vpi : ℕ) → HasVpi u vpi l → (a ≡ u) × (v ≡ vpi)) → ((u vpi vci : ℕ) → IsVc u vpi vci l → (t : ℕ) × In (Page u vpi t) told × (vci ≤ t)) → OutOfOrder told l → ⊥
-  in-order l a v₀ top below f e nobus unit target vpi vc (first-not-bus z h) = false≢true (sym f ∙ ap isFirst z)
-  in-order l a v₀ top below f e nobus unit target vpi vc (bus-again b n m z) = nobus n z
-  in-order l a v₀ top below f e nobus unit target vpi vc (unit-off b u m h k) =
+  in-order : (l : Line) (a v top : ℕ) → v ≤ top → isFirst told ≡ false → topOf told (ofUnit a) ≡ some top → Uses a l → ((u : ℕ) → HasUnit u l → a ≡ u) → ((u : ℕ) → HasTarget u l → u < bus) → ((u vpi : ℕ) → HasVpi u vpi l → (a ≡ u) × (v ≡ vpi)) → ((u vpi vci : ℕ) → IsVc u vpi vci l → (t : ℕ) × In (Page u vpi t) told × (vci ≤ t)) → OutOfOrder told l → ⊥
+  in-order l a v₀ top below f e used unit target vpi vc (first-not-bus z h) = false≢true (sym f ∙ ap isFirst z)
+  in-order l a v₀ top below f e used unit target vpi vc (bus-again b n m z) = no-bus l a used n z
+  in-order l a v₀ top below f e used unit target vpi vc (unit-off b u m h k) =
       let s = unit u h in
       let t = in-bus card (usable memory) told good b m in
       let i = below-bus card (usable memory) told good a top e in
       omega arith
-  in-order l a v₀ top below f e nobus unit target vpi vc (target-off b u m h k) =
+  in-order l a v₀ top below f e used unit target vpi vc (target-off b u m h k) =
       let s = target u h in
       let t = in-bus card (usable memory) told good b m in
       omega arith
-  in-order l a v₀ top below f e nobus unit target vpi vc (not-declared u h k) = k top (declared told u top (ap (λ x. topOf told (ofUnit x)) (sym (unit u (inr h))) ∙ e))
-  in-order l a v₀ top below f e nobus unit target vpi vc (vpi-above u w t h b k) =
+  in-order l a v₀ top below f e used unit target vpi vc (not-declared u h k) = k top (declared told u top (ap (λ x. topOf told (ofUnit x)) (sym (unit u (inr h))) ∙ e))
+  in-order l a v₀ top below f e used unit target vpi vc (vpi-above u w t h b k) =
       let s = vpi u w h in
       let i : top ≡ t = some-inj (sym e ∙ ap (λ x. topOf told (ofUnit x)) (s .0) ∙ top-is told grew u t b) in
       let j = s .1 in
       omega arith
-  in-order l a v₀ top below f e nobus unit target vpi vc (no-page u v w h k) = let p = vc u v w h in k (p .0) (p .1)
-  in-order l a v₀ top below f e nobus unit target vpi vc (vci-above u v w t h m k) =
+  in-order l a v₀ top below f e used unit target vpi vc (no-page u v w h k) = let p = vc u v w h in k (p .0) (p .1)
+  in-order l a v₀ top below f e used unit target vpi vc (vci-above u v w t h m k) =
       let p = vc u v w h in
       let i : p .0 ≡ t = some-inj (sym (top-of-page told grew u v (p .0) (p .1)) ∙ top-of-page told grew u v t m) in
       let j = p .2 in
@@ -200,15 +215,15 @@ module _ (card : Card) (memory : List ℕ) (told : List Line) (good : Good card 
   still l o = not-over memory (size * total (l ∷ told)) (rw o (let h = fits-room card (usable memory) told good in omega arith))
 
   -- a line that uses a unit
-  uses : (l : Line) (u : ℕ) (f : ℕ → Verdict) → ((n : ℕ) → l ≡ Bus n → ⊥) → Uses u l → (isFirst told ≡ false → (top : ℕ) → topOf told (ofUnit u) ≡ some top → Says l (f top)) → Says l (started told (owned (topOf told (ofUnit u)) f))
-  uses l u f nobus h rest =
-      started-test _ _ _ _ told _ (λ e. first-not-bus e nobus)
+  uses : (l : Line) (u : ℕ) (f : ℕ → Verdict) → Uses u l → (isFirst told ≡ false → (top : ℕ) → topOf told (ofUnit u) ≡ some top → Says l (f top)) → Says l (started told (owned (topOf told (ofUnit u)) f))
+  uses l u f h rest =
+      started-test _ _ _ _ told _ (λ e. first-not-bus e (no-bus l u h))
       (λ b. owned-test _ _ _ _ (topOf told (ofUnit u)) f (λ e. not-declared u h (λ top d. none-some (sym e ∙ top-is told grew u top d))) (rest b))
 
   -- with a VPI
-  has-vpi : (l : Line) (u v : ℕ) (f : ℕ → Verdict) → ((n : ℕ) → l ≡ Bus n → ⊥) → Uses u l → HasVpi u v l → (isFirst told ≡ false → (top : ℕ) → topOf told (ofUnit u) ≡ some top → v ≤ top → Says l (f top)) → Says l (started told (owned (topOf told (ofUnit u)) λ top. cond (ltb top v) (Order 3) (f top)))
-  has-vpi l u v f nobus h k rest =
-      uses l u _ nobus h
+  has-vpi : (l : Line) (u v : ℕ) (f : ℕ → Verdict) → Uses u l → HasVpi u v l → (isFirst told ≡ false → (top : ℕ) → topOf told (ofUnit u) ≡ some top → v ≤ top → Says l (f top)) → Says l (started told (owned (topOf told (ofUnit u)) λ top. cond (ltb top v) (Order 3) (f top)))
+  has-vpi l u v f h k rest =
+      uses l u _ h
       (λ b top e.
       order-test _ _ _ _ (ltb top v) 3 (f top) (λ t. vpi-above u v top k (declared told u top e) (ltb-true top v t)) (λ t. rest b top e (ltb-false top v t)))
 
@@ -234,6 +249,13 @@ module _ (card : Card) (memory : List ℕ) (told : List Line) (good : Good card 
   -- the VPI of a `vp`, `drop` or `page` line, where something may stand
   free-path : (u v : ℕ) → taken (Is (recordOf told (ofUnit u) v)) ≡ false → (a b : ℕ) → (u ≡ a) × (v ≡ b) → taken (Is (recordOf told (ofUnit a) b)) ≡ false
   free-path u v t a b h = ap₂ (λ x y. taken (Is (recordOf told (ofUnit x) y))) (sym (h .0)) (sym (h .1)) ∙ t
+
+  gives-path : (l : Line) (u v : ℕ) (x : Verdict) → Gives u v l → ((a b : ℕ) → Gives a b l → (u ≡ a) × (v ≡ b)) → ((a t : ℕ) → Declares a t l → ⊥) → ((a b c : ℕ) → IsVc a b c l → ⊥) → (OutOfOrder told l → ⊥) → ((Again told l → ⊥) → Says l x) → Says l (cond (taken (Is (recordOf told (ofUnit u) v))) (Twice 3) x)
+  gives-path l u v x g its nounit novc ok rest =
+      twice-test _ _ _ _ (taken (Is (recordOf told (ofUnit u) v))) 3 x ok (λ y. vpi-again u v g (given-before told u v y))
+      (λ y.
+      rest
+      (anew l (λ a t z. absurd (nounit a t z)) (λ a b h. free-path u v y a b (its a b h)) (λ a b c z. absurd (novc a b c z)) (λ a t z. absurd (no-mc l u v (inl g) a t z))))
 
   free-vc : (u v w : ℕ) → taken (Is (recordOf told (ofPage u v) w)) ≡ false → (a b c : ℕ) → (u ≡ a) × (v ≡ b) × (w ≡ c) → taken (Is (recordOf told (ofPage a b) c)) ≡ false
   free-vc u v w t a b c h = sym (λ i. taken (Is (recordOf told (ofPage (h .0 i) (h .1 i)) (h .2 i)))) ∙ t
@@ -301,34 +323,27 @@ module _ (card : Card) (memory : List ℕ) (told : List Line) (good : Good card 
       (λ h. takes-room l (settings .top) refl ok new (not-wide card (On (settings .link)) h)))))
   judged (Vp u v target class outvpi) =
       let l = Vp u v target class outvpi in
-      let nobus : (n : ℕ) → l ≡ Bus n → ⊥ = λ n e. let z : _≡_ {A = ℕ} 0 1 = cc in omega arith in
-      has-vpi l u v _ nobus refl (inl (refl, refl))
+      has-vpi l u v _ refl (inl (refl, refl))
       (λ b top e below.
       has-target l target 4 _ (λ n h. h) b
       (λ o.
-      let ok = in-order l u v top below b e nobus (λ n. ⊎-elim (λ z. absurd (z .1)) (λ z. z)) (on-bus bus target o) (λ n w. ⊎-elim (λ z. z) (λ z. absurd (z .1))) (λ n w c z. absurd z) in
-      twice-test _ _ _ _ (taken (Is (recordOf told (ofUnit u) v))) 3 _ ok (λ y. vpi-again u v (refl, refl) (given-before told u v y))
-      (λ y. goes-out l outvpi (λ h. h) (λ h. h) refl ok (anew l (λ n t z. absurd z) (free-path u v y) (λ n w c z. absurd z) (λ n t z. let q : _≡_ {A = ℕ} 0 1 = cc in absurd (omega arith))))))
+      let ok = in-order l u v top below b e refl (λ n. second-of) (on-bus bus target o) (λ n w. first-of) (λ n w c z. absurd z) in
+      gives-path l u v _ (refl, refl) (λ a b h. h) (λ a t z. z) (λ a b c z. z) ok (goes-out l outvpi (λ h. h) (λ h. h) refl ok)))
   judged (Drop u v) =
       let l = Drop u v in
-      let nobus : (n : ℕ) → l ≡ Bus n → ⊥ = λ n e. let z : _≡_ {A = ℕ} 0 1 = cc in omega arith in
-      has-vpi l u v _ nobus refl (inl (refl, refl))
+      has-vpi l u v _ refl (inl (refl, refl))
       (λ b top e below.
-      let ok = in-order l u v top below b e nobus (λ n. ⊎-elim (λ z. absurd (z .1)) (λ z. z)) (λ n z. absurd z) (λ n w. ⊎-elim (λ z. z) (λ z. absurd (z .1))) (λ n w c z. absurd z) in
-      twice-test _ _ _ _ (taken (Is (recordOf told (ofUnit u) v))) 3 _ ok (λ y. vpi-again u v (refl, refl) (given-before told u v y))
-      (λ y. (ok, anew l (λ n t z. absurd z) (free-path u v y) (λ n w c z. absurd z) (λ n t z. let q : _≡_ {A = ℕ} 0 1 = cc in absurd (omega arith)), λ w. absurd (w .1), still l refl)))
+      let ok = in-order l u v top below b e refl (λ n. second-of) (λ n z. absurd z) (λ n w. first-of) (λ n w c z. absurd z) in
+      gives-path l u v _ (refl, refl) (λ a b h. h) (λ a t z. z) (λ a b c z. z) ok (λ new. (ok, new, λ w. w .1, still l refl)))
   judged (Page u v topvci) =
       let l = Page u v topvci in
-      let nobus : (n : ℕ) → l ≡ Bus n → ⊥ = λ n e. let z : _≡_ {A = ℕ} 0 1 = cc in omega arith in
-      has-vpi l u v _ nobus refl (inl (refl, refl))
+      has-vpi l u v _ refl (inl (refl, refl))
       (λ b top e below.
-      let ok = in-order l u v top below b e nobus (λ n. ⊎-elim (λ z. absurd (z .1)) (λ z. z)) (λ n z. absurd z) (λ n w. ⊎-elim (λ z. z) (λ z. absurd (z .1))) (λ n w c z. absurd z) in
-      twice-test _ _ _ _ (taken (Is (recordOf told (ofUnit u) v))) 3 _ ok (λ y. vpi-again u v (refl, refl) (given-before told u v y))
-      (λ y. takes-room l topvci refl ok (anew l (λ n t z. absurd z) (free-path u v y) (λ n w c z. absurd z) (λ n t z. let q : _≡_ {A = ℕ} 0 1 = cc in absurd (omega arith))) (λ w. absurd (w .1))))
+      let ok = in-order l u v top below b e refl (λ n. second-of) (λ n z. absurd z) (λ n w. first-of) (λ n w c z. absurd z) in
+      gives-path l u v _ (refl, refl) (λ a b h. h) (λ a t z. z) (λ a b c z. z) ok (λ new. takes-room l topvci refl ok new (λ w. w .1)))
   judged (Vc u v w target class outvpi outvci) =
       let l = Vc u v w target class outvpi outvci in
-      let nobus : (n : ℕ) → l ≡ Bus n → ⊥ = λ n e. let z : _≡_ {A = ℕ} 0 1 = cc in omega arith in
-      has-vpi l u v _ nobus refl (inr (w, (refl, refl, refl)))
+      has-vpi l u v _ refl (inr (w, (refl, refl, refl)))
       (λ b top e below.
       page-test _ _ _ _ (recordOf told (ofUnit u) v) w _
       (λ n. no-page u v w (refl, refl, refl) (λ t m. n t (size * start told (ofPage u v)) (page-stands told grew u v t m)))
@@ -337,17 +352,16 @@ module _ (card : Card) (memory : List ℕ) (told : List Line) (good : Good card 
       has-target l target 5 _ (λ n k. k) b
       (λ o.
       let page = page-in told u v t (grew .opened u v t p r .0) in
-      let ok = in-order l u v top below b e nobus (λ n. ⊎-elim (λ z. absurd (z .1)) (λ z. z)) (on-bus bus target o) (λ n x. ⊎-elim (λ z. absurd z) (λ z. (z .1 .0, z .1 .1))) (λ n x c z. (t, in-this u v t n x (z .0) (z .1) page, let q = z .2 in omega arith)) in
+      let ok = in-order l u v top below b e refl (λ n. second-of) (on-bus bus target o) (λ n x. ⊎-elim (λ z. absurd z) (λ z. (z .1 .0, z .1 .1))) (λ n x c z. (t, in-this u v t n x (z .0) (z .1) page, let q = z .2 in omega arith)) in
       twice-test _ _ _ _ (taken (Is (recordOf told (ofPage u v) w))) 4 _ ok (λ y. vc-again u v w (refl, refl, refl) (vc-before told u v w y))
-      (λ y. goes-out l outvpi (λ k. k) (λ k. k) refl ok (anew l (λ n s z. absurd z) (λ n x z. absurd z) (free-vc u v w y) (λ n s z. let q : _≡_ {A = ℕ} 0 1 = cc in absurd (omega arith)))))))
+      (λ y. goes-out l outvpi (λ k. k) (λ k. k) refl ok (anew l (λ n s z. absurd z) (λ n x z. absurd z) (free-vc u v w y) (λ n s z. absurd (no-mc l u v (inr (w, (refl, refl, refl))) n s z)))))))
   judged (Mc u session) =
       let l = Mc u session in
-      let nobus : (n : ℕ) → l ≡ Bus n → ⊥ = λ n e. let z : _≡_ {A = ℕ} 0 1 = cc in omega arith in
-      uses l u _ nobus refl
+      uses l u _ refl
       (λ b top e.
-      let ok = in-order l u 0 top (omega arith) b e nobus (λ n. ⊎-elim (λ z. absurd (z .1)) (λ z. z)) (λ n z. absurd z) (λ n w. ⊎-elim (λ z. absurd z) (λ z. absurd (z .1))) (λ n w c z. absurd z) in
+      let ok = in-order l u 0 top (omega arith) b e refl (λ n. second-of) (λ n z. absurd z) (λ n w. ⊎-elim (λ z. absurd z) (λ z. absurd (z .1))) (λ n w c z. absurd z) in
       twice-test _ _ _ _ (hearsIn told u session) 3 _ ok (λ y. mc-again u session refl (heard-in told u session y))
-      (λ y. (ok, anew l (λ n t z. absurd z) (λ n w z. absurd z) (λ n w c z. absurd z) (λ n s z. unheard u session y n s z), λ w. absurd (w .1), still l refl)))
+      (λ y. (ok, anew l (λ n t z. absurd z) (λ n w z. absurd z) (λ n w c z. absurd z) (unheard u session y), λ w. w .1, still l refl)))
 
 -- D. the numbers
 pub condition-number : (card : Card) (memory : List ℕ) (told : List Line) (r : Reading) (n : ℕ) → Condition card memory told r n → n ≡ 0 → ⊥
