@@ -1,6 +1,6 @@
 -- The three demands are met. Assumes nothing.
 use Rattle.soundness.proofs.Facts.{sound-iff}
-use Rattle.promise.proofs.Faults.{fault-iff, good-iff}
+use Rattle.promise.proofs.Faults.{fault-iff, good-iff, wide-iff}
 use Rattle.promise.proofs.Refusals.{either-way}
 use Rattle.promise.proofs.Cards.{wide-or-not}
 use Rattle.promise.proofs.Values.{starred-hold}
@@ -80,7 +80,7 @@ demand-2 =
     }
 
 pub demand-3 : Demand3
-demand-3 = record { too-wide = too-wide; wide-or-not = wide-or-not; same-card = same-card }
+demand-3 = record { too-wide = too-wide; wide-iff = wide-iff; wide-or-not = wide-or-not; same-card = same-card }
 
 pub witnessed : Witnessed
 witnessed = record { listing-prints = listing-prints; all-run = all-run; refusals = refusals; spoiled = spoiled-state; beyond-loaded = beyond-loaded }

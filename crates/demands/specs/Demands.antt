@@ -12,7 +12,7 @@ use Rattle.soundness.specs.State.{soundOf, Sound}
 use Rattle.line.specs.declared.Line.{Line}
 use Rattle.promise.specs.Refusals.{Accepts, Refuses}
 use Rattle.promise.specs.Faults.{FaultIff, GoodIff}
-use Rattle.promise.specs.Narrow.{NoneWide, FirstWide}
+use Rattle.promise.specs.Narrow.{NoneWide, FirstWide, WideIff}
 use Rattle.promise.specs.Sheet.{sheet}
 use Rattle.promise.specs.Starred.{starred, all-hold}
 use Rattle.running.specs.Refusing.{RefusedIff, RefusalChangesNothing}
@@ -134,6 +134,8 @@ pub record Demand2 : Type 0 where
 pub record Demand3 : Type 0 where
   -- "The eight-bit card refuses it as too wide, naming the first line that asks for an NNI link, an outgoing path above 255 or the 32-unit bus, exactly when there is such a line."
   pub too-wide : TooWide
+  -- such a line is one with "`bus` 32, `nni`, or outgoing VPI above 255"
+  pub wide-iff : WideIff
   -- there is a first such line, or none: one of the two always speaks
   pub wide-or-not : (told : List Line) → NoneWide told ⊎ ((line : ℕ) × FirstWide told line)
   -- "Otherwise, over every sequence of events after loading .. it gives the same answers, cells and counters as the twelve-bit card, and both are those of demand 2."

@@ -11,20 +11,18 @@ use borrow.Author.Tests.{eqb-true, eq-eqb}
 use Rattle.card.specs.declared.Card.{Card}
 use Rattle.record.specs.Record.{size}
 use Rattle.record.specs.declared.Record as R
-use Rattle.record.specs.declared.Record.the-variants.{Empty, Drop as R·Drop, Route, Page as R·Page}
+use Rattle.record.specs.declared.Record.the-variants.{Empty}
 use Rattle.shelf.specs.declared.Shelf.{Shelf}
 use Rattle.shelf.specs.declared.Found.{Found}
 use Rattle.shelf.specs.declared.Found.the-variants.{At, Nothing}
 use Rattle.shelf.specs.Shelves.{declared, findIn}
 use Rattle.line.specs.declared.Line.{Line}
 use Rattle.line.specs.declared.Line.the-variants.{Bus, Unit as L·Unit, Vp, Drop, Page, Vc, Mc}
-use Rattle.verdict.specs.declared.Verdict.the-variants.{Fine}
-use Rattle.told.specs.Told.{Whose, ofUnit, ofPage, same, opens, Giving, gives, only, either, else, topBy, topOf, total, givenBy, recordOf, hearsBy, hearsIn, declare, joinAt, shelfBy, shelfOf}
+use Rattle.told.specs.Told.{Whose, ofUnit, same, opens, Giving, gives, only, either, else, topBy, topOf, total, givenBy, recordOf, hearsBy, hearsIn, declare, joinAt, shelfBy, shelfOf}
 use Rattle.told.specs.Lines.{isFirst, judge, Good}
 use Rattle.told.proofs.Tabulate.{some-inj, none-some, only-true, only-is}
 use Rattle.told.proofs.Regions.{both-left, both-right, Once}
 use Rattle.told.proofs.Fits.{begun, fine-bus, fine-unit}
-use Rattle.told.proofs.Grown.{decide}
 
 -- A. a top is that of a line which opens, and of no other
 either-is : {A : Type 0} (x y : Option A) (a : A) → either x y ≡ some a → (x ≡ some a) ⊎ (y ≡ some a)
