@@ -113,9 +113,9 @@ pub record Demand2 : Type 0 where
   pub line-followed : LineFollowed
   -- one event moves a cell once
   pub once-only : OnceOnly
-  -- so are the bytes that a take hands out a cell meant for that unit
+  -- the bytes that a take hands out are those of a cell meant for that unit
   pub taken-right : TakenRight
-  -- and those of a frame a cell that arrived at its sender
+  -- the bytes of a frame that is not idle are those of a cell that arrived at its sender
   pub sent-right : SentRight
   -- an event at a unit leaves every other unit, row and part of the store alone
   pub isolation : Isolation
