@@ -120,7 +120,7 @@ pub record Demand2 : Type 0 where
   pub accepted-ranged : AcceptedRanged
   -- no cell goes out twice: of those that meet any test no more are sent than arrived and were routed, and no more are taken than came in frames meant for the unit
   pub once-only : OnceOnly
-  -- so are the bytes that a take hands out a cell meant for that unit
+  -- the bytes that a take hands out are those of a cell meant for that unit
   pub taken-right : TakenRight
   -- and their VPI and VCI are the line's, payload and CLP the arrival's, PT but for the mark: "A UNI unit writes GFC 0. The check is new."
   pub line-delivered : LineDelivered
