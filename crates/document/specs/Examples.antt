@@ -33,14 +33,14 @@ unfoldable pub table : List Line
 table = Vc 0 5 33 (target.Unit 3) 2 9 40 ∷ Page 0 5 33 ∷ L·Unit (uni 3 0 1) (four 40 30 20 true) ∷ L·Unit (uni 0 5 2) (one 100 false) ∷ Bus 16 ∷ []
 
 -- a header with its check, and one payload byte repeated 48 times
-abbrev pub lineCell : List ℕ → ℕ → List ℕ
-lineCell header byte = header ++ replicate 48 byte
+abbrev pub repeated : List ℕ → ℕ → List ℕ
+repeated header byte = header ++ replicate 48 byte
 
 abbrev pub good : List ℕ
-good = lineCell (0x00 ∷ 0x50 ∷ 0x02 ∷ 0x10 ∷ 0x2b ∷ []) 0xa5
+good = repeated (0x00 ∷ 0x50 ∷ 0x02 ∷ 0x10 ∷ 0x2b ∷ []) 0xa5
 
 abbrev pub wrong : List ℕ
-wrong = lineCell (0x10 ∷ 0x50 ∷ 0x02 ∷ 0x10 ∷ 0x4f ∷ []) 0xa5
+wrong = repeated (0x10 ∷ 0x50 ∷ 0x02 ∷ 0x10 ∷ 0x4f ∷ []) 0xa5
 
 abbrev pub lent : ℕ → List ℕ
 lent n = replicate n 0xee
@@ -55,7 +55,7 @@ printed =
     back (answers (Arrived arrival.Hec)) wrong ∷
     back (answers (Framed 0 nobody 0 0)) (lent 57) ∷
     back (answers (Framed 1 0 nobody 1)) ((0x20 ∷ 0x38 ∷ 0 ∷ 0 ∷ 0x00 ∷ 0x90 ∷ 0x02 ∷ 0x80 ∷ []) ++ replicate 48 0xa5 ++ (0x0a ∷ [])) ∷
-    back (answers Taken) (lineCell (0x00 ∷ 0x90 ∷ 0x02 ∷ 0x80 ∷ 0x5f ∷ []) 0xa5) ∷
+    back (answers Taken) (repeated (0x00 ∷ 0x90 ∷ 0x02 ∷ 0x80 ∷ 0x5f ∷ []) 0xa5) ∷
     back (answers Empty) (lent 53) ∷
     back (counts (record { arrived = 0; hec = 0; ignored = 0; misrouted = 0; inletfull = 0; sent = 0; unheard = 0; damaged = 0; queued = 1; full = 0; clp = 0; wide = 0; taken = 1 })) [] ∷
     []

@@ -31,7 +31,7 @@ pub struct Listened {
 fn asking_now(shelf: Shelf) -> [u8; 32]
     ensures { λ r. ⌜ r ≡ askingNow shelf ⌝ }
 {
-    let end = shelf::held(shelf.count);
+    let end = shelf::declared_count(shelf.count);
     let mut now = [0; 32];
     let mut i: usize = 0;
     while i < end {
@@ -105,7 +105,7 @@ fn hear_all(mut shelf: Shelf, heard: Heard, cell: [u8; 56], store: &mut [u8]) ->
     ensures { λ r. ⌜ r ≡ heardByAll shelf heard ⌝ }
     ensures kept { λ _. ⌜ now (store .exit) ≡ heardStore shelf heard (now (store .entry)) cell ⌝ }
 {
-    let end = shelf::held(shelf.count);
+    let end = shelf::declared_count(shelf.count);
     let mut each = [0; 32];
     let mut copies: u8 = 0;
     let mut addressed = false;

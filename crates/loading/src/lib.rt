@@ -28,7 +28,7 @@ fn done_of(loading: Loading) -> Done
     let shelf = loading.shelf;
     let rises = Rises {
         from: 0,
-        to: shelf::held(shelf.count),
+        to: shelf::declared_count(shelf.count),
         anew: true,
         each: [0; 32],
     };

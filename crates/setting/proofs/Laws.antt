@@ -10,7 +10,7 @@ use Rattle.outlet.specs.declared.Ring.{Ring}
 use Rattle.outlet.specs.Outlets.{empty}
 use Rattle.shelf.specs.declared.Unit as U
 use Rattle.shelf.specs.Shelves.{blank}
-use Rattle.setting.specs.Settable.{byteIf, ringWith, queuesWith, sessionsWith, unitWith, unitOf, unitsWith, octetsWith}
+use Rattle.setting.specs.Changed.{byteIf, ringWith, queuesWith, sessionsWith, unitWith, unitPlace, unitsWith, octetsWith}
 
 module _ (queues : List Ring) (field queue value : ℕ) where
   pub queue-set : (d r : Ring) → queue < length queues → r ≡ ringWith (getD queues queue d) field 18 19 value → set queues queue r ≡ queuesWith queues field queue value
@@ -34,7 +34,7 @@ module _ (sessions : List ℕ) (field part value : ℕ) where
   unfolding sessionsWith
   session-kept n = simp (ne-eqb _ _ n)
 
-module _ (units : List U.Unit) (field place value p : ℕ) (is : p ≡ unitOf field place) where
+module _ (units : List U.Unit) (field place value p : ℕ) (is : p ≡ unitPlace field place) where
   pub unit-set : (d u : U.Unit) → p < length units → u ≡ unitWith (getD units p d) field (place % 4) value → set units p u ≡ unitsWith units field place value
   unfolding unitsWith
   unit-set d u h e =

@@ -1,1 +1,1 @@
-pub mod Settable
+pub mod Changed

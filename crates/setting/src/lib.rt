@@ -9,7 +9,7 @@ use shelf::Settings;
 use shelf::Shelf;
 use shelf::Unit;
 ghost use mathlib.Core.Path.{_≡_};
-ghost use Rattle.setting.specs.Settable.{byteIf, shortIf, longIf, linkIf, modeIf, markIf, ringWith, queuesWith, sessionsWith, settingsWith, limitsWith, unitWith, unitOf, unitsWith, octetsWith, arbiterWith, changed};
+ghost use Rattle.setting.specs.Changed.{byteIf, shortIf, longIf, linkIf, modeIf, markIf, ringWith, queuesWith, sessionsWith, settingsWith, limitsWith, unitWith, unitPlace, unitsWith, octetsWith, arbiterWith, changed};
 
 // The new value of a number if the field is its own, else the old one.
 fn byte_if(field: u8, own: u8, value: u64, old: u8) -> u8
@@ -151,8 +151,8 @@ fn unit_with(u: Unit, field: u8, part: usize, value: u64) -> Unit
 }
 
 // Which unit a place is of: from field 18 on it is four times the unit's, and the part.
-fn unit_of(field: u8, place: usize) -> usize
-    ensures { λ r. ⌜ r ≡ unitOf field place ⌝ }
+fn unit_place(field: u8, place: usize) -> usize
+    ensures { λ r. ⌜ r ≡ unitPlace field place ⌝ }
 {
     if field < 18 {
         return place;
@@ -163,7 +163,7 @@ fn unit_of(field: u8, place: usize) -> usize
 fn units_with(mut units: [Unit; 32], field: u8, place: usize, value: u64) -> [Unit; 32]
     ensures { λ r. ⌜ r ≡ unitsWith units field place value ⌝ }
 {
-    let p = unit_of(field, place);
+    let p = unit_place(field, place);
     if p < 32 {
         let u = units[p];
         units[p] = unit_with(u, field, place % 4, value);

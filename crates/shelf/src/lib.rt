@@ -101,7 +101,7 @@ impl Shelf {
 }
 
 // How many units are declared; there are 32 places.
-pub fn held(count: u8) -> usize
+pub fn declared_count(count: u8) -> usize
     ensures { λ r. ⌜ r ≡ min count 32 ⌝ }
 {
     if count < 32 { count as usize } else { 32 }
@@ -111,7 +111,7 @@ pub fn held(count: u8) -> usize
 pub fn find(shelf: Shelf, number: u8) -> Found
     ensures { λ r. ⌜ r ≡ findIn (declaredIn shelf) number ⌝ }
 {
-    let end = held(shelf.count);
+    let end = declared_count(shelf.count);
     let mut i: usize = 0;
     while i < end {
         let unit = shelf.units[i];

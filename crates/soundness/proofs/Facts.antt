@@ -25,7 +25,7 @@ use Rattle.shelf.specs.declared.Shelf.{Shelf}
 use Rattle.shelf.specs.declared.Found.the-variants.{At}
 use Rattle.shelf.proofs.Finding.{find-at}
 use Rattle.soundness.specs.State.{every, among, noneRepeated, settingsGiven, belowBus, couldBeGiven, withinCapacity, grantHasCell, requestHasCell, nobodyOr, asksKnown, arbiterKnown, soundOf, UnitSound, DeclaredIn, Sound}
-use Rattle.soundness.proofs.Pass.{framed-iff}
+use Rattle.soundness.proofs.Pass.{roomy-iff}
 
 -- a test that does not hold, and one that holds where another does
 not-iff : {a : Bool} {P : Type 0} → (a ≡ true) ↔ P → (not a ≡ true) ↔ (P → ⊥)
@@ -128,7 +128,7 @@ sound-iff card shelf store rows =
     (and-iff
     (and-iff
     (and-iff
-    (and-iff (and-iff (framed-iff (shelf .bus) (shelf .count) store rows) (once-iff us))
+    (and-iff (and-iff (roomy-iff (shelf .bus) (shelf .count) store rows) (once-iff us))
     (every-iff (belowBus (shelf .bus)) (λ u. numberOf u < shelf .bus) (λ u. lt-iff (numberOf u) (shelf .bus)) us))
     (every-iff (couldBeGiven card) (SettingsGiven card) (given-unit-iff card) us))
     (every-iff withinCapacity (λ u. RingFits (u .inlet) 4 × RingsFit (u .outlet)) (λ u. and-iff (fits-iff (u .inlet) 4) (rings-iff (u .outlet))) us))
@@ -200,4 +200,4 @@ module _ (card : Card) (shelf : Shelf) (store rows : ℕ) (sound : soundOf card 
 -- a bus without a unit is sound with any store and any rows
 pub fresh-sound : (card : Card) (bus store rows : ℕ) → (bus ≡ 16) ⊎ (bus ≡ 32) → soundOf card (fresh bus) store rows ≡ true
 unfolding soundOf every noneRepeated asksKnown arbiterKnown among
-fresh-sound card bus store rows e = rw (framed-iff bus 0 store rows .1 (((e, omega arith), omega arith), omega arith))
+fresh-sound card bus store rows e = rw (roomy-iff bus 0 store rows .1 (((e, omega arith), omega arith), omega arith))

@@ -16,7 +16,7 @@ use Rattle.shelf.specs.Shelves.{declared, numberOf, numbers}
 use Rattle.shelf.specs.declared.Unit as U
 use Rattle.shelf.specs.declared.Shelf.{Shelf}
 use Rattle.shelf.proofs.Finding.{declared-length, declared-at}
-use Rattle.soundness.specs.State.{every, among, noneRepeated, framed, belowBus, couldBeGiven, withinCapacity, unitFits, waitsAt, grantHasCell, requestHasCell, arbiterKnown, soundOf}
+use Rattle.soundness.specs.State.{every, among, noneRepeated, roomy, belowBus, couldBeGiven, withinCapacity, unitFits, waitsAt, grantHasCell, requestHasCell, arbiterKnown, soundOf}
 
 -- the numbers of a list, marked one after the other, none of them marked before
 abbrev marked : List Bool → List ℕ → List Bool
@@ -171,20 +171,20 @@ ordered : (a c d e f h j k : Bool) → a ≡ true → ((d && e && f && (h && j))
 ordered true c d e f h j k t = simp (and-assoc, swap)
 ordered false c d e f h j k t = absurd (false≢true t)
 
-pub framed-iff : (bus count store rows : ℕ) → (framed bus count store rows ≡ true) ↔ (((((bus ≡ 16) ⊎ (bus ≡ 32)) × (count ≤ 32)) × (8192 * count ≤ store)) × (count ≤ rows))
-unfolding framed
-framed-iff bus count store rows =
+pub roomy-iff : (bus count store rows : ℕ) → (roomy bus count store rows ≡ true) ↔ (((((bus ≡ 16) ⊎ (bus ≡ 32)) × (count ≤ 32)) × (8192 * count ≤ store)) × (count ≤ rows))
+unfolding roomy
+roomy-iff bus count store rows =
     and-iff (and-iff (and-iff (or-iff (eq-iff bus 16) (eq-iff bus 32)) (le-iff count 32)) (le-iff (8192 * count) store)) (le-iff count rows)
 
-pub bus-most : (bus count store rows : ℕ) → framed bus count store rows ≡ true → bus ≤ 32
-bus-most bus count store rows t = ⊎-elim (λ e. omega arith) (λ e. omega arith) (framed-iff bus count store rows .0 t .0 .0 .0)
+pub bus-most : (bus count store rows : ℕ) → roomy bus count store rows ≡ true → bus ≤ 32
+bus-most bus count store rows t = ⊎-elim (λ e. omega arith) (λ e. omega arith) (roomy-iff bus count store rows .0 t .0 .0 .0)
 
 module _ (card : Card) (shelf : Shelf) where
   -- what is left of the pass at place i
   abbrev pub left : List Bool → ℕ → Bool
   left seen i = pass card (shelf .bus) (shelf .granted) (shelf .arbiter .last) (shelf .arbiter .asks) seen (drop i (declared shelf))
 
-  pub pass-sound : (store rows : ℕ) → framed (shelf .bus) (shelf .count) store rows ≡ true → soundOf card shelf store rows ≡ left none 0
+  pub pass-sound : (store rows : ℕ) → roomy (shelf .bus) (shelf .count) store rows ≡ true → soundOf card shelf store rows ≡ left none 0
   unfolding soundOf
   pass-sound store rows t =
       let us = declared shelf in
@@ -193,12 +193,12 @@ module _ (card : Card) (shelf : Shelf) where
       sym
       (pass-document card (shelf .bus) (shelf .granted) (shelf .arbiter .last) asks us (bus-most (shelf .bus) (shelf .count) store rows t)
       ∙ ap (λ x. x && (noneRepeated (numbers us) && known)) (items card (shelf .bus) (shelf .granted) (shelf .arbiter .last) asks us)
-      ∙ ordered (framed (shelf .bus) (shelf .count) store rows) (noneRepeated (numbers us)) (every (belowBus (shelf .bus)) us) (every (couldBeGiven card) us)
+      ∙ ordered (roomy (shelf .bus) (shelf .count) store rows) (noneRepeated (numbers us)) (every (belowBus (shelf .bus)) us) (every (couldBeGiven card) us)
       (every withinCapacity us) (every (grantHasCell (shelf .granted)) us) (every (requestHasCell (shelf .granted) asks) us) known t)
 
-  pub unframed : (store rows : ℕ) → framed (shelf .bus) (shelf .count) store rows ≡ false → soundOf card shelf store rows ≡ false
+  pub not-roomy : (store rows : ℕ) → roomy (shelf .bus) (shelf .count) store rows ≡ false → soundOf card shelf store rows ≡ false
   unfolding soundOf
-  unframed store rows t = rw t
+  not-roomy store rows t = rw t
 
   -- the turns of the loop
   module _ (long : length (shelf .units) ≡ 32) (most : shelf .count ≤ 32) (seen : List Bool) (i : ℕ) (d : U.Unit) where
@@ -230,7 +230,7 @@ module _ (card : Card) (shelf : Shelf) where
     unfolding pass
     ended h = let l = declared-length shelf long in rw (drop-of-length-le (declared shelf) {i = i} (omega arith))
 
-    pub number-below : (store rows : ℕ) → framed (shelf .bus) (shelf .count) store rows ≡ true → unitFits card (shelf .bus) unit ≡ true → numberOf unit < 32
+    pub number-below : (store rows : ℕ) → roomy (shelf .bus) (shelf .count) store rows ≡ true → unitFits card (shelf .bus) unit ≡ true → numberOf unit < 32
     unfolding unitFits
     number-below store rows t e =
         let b = bus-most (shelf .bus) (shelf .count) store rows t in

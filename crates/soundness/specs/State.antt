@@ -35,8 +35,8 @@ noneRepeated [] = true
 noneRepeated (n ∷ ns) = not (among ns n) && noneRepeated ns
 
 -- "bus not 16 or 32"; no bus has more than 32 units; "cell store below 8,192 bytes a declared unit, or fewer counter rows than units"
-unfoldable pub framed : ℕ → ℕ → ℕ → ℕ → Bool
-framed bus count store rows = (eqb bus 16 || eqb bus 32) && leb count 32 && leb (8192 * count) store && leb count rows
+unfoldable pub roomy : ℕ → ℕ → ℕ → ℕ → Bool
+roomy bus count store rows = (eqb bus 16 || eqb bus 32) && leb count 32 && leb (8192 * count) store && leb count rows
 
 -- "Top VPI is at most 255 for uni, 4,095 for nni", "priority 1 to 3"; nni only on the wide card
 unfoldable pub settingsGiven : Card → Settings → Bool
@@ -90,7 +90,7 @@ arbiterKnown known granted last asks = nobodyOr known granted && lastsKnown know
 -- all of it
 unfoldable pub soundOf : Card → Shelf → ℕ → ℕ → Bool
 soundOf card shelf store rows =
-    framed (shelf .bus) (shelf .count) store rows
+    roomy (shelf .bus) (shelf .count) store rows
     && noneRepeated (numbers (declared shelf))
     && every (belowBus (shelf .bus)) (declared shelf)
     && every (couldBeGiven card) (declared shelf)

@@ -8,7 +8,7 @@ use shelf::Unit;
 ghost use mathlib.Core.Path.{_≡_};
 ghost use mathlib.Core.Bool.{false};
 ghost use lib.ListN.{getD};
-ghost use Rattle.soundness.specs.State.{settingsGiven, framed as framedIn, unitFits, waitsAt, nobodyOr, asksKnown, arbiterKnown, soundOf};
+ghost use Rattle.soundness.specs.State.{settingsGiven, roomy as roomyIn, unitFits, waitsAt, nobodyOr, asksKnown, arbiterKnown, soundOf};
 
 // Whether a `unit` line on this card could give these settings.
 pub fn settings_given(card: Card, settings: Settings) -> bool
@@ -21,8 +21,8 @@ pub fn settings_given(card: Card, settings: Settings) -> bool
 }
 
 // Whether the bus has a size, and there is room for its units.
-fn framed(bus: u8, count: u8, store: usize, rows: usize) -> bool
-    ensures { λ r. ⌜ r ≡ framedIn bus count store rows ⌝ }
+fn roomy(bus: u8, count: u8, store: usize, rows: usize) -> bool
+    ensures { λ r. ⌜ r ≡ roomyIn bus count store rows ⌝ }
 {
     let units = count as usize;
     ((bus == 16) | (bus == 32)) & (count <= 32) & (8192 * units <= store) & (units <= rows)
@@ -91,7 +91,7 @@ pub fn sound(card: Card, shelf: Shelf, store: usize, rows: usize) -> bool
     ensures { λ r. ⌜ r ≡ soundOf card shelf store rows ⌝ }
 {
     let bus = shelf.bus;
-    if !framed(bus, shelf.count, store, rows) {
+    if !roomy(bus, shelf.count, store, rows) {
         return false;
     }
     let count = shelf.count as usize;

@@ -16,7 +16,7 @@ pub const CELL: usize = 56;
 pub const PART: usize = 8192;
 
 // The first slot of the inlet.
-const INLET: u16 = 123;
+const INLET_START: u16 = 123;
 
 // Where the part of the unit in a place starts.
 pub fn part_of(place: usize) -> usize
@@ -42,14 +42,14 @@ pub fn start(limits: Limits, queue: u8) -> u16
     match mode {
         Mode::One => match queue {
             0 => 0,
-            _ => INLET,
+            _ => INLET_START,
         },
         Mode::Four => match queue {
             0 => 0,
             1 => 2,
             2 => 2 + (limits.cbrlength as u16),
             3 => 91,
-            _ => INLET,
+            _ => INLET_START,
         },
     }
 }
@@ -67,7 +67,7 @@ pub fn inlet_at(place: usize, p: u8) -> usize
     requires { ⌜ place < 32 ⌝ }
     ensures { λ r. ⌜ r ≡ slotAt place (inletSlot p) ⌝ }
 {
-    slot_at(place, INLET + (p as u16))
+    slot_at(place, INLET_START + (p as u16))
 }
 
 // Writes a cell into the store.

@@ -33,7 +33,7 @@ use Rattle.counters.specs.declared.Counters as C
 use Rattle.answer.specs.declared.Answer.the-variants.{Loaded, Unloaded, Refused}
 use Rattle.loading.specs.Loads.{answerOf}
 use Rattle.outlet.specs.Outlets.{capacity, given, ringFits, queueFits, ringsFit}
-use Rattle.soundness.specs.State.{every, among, noneRepeated, framed, settingsGiven, asksKnown, arbiterKnown, soundOf}
+use Rattle.soundness.specs.State.{every, among, noneRepeated, roomy, settingsGiven, asksKnown, arbiterKnown, soundOf}
 use Rattle.soundness.proofs.Facts.{sound-iff}
 use Rattle.shelf.specs.Shelves.{declared, fresh, findIn, placeFrom}
 use Rattle.shelf.specs.declared.Shelf.{Shelf}
@@ -214,5 +214,5 @@ loaded-frame card text memory store rows =
     (either-way card text memory store rows)
 
 pub beyond-loaded : BeyondLoaded
-unfolding soundOf framed settingsGiven given capacity ringFits queueFits ringsFit card-holds narrowHolds every among noneRepeated asksKnown arbiterKnown
+unfolding soundOf roomy settingsGiven given capacity ringFits queueFits ringsFit card-holds narrowHolds every among noneRepeated asksKnown arbiterKnown
 beyond-loaded = (refl, λ card text memory store rows e. let z = ap (λ s. s .frame) e in omega (arith, z, loaded-frame card text memory store rows))

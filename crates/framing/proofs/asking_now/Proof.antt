@@ -25,17 +25,17 @@ abbrev μ-loop : tie.MeasureT-loop
 long : (c : tie.Start Inv-loop μ-loop) → length (c .args .t1 .units) ≡ 32
 long c = search (needs, length-mapped)
 
-held-requires : tie.Need-held-requires Inv-loop μ-loop
-held-requires c κs = search needs
+declared-count-requires : tie.Need-declared-count-requires Inv-loop μ-loop
+declared-count-requires c κs = search needs
 
 loop-holds : tie.Need-loop-holds Inv-loop μ-loop
 loop-holds c = (omega arith, (refl, refl))
 
 mul-unit : tie.Need-mul-unit Inv-loop μ-loop
-mul-unit c = let e = c .before .before .held .ensures in omega arith
+mul-unit c = let e = c .before .before .declared-count .ensures in omega arith
 
 element-copy-out-unit : tie.Need-element-copy-out-unit Inv-loop μ-loop
-element-copy-out-unit c = let e = c .before .before .held .ensures in omega arith
+element-copy-out-unit c = let e = c .before .before .declared-count .ensures in omega arith
 
 asking-requires : tie.Need-asking-requires Inv-loop μ-loop
 asking-requires c κs = search needs
@@ -60,7 +60,7 @@ met c =
     (c .if1 .came)
 
 add-i : tie.Need-add-i Inv-loop μ-loop
-add-i c = let e = c .before .before .before .before .before .held .ensures in omega arith
+add-i c = let e = c .before .before .before .before .before .declared-count .ensures in omega arith
 
 loop-less : tie.Need-loop-less Inv-loop μ-loop
 loop-less c = omega arith
@@ -69,7 +69,7 @@ loop-again : tie.Need-loop-again Inv-loop μ-loop
 loop-again c =
     let b = c .before .before .before .before in
     let a = b .before .before .args in
-    let e = b .before .held .ensures in (
+    let e = b .before .declared-count .ensures in (
       omega arith,
       (
         ap length (met c) ∙ length-set (b .loop .now) _ _ ∙ b .loop .inv .1 .0,
@@ -80,7 +80,7 @@ loop-again c =
 returns : tie.Need-returns Inv-loop μ-loop
 returns c =
     let a = c .before .before .before .args in
-    let e = c .before .before .held .ensures in
+    let e = c .before .before .declared-count .ensures in
     sym (c .before .loop .inv .1 .1 ∙ asks-none (a .t1 .granted) (c .before .loop .now) _ (none-left (a .t1) (long (c .before .before .before)) (c .before .loop .i) (omega (arith, e))))
 
 pub asking-now-spec : {M : Type 1} → statement M
@@ -89,7 +89,7 @@ asking-now-spec =
     (tie.spec
     Inv-loop
     μ-loop
-    held-requires
+    declared-count-requires
     loop-holds
     mul-unit
     element-copy-out-unit

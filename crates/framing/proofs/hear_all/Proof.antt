@@ -41,17 +41,17 @@ long c = search (needs, length-mapped)
 whole : (c : tie.Start Inv-loop μ-loop) → length (c .args .t3) ≡ 56
 whole c = search needs
 
-held-requires : tie.Need-held-requires Inv-loop μ-loop
-held-requires c κs = search needs
+declared-count-requires : tie.Need-declared-count-requires Inv-loop μ-loop
+declared-count-requires c κs = search needs
 
 loop-holds : tie.Need-loop-holds Inv-loop μ-loop
 loop-holds c = (omega arith, omega arith, refl, λ j h. refl, refl, refl)
 
 mul-unit : tie.Need-mul-unit Inv-loop μ-loop
-mul-unit c = let e = c .before .before .held .ensures in omega arith
+mul-unit c = let e = c .before .before .declared-count .ensures in omega arith
 
 element-copy-out-unit : tie.Need-element-copy-out-unit Inv-loop μ-loop
-element-copy-out-unit c = let e = c .before .before .held .ensures in omega arith
+element-copy-out-unit c = let e = c .before .before .declared-count .ensures in omega arith
 
 plan-of-requires : tie.Need-plan-of-requires Inv-loop μ-loop
 plan-of-requires c κs = search needs
@@ -61,7 +61,7 @@ enum-known-plan c = search needs
 
 -- what is known once a unit's plan is made: the place is one of 32, and the unit is the one that stood there
 below : (s : tie.After-plan-of Inv-loop μ-loop) → s .before .before .before .loop .i < min (s .before .before .before .before .before .before .args .t1 .count) 32
-below s = let e = s .before .before .before .before .held .ensures in omega (arith, e, s .before .before .loop-test .taken)
+below s = let e = s .before .before .before .before .declared-count .ensures in omega (arith, e, s .before .before .loop-test .taken)
 
 same-unit : (s : tie.After-plan-of Inv-loop μ-loop) → getD (s .before .before .before .loop .shelf .units) (s .before .before .before .loop .i) nowhere ≡ getD (s .before .before .before .before .before .before .args .t1 .units) (s .before .before .before .loop .i) nowhere
 same-unit s = s .before .before .before .loop .inv .3 (s .before .before .before .loop .i) (omega arith)
@@ -162,7 +162,7 @@ loop-again c =
     let es = w .11 in
     let eh = w .12 in
     let x : f .result ≡ Queued = f .ensures ∙ ap fateBy (w .13) in (
-      omega (arith, s .before .before .before .before .held .ensures, less),
+      omega (arith, s .before .before .before .before .declared-count .ensures, less),
       omega (arith, l .inv .1, c .before .queued-one .ensures .1),
       ap length es ∙ w .8 .given ∙ l .inv .2,
       λ j h. ap (λ (z : Shelf). getD (z .units) j nowhere) eh ∙ getD-set-other (l .shelf .units) n j (r .result) nowhere (omega arith) ∙ l .inv .3 j (omega arith),
@@ -180,7 +180,7 @@ loop-again c =
     let es = w .2 in
     let eh = w .3 in
     let x = f .ensures ∙ ap fateBy (w .4) in (
-      omega (arith, s .before .before .before .before .held .ensures, less),
+      omega (arith, s .before .before .before .before .declared-count .ensures, less),
       omega (arith, l .inv .1, c .before .queued-one .ensures .1),
       ap length es ∙ l .inv .2,
       λ j h. ap (λ (z : Shelf). getD (z .units) j nowhere) eh ∙ l .inv .3 j (omega arith),
@@ -200,7 +200,7 @@ same-length c = c .before .loop .inv .2
 returns : tie.Need-returns Inv-loop μ-loop
 returns c =
     let a = c .before .before .before .before .args in
-    let e = c .before .before .held .ensures in
+    let e = c .before .before .declared-count .ensures in
     let w = c .before .loop .inv in
     let n = none-left (a .t1) (long (c .before .before .before .before)) (c .before .loop .i) (omega (arith, e)) in
     (sym (w .4 ∙ heard-none (a .heard) (c .before .loop .i) _ _ n), sym (w .5 ∙ store-none (a .heard) (c .before .loop .i) _ _ _ n))
@@ -211,7 +211,7 @@ hear-all-spec =
     (tie.spec
     Inv-loop
     μ-loop
-    held-requires
+    declared-count-requires
     loop-holds
     mul-unit
     element-copy-out-unit

@@ -7,8 +7,8 @@ use borrow.Author.Needs.{needs}
 use Rattle.loading.proofs.done_of.Statement.{statement}
 use Rattle.loading.proofs.done_of.Tie as tie
 
-held-requires : tie.Need-held-requires
-held-requires c κs = search needs
+declared-count-requires : tie.Need-declared-count-requires
+declared-count-requires c κs = search needs
 
 answer-of-requires : tie.Need-answer-of-requires
 answer-of-requires c κs = search needs
@@ -19,7 +19,7 @@ ends-requires c κs = search needs
 returns : tie.Need-returns
 returns c =
     let l = c .before .before .before .before .args .loading in
-    c .ends .ensures ∙ (λ i. ends (c .before .answer-of .ensures i) (l .shelf) (record { from = 0; to = c .before .before .held .ensures i; anew = true; each = replicate 32 0 }))
+    c .ends .ensures ∙ (λ i. ends (c .before .answer-of .ensures i) (l .shelf) (record { from = 0; to = c .before .before .declared-count .ensures i; anew = true; each = replicate 32 0 }))
 
 pub done-of-spec : {M : Type 1} → statement M
-done-of-spec = tie.close (tie.spec held-requires answer-of-requires ends-requires returns)
+done-of-spec = tie.close (tie.spec declared-count-requires answer-of-requires ends-requires returns)

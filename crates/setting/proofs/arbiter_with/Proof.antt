@@ -1,5 +1,5 @@
 -- `setting::arbiter_with` meets its contract. Assumes nothing.
-use Rattle.setting.specs.Settable.{arbiterWith}
+use Rattle.setting.specs.Changed.{arbiterWith}
 use borrow.Author.Needs.{needs}
 use Rattle.setting.proofs.arbiter_with.Statement.{statement}
 use Rattle.setting.proofs.arbiter_with.Tie as tie

@@ -1,5 +1,5 @@
 -- `setting::limits_with` meets its contract. Assumes nothing.
-use Rattle.setting.specs.Settable.{limitsWith}
+use Rattle.setting.specs.Changed.{limitsWith}
 use borrow.Author.Needs.{needs}
 use Rattle.setting.proofs.limits_with.Statement.{statement}
 use Rattle.setting.proofs.limits_with.Tie as tie

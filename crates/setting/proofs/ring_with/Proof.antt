@@ -1,5 +1,5 @@
 -- `setting::ring_with` meets its contract. Assumes nothing.
-use Rattle.setting.specs.Settable.{ringWith}
+use Rattle.setting.specs.Changed.{ringWith}
 use borrow.Author.Needs.{needs}
 use Rattle.setting.proofs.ring_with.Statement.{statement}
 use Rattle.setting.proofs.ring_with.Tie as tie

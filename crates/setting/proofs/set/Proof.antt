@@ -1,5 +1,5 @@
 -- `setting::set` meets its contract. Assumes nothing.
-use Rattle.setting.specs.Settable.{changed}
+use Rattle.setting.specs.Changed.{changed}
 use borrow.Author.Needs.{needs}
 use Rattle.setting.proofs.set.Statement.{statement}
 use Rattle.setting.proofs.set.Tie as tie

@@ -1,5 +1,5 @@
 -- `setting::settings_with` meets its contract. Assumes nothing.
-use Rattle.setting.specs.Settable.{settingsWith}
+use Rattle.setting.specs.Changed.{settingsWith}
 use borrow.Author.Needs.{needs}
 use Rattle.setting.proofs.settings_with.Statement.{statement}
 use Rattle.setting.proofs.settings_with.Tie as tie

@@ -1,5 +1,5 @@
 -- `setting::unit_with` meets its contract. Assumes nothing.
-use Rattle.setting.specs.Settable.{unitWith}
+use Rattle.setting.specs.Changed.{unitWith}
 use borrow.Author.Needs.{needs}
 use Rattle.setting.proofs.unit_with.Statement.{statement}
 use Rattle.setting.proofs.unit_with.Tie as tie

@@ -8,8 +8,8 @@ use borrow.Author.Needs.{needs}
 use Rattle.setting.proofs.units_with.Statement.{statement}
 use Rattle.setting.proofs.units_with.Tie as tie
 
-unit-of-requires : tie.Need-unit-of-requires
-unit-of-requires c κs = search needs
+unit-place-requires : tie.Need-unit-place-requires
+unit-place-requires c κs = search needs
 
 mul-u : tie.Need-mul-u
 mul-u c = search needs
@@ -29,18 +29,18 @@ array-set-from-units c = search needs
 returns : tie.Need-returns
 returns c =
     let long : length (c .before .before .before .before .args .t1) ≡ 32 = search (needs, length-mapped) in
-    unit-set (c .before .before .before .before .args .t1) _ _ _ (c .before .before .before .unit-of .result) (c .before .before .before .unit-of .ensures) _ _ (omega arith) (c .unit-with .ensures)
+    unit-set (c .before .before .before .before .args .t1) _ _ _ (c .before .before .before .unit-place .result) (c .before .before .before .unit-place .ensures) _ _ (omega arith) (c .unit-with .ensures)
 
 returns-2 : tie.Need-returns-2
 returns-2 c =
     let long : length (c .before .before .args .t1) ≡ 32 = search (needs, length-mapped) in
-    unit-past (c .before .before .args .t1) _ _ _ (c .before .unit-of .result) (c .before .unit-of .ensures) (omega arith)
+    unit-past (c .before .before .args .t1) _ _ _ (c .before .unit-place .result) (c .before .unit-place .ensures) (omega arith)
 
 pub units-with-spec : {M : Type 1} → statement M
 units-with-spec =
     tie.close
     (tie.spec
-    unit-of-requires
+    unit-place-requires
     mul-u
     array-copy-out-u
     unit-with-requires

@@ -19,12 +19,12 @@ abbrev μ-loop : tie.MeasureT-loop
 long : (c : tie.Start Inv-loop μ-loop) → length (c .args .t1 .units) ≡ 32
 long c = search (needs, length-mapped)
 
-held-requires : tie.Need-held-requires Inv-loop μ-loop
-held-requires c κs = search needs
+declared-count-requires : tie.Need-declared-count-requires Inv-loop μ-loop
+declared-count-requires c κs = search needs
 
 loop-holds : tie.Need-loop-holds Inv-loop μ-loop
 unfolding findIn
-loop-holds c = (omega arith, c .held .ensures, refl)
+loop-holds c = (omega arith, c .declared-count .ensures, refl)
 
 mul-unit : tie.Need-mul-unit Inv-loop μ-loop
 mul-unit c = omega arith
@@ -62,7 +62,7 @@ find-spec =
     (tie.spec
     Inv-loop
     μ-loop
-    held-requires
+    declared-count-requires
     loop-holds
     mul-unit
     element-copy-out-unit

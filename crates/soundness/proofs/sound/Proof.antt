@@ -6,15 +6,15 @@ use borrow.Author.Tests.{not-true, not-false}
 use lib.ListN.{length}
 use Rattle.shelf.specs.Shelves.{blank}
 use Rattle.outlet.proofs.Laws.{length-mapped}
-use Rattle.soundness.specs.State.{framed, soundOf}
-use Rattle.soundness.proofs.Pass.{left, pass-sound, unframed, misfit, stopped, passed, ended, number-below, framed-iff}
+use Rattle.soundness.specs.State.{roomy, soundOf}
+use Rattle.soundness.proofs.Pass.{left, pass-sound, not-roomy, misfit, stopped, passed, ended, number-below, roomy-iff}
 use native.Mathlib.Omega.{arith}
 use borrow.Author.Needs.{needs}
 use Rattle.soundness.proofs.sound.Statement.{statement}
 use Rattle.soundness.proofs.sound.Tie as tie
 
 abbrev Inv-loop : tie.InvT-loop
-Inv-loop card store rows shelf bus count granted last asks seen₀ i₀ seen i = (i ≤ count) × (framed (shelf .bus) (shelf .count) store rows ≡ true) × (soundOf card shelf store rows ≡ left card shelf seen i)
+Inv-loop card store rows shelf bus count granted last asks seen₀ i₀ seen i = (i ≤ count) × (roomy (shelf .bus) (shelf .count) store rows ≡ true) × (soundOf card shelf store rows ≡ left card shelf seen i)
 
 abbrev μ-loop : tie.MeasureT-loop
 μ-loop card store rows shelf bus count granted last asks seen₀ i₀ seen i = count - i
@@ -27,15 +27,15 @@ long : (c : tie.Start Inv-loop μ-loop) → length (c .args .t2 .units) ≡ 32
 long c = search (needs, length-mapped)
 
 most : (s : tie.At-loop Inv-loop μ-loop) → start s .args .t2 .count ≤ 32
-most s = let a = start s .args in framed-iff (a .t2 .bus) (a .t2 .count) (a .store) (a .rows) .0 (s .loop .inv .1) .0 .0 .1
+most s = let a = start s .args in roomy-iff (a .t2 .bus) (a .t2 .count) (a .store) (a .rows) .0 (s .loop .inv .1) .0 .0 .1
 
-framed-requires : tie.Need-framed-requires Inv-loop μ-loop
-framed-requires c κs = search needs
+roomy-requires : tie.Need-roomy-requires Inv-loop μ-loop
+roomy-requires c κs = search needs
 
 returns : tie.Need-returns Inv-loop μ-loop
 returns c =
     let a = c .before .before .args in
-    sym (unframed (a .card) (a .t2) (a .store) (a .rows) (sym (c .before .framed .ensures) ∙ not-true _ (c .if1 .taken)))
+    sym (not-roomy (a .card) (a .t2) (a .store) (a .rows) (sym (c .before .roomy .ensures) ∙ not-true _ (c .if1 .taken)))
 
 cast-count : tie.Need-cast-count Inv-loop μ-loop
 cast-count c = search needs
@@ -43,7 +43,7 @@ cast-count c = search needs
 loop-holds : tie.Need-loop-holds Inv-loop μ-loop
 loop-holds c =
     let a = c .before .before .before .before .args in
-    let t = sym (c .before .before .before .framed .ensures) ∙ not-false _ (c .before .before .if1 .left) in
+    let t = sym (c .before .before .before .roomy .ensures) ∙ not-false _ (c .before .before .if1 .left) in
     (omega arith, t, pass-sound (a .card) (a .t2) (a .store) (a .rows) t)
 
 mul-unit : tie.Need-mul-unit Inv-loop μ-loop
@@ -127,7 +127,7 @@ sound-spec =
     (tie.spec
     Inv-loop
     μ-loop
-    framed-requires
+    roomy-requires
     returns
     cast-count
     loop-holds

@@ -79,11 +79,11 @@ unitWith u field part value =
     }
 
 -- "four times the place of the unit, and the queue": the unit that a place is of
-abbrev pub unitOf : ℕ → ℕ → ℕ
-unitOf field place = cond (ltb field 18) place (place / 4)
+abbrev pub unitPlace : ℕ → ℕ → ℕ
+unitPlace field place = cond (ltb field 18) place (place / 4)
 
 unfoldable pub unitsWith : List U.Unit → ℕ → ℕ → ℕ → List U.Unit
-unitsWith units field place value = set units (unitOf field place) (unitWith (getD units (unitOf field place) blank) field (place % 4) value)
+unitsWith units field place value = set units (unitPlace field place) (unitWith (getD units (unitPlace field place) blank) field (place % 4) value)
 
 unfoldable pub octetsWith : List ℕ → ℕ → ℕ → ℕ → ℕ → List ℕ
 octetsWith bytes field own place value = set bytes place (byteIf field own value (getD bytes place 0))
