@@ -13,7 +13,7 @@ at fs k = getD fs k []
 abbrev pub push : ℕ → List (List ℕ) → List (List ℕ)
 push b fs = (b ∷ at fs 0) ∷ tail fs
 
--- "each line ended by a newline, fields parted by one tab": one field more than there are bytes that part them
+-- "fields parted by one tab, each line ended by a newline": one field more than there are bytes that part them
 unfoldable pub split : ℕ → List ℕ → List (List ℕ)
 split parting [] = [] ∷ []
 split parting (b ∷ r) = cond (eqb b parting) ([] ∷ split parting r) (push b (split parting r))
