@@ -50,7 +50,7 @@ impl Outlet {
     pub const ABR: u8 = 32;
 
     // All queues empty.
-    fn idle(limits: Limits) -> Outlet
+    fn emptied(limits: Limits) -> Outlet
         ensures { λ r. ⌜ r ≡ freshOf limits ⌝ }
     {
         Outlet {
@@ -63,7 +63,7 @@ impl Outlet {
     pub fn one(vbrlimit: u8, mark: bool) -> Outlet
         ensures { λ r. ⌜ r ≡ oneOf vbrlimit mark ⌝ }
     {
-        Outlet::idle(Limits {
+        Outlet::emptied(Limits {
             mode: Mode::One,
             cbrlength: 0,
             cbrlimit: 0,
@@ -76,7 +76,7 @@ impl Outlet {
     pub fn four(cbrlength: u8, cbrlimit: u8, vbrlimit: u8, mark: bool) -> Outlet
         ensures { λ r. ⌜ r ≡ fourOf cbrlength cbrlimit vbrlimit mark ⌝ }
     {
-        Outlet::idle(Limits {
+        Outlet::emptied(Limits {
             mode: Mode::Four,
             cbrlength,
             cbrlimit,
