@@ -6,7 +6,7 @@ use Prim.Native.Nat.{ℕ, zero, suc, _+_, _≤_, _<_}
 use native.Mathlib.Numerals.{add-one, unary-clauses}
 use native.Mathlib.Omega.{arith}
 use lib.Dec.{eqb}
-use lib.ListN.{length, getD, set, take, drop, drop-of-length-le}
+use lib.ListN.{length, getD, set, take, drop, drop-of-length-le, List·getD-eq-default}
 use lib.Seq.{drop-cons, take-all, take-suc-set, drop-set-lt, append-snoc}
 use borrow.Author.Tests.{eq-eqb, ne-eqb, eqb-true, eqb-false, le-leb, lt-leb}
 use Rattle.arbiter.proofs.Order.{units-length, unit-at, cyclic-length, cyclic-has}
@@ -140,3 +140,12 @@ module _ (bus frame : ℕ) (now : List ℕ) where
   pub renew-none : (asks : List ℕ) (n : ℕ) → length asks ≤ n → (take n asks ++ renewedFrom bus frame now n (drop n asks)) ≡ asks
   unfolding renewedFrom
   renew-none asks n h = rw (drop-of-length-le asks {i = n} h, take-all n asks h) (append-nil asks)
+
+-- renewing keeps the number of the requests, and past them nobody asks
+pub renewed-many : (bus frame : ℕ) (now : List ℕ) (start : ℕ) (asks : List ℕ) → length (renewedFrom bus frame now start asks) ≡ length asks
+unfolding renewedFrom
+renewed-many bus frame now start [] = refl
+renewed-many bus frame now start (a ∷ asks) = let h = renewed-many bus frame now (suc start) asks in omega arith
+
+pub renewed-past : (bus frame : ℕ) (now : List ℕ) (start : ℕ) (asks : List ℕ) (n : ℕ) → length asks ≤ n → getD (renewedFrom bus frame now start asks) n 0 ≡ 0
+renewed-past bus frame now start asks n h = List·getD-eq-default (renewedFrom bus frame now start asks) 0 {n = n} (omega (arith, renewed-many bus frame now start asks))

@@ -23,6 +23,10 @@ besides cells granted = cells - cond granted 1 0
 unfoldable pub asking : ℕ → ℕ → Bool → ℕ
 asking priority cells granted = cond (leb 1 (besides cells granted)) priority 0
 
+-- the same of a unit with this number, where that one is granted
+abbrev pub asksNow : ℕ → ℕ → ℕ → ℕ → ℕ
+asksNow granted number priority cells = asking priority cells (eqb number granted)
+
 -- "On a 16 bus each unit's request is renewed every frame; on a 32 bus units 0 to 15 are renewed in even frames and 16 to 31 in odd ones, and
 -- the others stand."
 abbrev pub even : ℕ → Bool

@@ -23,7 +23,7 @@ use Rattle.answer.specs.declared.Arrival as A
 use Rattle.answer.specs.declared.Arrival.the-variants.{Hec, Inletfull, Queued}
 use Rattle.answer.specs.declared.Done.{Done}
 use Rattle.admit.specs.Admission.{unitAt, withUnit, withInlet, Housed}
-use Rattle.arriving.specs.Arriving.{wayBy, wayOf, lostBy, arrived, inletFull, doneBy, storeBy}
+use Rattle.arriving.specs.Arriving.{wayBy, wayOf, fateBy, arrived, inletFull, doneBy, storeBy}
 use Rattle.arriving.specs.declared.Way.{Way}
 use Rattle.arriving.specs.declared.Way.the-variants.{Bus, Lost}
 
@@ -38,8 +38,8 @@ unfolding wayOf
 headed card u memory c e = rw e
 
 module _ (shelf : Shelf) (place : ℕ) (u : U.Unit) (same : u ≡ unitAt shelf place) (store c : List ℕ) (w : Way) where
-  pub lost-done : (fate : A.Arrival) → w ≡ Lost fate → arrived shelf place (lostBy w) ≡ doneBy w shelf place
-  unfolding lostBy doneBy
+  pub lost-done : (fate : A.Arrival) → w ≡ Lost fate → arrived shelf place (fateBy w) ≡ doneBy w shelf place
+  unfolding fateBy doneBy
   lost-done fate e = rw e
 
   pub lost-store : (fate : A.Arrival) → w ≡ Lost fate → store ≡ storeBy w (unitAt shelf place) place store c
@@ -55,8 +55,8 @@ module _ (shelf : Shelf) (place : ℕ) (u : U.Unit) (same : u ≡ unitAt shelf p
     unfolding storeBy
     full-store h = rw (e, ← same, le-leb 4 (u .inlet .count) h)
 
-    pub queued-done : (ring : Ring) → ring ≡ pushed (u .inlet) → u .inlet .count < 4 → arrived (withUnit shelf place (withInlet u ring)) place Queued ≡ doneBy w shelf place
-    unfolding doneBy
+    pub queued-done : (ring : Ring) → ring ≡ pushed (u .inlet) → u .inlet .count < 4 → arrived (withUnit shelf place (withInlet u ring)) place (fateBy w) ≡ doneBy w shelf place
+    unfolding fateBy doneBy
     queued-done ring r h = rw (e, ← same, lt-leb 4 (u .inlet .count) h) (ap (λ x. arrived (withUnit shelf place (withInlet u x)) place Queued) r)
 
     pub queued-store : u .inlet .count < 4 → putAt store place (inletSlot (tail (u .inlet) 4)) (cell routing 0 header (part c 5 48)) ≡ storeBy w (unitAt shelf place) place store c

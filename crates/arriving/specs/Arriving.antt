@@ -38,10 +38,10 @@ wayOf card u memory c =
     (wayBy (translated (recordAt card memory) (u .settings .link) (u .settings .top) (u .place) (four c 0)))
     (Lost Hec)
 
--- the fate of a cell that goes nowhere
-unfoldable pub lostBy : Way → A.Arrival
-lostBy (Bus routing header) = Queued
-lostBy (Lost fate) = fate
+-- the fate of a cell that finds room in the inlet
+unfoldable pub fateBy : Way → A.Arrival
+fateBy (Bus routing header) = Queued
+fateBy (Lost fate) = fate
 
 -- a cell has arrived at the unit in a place, with this fate
 abbrev pub arrived : Shelf → ℕ → A.Arrival → Done

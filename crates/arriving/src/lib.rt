@@ -12,7 +12,7 @@ ghost use mathlib.Core.Path.{_≡_};
 ghost use Prim.Native.Nat.{_<_, _≤_};
 ghost use lib.ListN.{length};
 ghost use Rattle.admit.specs.Admission.{unitAt, Housed};
-ghost use Rattle.arriving.specs.Arriving.{wayBy, wayOf, lostBy, arrived as arrivedAs, doneAt, storeAt, arriveDone, arriveStore};
+ghost use Rattle.arriving.specs.Arriving.{wayBy, wayOf, fateBy, arrived as arrivedAs, doneAt, storeAt, arriveDone, arriveStore};
 
 // Where an arriving cell goes: to the bus with these headers, or nowhere, with this fate.
 pub enum Way {
@@ -45,9 +45,9 @@ fn way_of(card: Card, unit: Unit, memory: &[u8], cell: &[u8]) -> Way
     way_by(lookup::translate(card, link, settings.top, unit.place, memory, word))
 }
 
-// The fate of a cell that goes nowhere; nobody asks of one that goes to the bus.
-fn lost(way: Way) -> Arrival
-    ensures { λ r. ⌜ r ≡ lostBy way ⌝ }
+// The fate of a cell that finds room in the inlet.
+fn fate_by(way: Way) -> Arrival
+    ensures { λ r. ⌜ r ≡ fateBy way ⌝ }
 {
     match way {
         Way::Bus {
@@ -85,8 +85,9 @@ fn arrive_at(
 {
     let mut unit = shelf.units[place];
     let way = way_of(card, unit, memory, cell);
+    let fate = fate_by(way);
     let Way::Bus { routing, header } = way else {
-        return arrived(shelf, place, lost(way));
+        return arrived(shelf, place, fate);
     };
     let inlet = unit.inlet;
     if Unit::INLET <= inlet.count {
@@ -98,7 +99,7 @@ fn arrive_at(
     store::put_cell(store, store::inlet_at(place, tail), &bytes);
     unit.inlet = store::pushed(inlet);
     shelf.units[place] = unit;
-    arrived(shelf, place, Arrival::Queued)
+    arrived(shelf, place, fate)
 }
 
 // Arrival of a cell at the unit with this number; everything but the counter rows, of which there are so many.

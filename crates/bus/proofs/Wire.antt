@@ -12,7 +12,8 @@ use Rattle.remainder.specs.Division.{minus, divide, remainder, residue}
 use Rattle.routing.specs.Routing.{check, routing, address}
 use Rattle.routing.specs.declared.Target.{Target}
 use Rattle.routing.specs.declared.Target.the-variants.{Unit}
-use Rattle.routing.proofs.Laws.{Sayable, address-routing, routing-lt}
+use Rattle.routing.specs.Routing.{Sayable}
+use Rattle.routing.proofs.Laws.{address-routing, routing-lt}
 use Rattle.bus.specs.Frame.{cell, parity, exclusiveOr, sealed, delivered, heard}
 use Rattle.bus.specs.declared.Heard.the-variants.{Cell}
 use Rattle.bus.proofs.Laws.{heard-address}

@@ -24,10 +24,10 @@ hearLine text = octet (unitIn (fieldsOf text) 2) λ unit. span (spanIn text 3 70
 
 -- `frame LENGTH`, `take UNIT LENGTH`: to 1,000; `count UNIT`
 unfoldable pub frameLine : List (List ℕ) → Reading
-frameLine fs = num (numberIn fs 2 1000) λ length. Does (command.Frame length)
+frameLine fs = num (numberIn fs 2 1000) λ bytes. Does (command.Frame bytes)
 
 unfoldable pub takeLine : List (List ℕ) → Reading
-takeLine fs = octet (unitIn fs 2) λ unit. num (numberIn fs 3 1000) λ length. Does (command.Take unit length)
+takeLine fs = octet (unitIn fs 2) λ unit. num (numberIn fs 3 1000) λ bytes. Does (command.Take unit bytes)
 
 unfoldable pub countLine : List (List ℕ) → Reading
 countLine fs = octet (unitIn fs 2) λ unit. Does (command.Count unit)

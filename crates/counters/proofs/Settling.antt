@@ -13,7 +13,7 @@ use lib.Seq.{getD-set-same, getD-set-other}
 use borrow.Author.Tests.{le-leb, lt-leb, leb-true, ne-eqb}
 use Rattle.answer.specs.declared.Rises.{Rises}
 use Rattle.counters.specs.declared.Counters.{Counters}
-use Rattle.counters.specs.Counting.{value, zero, raised, rowAfter, riseAt, rowBy, settledTo, settled}
+use Rattle.counters.specs.Counting.{value, zeros, raised, rowAfter, riseAt, rowBy, settledTo, settled}
 
 -- each counter rises by its own bit, and no other
 pub raised-value : (c : Counters) (n k : ℕ) → k < 13 → value (raised c n) k ≡ (value c k + n / 2 ^ k % 2) % 2 ^ 32
@@ -144,7 +144,7 @@ row-by c rises i = by-anew (rises .anew)
     n : ℕ
     n = getD (rises .each) i 0
 
-    by-anew : (b : Bool) → rowBy c (cond b 8192 (n % 8192)) ≡ cond b zero (raised c n)
+    by-anew : (b : Bool) → rowBy c (cond b 8192 (n % 8192)) ≡ cond b zeros (raised c n)
     by-anew true = refl
     by-anew false = rw (ne-eqb (n % 8192) 8192 (omega arith)) (low-set c n)
 
@@ -159,7 +159,7 @@ module _ (rows : List Counters) (rises : Rises) where
   upTo i = settledTo rows rises i
 
   abbrev new : ℕ → Counters
-  new i = rowAfter (getD rows i zero) rises i
+  new i = rowAfter (getD rows i zeros) rises i
 
   -- up to the first that changes all are as they were
   pub settled-none : (i : ℕ) → i ≤ rises .from → upTo i ≡ rows
@@ -179,34 +179,34 @@ module _ (rows : List Counters) (rises : Rises) where
       chosen (λ l. length l ≡ length rows) (leb (rises .from) i) _ _ (λ _. length-set (upTo i) i (new i) ∙ length-settled i) (λ _. length-settled i)
 
   -- a row past the places that are done is as it was
-  pub settled-ahead : (i k : ℕ) → i ≤ k → getD (upTo i) k zero ≡ getD rows k zero
+  pub settled-ahead : (i k : ℕ) → i ≤ k → getD (upTo i) k zeros ≡ getD rows k zeros
   unfolding settledTo
   settled-ahead none k h = refl
   settled-ahead (suc i) k h =
-      let old : getD (upTo i) k zero ≡ getD rows k zero = settled-ahead i k (omega arith) in
-      chosen (λ l. getD l k zero ≡ getD rows k zero) (leb (rises .from) i) _ _
-      (λ _. getD-set-other (upTo i) i k (new i) zero (λ e. omega arith) ∙ old) (λ _. old)
+      let old : getD (upTo i) k zeros ≡ getD rows k zeros = settled-ahead i k (omega arith) in
+      chosen (λ l. getD l k zeros ≡ getD rows k zeros) (leb (rises .from) i) _ _
+      (λ _. getD-set-other (upTo i) i k (new i) zeros (λ e. omega arith) ∙ old) (λ _. old)
 
   -- so is one before the first that changes
-  pub settled-behind : (i k : ℕ) → k < rises .from → getD (upTo i) k zero ≡ getD rows k zero
+  pub settled-behind : (i k : ℕ) → k < rises .from → getD (upTo i) k zeros ≡ getD rows k zeros
   unfolding settledTo
   settled-behind none k h = refl
   settled-behind (suc i) k h =
-      chosen (λ l. getD l k zero ≡ getD rows k zero) (leb (rises .from) i) _ _
-      (λ t. getD-set-other (upTo i) i k (new i) zero (λ e. omega (arith, leb-true (rises .from) i t)) ∙ settled-behind i k h) (λ _. settled-behind i k h)
+      chosen (λ l. getD l k zeros ≡ getD rows k zeros) (leb (rises .from) i) _ _
+      (λ t. getD-set-other (upTo i) i k (new i) zeros (λ e. omega (arith, leb-true (rises .from) i t)) ∙ settled-behind i k h) (λ _. settled-behind i k h)
 
   -- and one between has changed, once
-  pub settled-row : (i k : ℕ) → rises .from ≤ k → k < i → k < length rows → getD (upTo i) k zero ≡ new k
+  pub settled-row : (i k : ℕ) → rises .from ≤ k → k < i → k < length rows → getD (upTo i) k zeros ≡ new k
   unfolding settledTo
   settled-row none k f h l = absurd (omega arith)
   settled-row (suc i) k f h l =
       ⊎-elim
       (λ (e : k ≡ i).
-      let here : getD (upTo (suc i)) i zero ≡ new i = rw (le-leb (rises .from) i (omega arith)) (getD-set-same (upTo i) i (new i) zero (omega (arith, length-settled i))) in
+      let here : getD (upTo (suc i)) i zeros ≡ new i = rw (le-leb (rises .from) i (omega arith)) (getD-set-same (upTo i) i (new i) zeros (omega (arith, length-settled i))) in
       rw e here)
       (λ (less : k < i).
-      chosen (λ l. getD l k zero ≡ new k) (leb (rises .from) i) _ _
-      (λ _. getD-set-other (upTo i) i k (new i) zero (λ e. omega arith) ∙ settled-row i k f less l) (λ _. settled-row i k f less l))
+      chosen (λ l. getD l k zeros ≡ new k) (leb (rises .from) i) _ _
+      (λ _. getD-set-other (upTo i) i k (new i) zeros (λ e. omega arith) ∙ settled-row i k f less l) (λ _. settled-row i k f less l))
       (eq-or-lt-of-le {n = k} {m = i} (omega arith))
 
   -- the loop over the places ends where the last is done, also where none was to be

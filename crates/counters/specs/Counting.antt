@@ -17,8 +17,8 @@ listed c =
 abbrev pub value : Counters → ℕ → ℕ
 value c k = getD (listed c) k 0
 
-abbrev pub zero : Counters
-zero =
+abbrev pub zeros : Counters
+zeros =
     record {
       arrived = 0;
       hec = 0;
@@ -59,19 +59,19 @@ raised c n =
 
 -- the row at place i: "A good load zeroes its rows", another event raises what it counts
 unfoldable pub rowAfter : Counters → Rises → ℕ → Counters
-rowAfter c rises i = cond (rises .anew) zero (raised c (getD (rises .each) i 0))
+rowAfter c rises i = cond (rises .anew) zeros (raised c (getD (rises .each) i 0))
 
 -- the same in one number: the set of counters that rise, or 8,192, above every such set; 0 where the row stays
 unfoldable pub riseAt : Rises → ℕ → ℕ
 riseAt rises i = cond (rises .anew) 8192 (getD (rises .each) i 0 % 8192)
 
 unfoldable pub rowBy : Counters → ℕ → Counters
-rowBy c n = cond (eqb n 8192) zero (raised c n)
+rowBy c n = cond (eqb n 8192) zeros (raised c n)
 
 -- the rows before place n, from the first that changes, are done; the others are as they were
 unfoldable pub settledTo : List Counters → Rises → ℕ → List Counters
 settledTo rows rises none = rows
-settledTo rows rises (suc i) = cond (leb (rises .from) i) (set (settledTo rows rises i) i (rowAfter (getD rows i zero) rises i)) (settledTo rows rises i)
+settledTo rows rises (suc i) = cond (leb (rises .from) i) (set (settledTo rows rises i) i (rowAfter (getD rows i zeros) rises i)) (settledTo rows rises i)
 
 -- "The counters of the units are a lent row of records, in `unit` line order; rows beyond the declared units are untouched."
 abbrev pub settled : List Counters → Rises → List Counters

@@ -5,7 +5,7 @@ use answer::Rises;
 ghost use mathlib.Core.Path.{_≡_};
 ghost use Prim.Native.Nat.{_<_, _≤_};
 ghost use lib.ListN.{length, getD};
-ghost use Rattle.counters.specs.Counting.{zero as zeros, tick as ticked, raised as raisedBy, riseAt, rowBy, settled};
+ghost use Rattle.counters.specs.Counting.{zeros, tick as ticked, raised as raisedBy, riseAt, rowBy, settled};
 
 pub struct Counters {
     pub arrived: u32,

@@ -1,12 +1,11 @@
 -- The three demands are met. Assumes nothing.
-use Rattle.soundness.proofs.Facts.{sound-iff}
-use Rattle.promise.proofs.Faults.{fault-iff, good-iff, wide-iff}
+use Rattle.wording.proofs.Numerals.{numeral-iff}
+use Rattle.wording.proofs.Texts.{texts-apart}
 use Rattle.promise.proofs.Refusals.{either-way}
 use Rattle.promise.proofs.Cards.{wide-or-not}
 use Rattle.promise.proofs.Values.{starred-hold}
 use Rattle.promise.proofs.Sheets.{check-sheet}
-use Rattle.running.proofs.Refused.{refused-iff, refusal-changes-nothing}
-use Rattle.running.proofs.Kept.{soundness-kept, never-state}
+use Rattle.running.proofs.Kept.{never-state}
 use Rattle.running.proofs.Tables.{table-refused-iff, table-loaded-iff, refused-table-zeroes, good-load}
 use Rattle.running.proofs.Contracts.{entry-meets, entry-asks-nothing, entry-says, steps, determined}
 use Rattle.refining.proofs.Refined.{refines, counters-are-history, too-wide, same-card}
@@ -15,16 +14,21 @@ use Rattle.flow.proofs.Kept.{nothing-lost, in-order, counters-true}
 use Rattle.flow.proofs.Once.{numbers-once}
 use Rattle.flow.proofs.Bytes.{taken-handed, sent-framed, lowest-first}
 use Rattle.flow.proofs.Streets.{right-street}
-use Rattle.flow.proofs.Follows.{line-followed, accepted-ranged}
+use Rattle.flow.proofs.Follows.{line-followed}
 use Rattle.flow.proofs.Apart.{once-only}
 use Rattle.flow.proofs.Out.{taken-right, line-delivered, sent-right}
+use Rattle.sentences.proofs.Refused.{refused as refused-rule, state-kept}
+use Rattle.sentences.proofs.Arrives.{arrival-rule}
+use Rattle.sentences.proofs.Frames.{frame-rule}
+use Rattle.sentences.proofs.Hears.{hearing-rule}
+use Rattle.sentences.proofs.Takes.{take-rule, count-rule}
 use Rattle.fates.proofs.Fated.{fate-iff}
 use Rattle.fates.proofs.Damages.{damaged-iff}
 use Rattle.fates.proofs.Holding.{held-means-held}
 use Rattle.fates.proofs.Going.{frames-go-on}
 use Rattle.fates.proofs.Cleaned.{clean-table-clean-bus}
 use Rattle.fates.proofs.Isolated.{isolation}
-use Rattle.witness.proofs.Witnessed.{listing-prints, all-run, refusals, spoiled-state, beyond-loaded}
+use Rattle.witness.proofs.Witnessed.{listing-prints, bus-alone, all-run, refusals, spoiled-state, beyond-loaded}
 use Rattle.demands.specs.Demands.{Demand1, Demand2, Demand3, Witnessed}
 
 pub demand-1 : Demand1
@@ -36,16 +40,14 @@ demand-1 =
       steps = steps;
       determined = determined;
       table-refused-iff = table-refused-iff;
-      fault-iff = fault-iff;
-      good-iff = good-iff;
       table-loaded-iff = table-loaded-iff;
+      numeral-iff = numeral-iff;
+      texts-apart = texts-apart;
       either-way = either-way;
       refused-table-zeroes = refused-table-zeroes;
       good-load = good-load;
-      refused-iff = refused-iff;
-      sound-iff = sound-iff;
-      refusal-changes-nothing = refusal-changes-nothing;
-      soundness-kept = soundness-kept;
+      refused-rule = refused-rule;
+      state-kept = state-kept;
       never-state = never-state;
     }
 
@@ -54,6 +56,11 @@ demand-2 =
     record {
       starred-hold = starred-hold;
       check-sheet = check-sheet;
+      arrival-rule = arrival-rule;
+      frame-rule = frame-rule;
+      hearing-rule = hearing-rule;
+      take-rule = take-rule;
+      count-rule = count-rule;
       refines = refines;
       refines-refused = refines-refused;
       fate-iff = fate-iff;
@@ -71,7 +78,6 @@ demand-2 =
       lowest-first = lowest-first;
       right-street = right-street;
       line-followed = line-followed;
-      accepted-ranged = accepted-ranged;
       once-only = once-only;
       taken-right = taken-right;
       line-delivered = line-delivered;
@@ -80,7 +86,7 @@ demand-2 =
     }
 
 pub demand-3 : Demand3
-demand-3 = record { too-wide = too-wide; wide-iff = wide-iff; wide-or-not = wide-or-not; same-card = same-card }
+demand-3 = record { too-wide = too-wide; wide-or-not = wide-or-not; same-card = same-card }
 
 pub witnessed : Witnessed
-witnessed = record { listing-prints = listing-prints; all-run = all-run; refusals = refusals; spoiled = spoiled-state; beyond-loaded = beyond-loaded }
+witnessed = record { listing-prints = listing-prints; bus-alone = bus-alone; all-run = all-run; refusals = refusals; spoiled = spoiled-state; beyond-loaded = beyond-loaded }

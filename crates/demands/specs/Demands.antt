@@ -7,16 +7,13 @@ use mathlib.Core.List.{List}
 use lib.Dec.{T}
 use Rattle.routing.specs.Routing.{check}
 use Rattle.card.specs.declared.Card.{Card}
-use Rattle.shelf.specs.declared.Shelf.{Shelf}
-use Rattle.soundness.specs.State.{soundOf, Sound}
 use Rattle.line.specs.declared.Line.{Line}
+use Rattle.wording.specs.Reads.{NumeralIff, TextsApart}
 use Rattle.promise.specs.Refusals.{Accepts, Refuses}
-use Rattle.promise.specs.Faults.{FaultIff, GoodIff}
-use Rattle.promise.specs.Narrow.{NoneWide, FirstWide, WideIff}
+use Rattle.promise.specs.Narrow.{NoneWide, FirstWide}
 use Rattle.promise.specs.Sheet.{sheet}
 use Rattle.promise.specs.Starred.{starred, all-hold}
-use Rattle.running.specs.Refusing.{RefusedIff, RefusalChangesNothing}
-use Rattle.running.specs.Keeping.{SoundnessKept, NeverState}
+use Rattle.running.specs.Keeping.{NeverState}
 use Rattle.running.specs.Tables.{TableRefusedIff, TableLoadedIff, RefusedTableZeroes, GoodLoad}
 use Rattle.running.specs.Contracts.{EntryMeets, EntryAsksNothing, EntrySays, Steps, Determined}
 use Rattle.refining.specs.Refines.{Refines, RefinesRefused, CountersAreHistory}
@@ -24,16 +21,22 @@ use Rattle.refining.specs.Cards.{TooWide, SameCard}
 use Rattle.flow.specs.Lost.{NothingLost, NumbersOnce}
 use Rattle.flow.specs.Order.{InOrder, TakenHanded, SentFramed, LowestFirst}
 use Rattle.flow.specs.Counted.{CountersTrue}
-use Rattle.flow.specs.Street.{RightStreet, LineFollowed, AcceptedRanged}
+use Rattle.flow.specs.Street.{RightStreet, LineFollowed}
 use Rattle.flow.specs.Apart.{OnceOnly}
 use Rattle.flow.specs.Out.{TakenRight, LineDelivered, SentRight}
+use Rattle.sentences.specs.Refusals.{RefusedRule, StateKept}
+use Rattle.sentences.specs.Arrival.{ArrivalRule}
+use Rattle.sentences.specs.Frame.{FrameRule}
+use Rattle.sentences.specs.Hearing.{HearingRule}
+use Rattle.sentences.specs.Take.{TakeRule}
+use Rattle.sentences.specs.Count.{CountRule}
 use Rattle.fates.specs.Fates.{FateIff}
 use Rattle.fates.specs.Damage.{DamagedIff}
 use Rattle.fates.specs.Held.{HeldMeansHeld}
 use Rattle.fates.specs.Frames.{FramesGoOn}
 use Rattle.fates.specs.Clean.{CleanTableCleanBus}
 use Rattle.fates.specs.Isolation.{Isolation}
-use Rattle.witness.specs.Witness.{ListingPrints, AllRun, Refusals, Spoiled, BeyondLoaded}
+use Rattle.witness.specs.Witness.{ListingPrints, BusAlone, AllRun, Refusals, Spoiled, BeyondLoaded}
 
 -- 1. "Every entry point takes every input, finishes, and does nothing undefined. A bad table, frame, cell, buffer or shelf state is refused with a fixed number. A refused table leaves
 -- the translation memory zeroed, its first 262,144 bytes where it is longer; every other refusal changes nothing."
@@ -48,30 +51,27 @@ pub record Demand1 : Type 2 where
   pub steps : (card : Card) → Steps card
   -- "any two results that satisfy it are shown equal"
   pub determined : (card : Card) → Determined card
-  -- "A bad table .. is refused with a fixed number": each of 1 to 7, with its line, exactly when 01 says so
+  -- "A bad table .. is refused with a fixed number": each of 1 to 7, with its line, exactly when 01 says so of the text's bytes and of the lines before that one; "with 2 to 6 tried in that order on it"
   pub table-refused-iff : TableRefusedIff
-  -- 2 to 6 of a line, as facts about the lines before it: "with 2 to 6 tried in that order on it"
-  pub fault-iff : FaultIff
-  -- the lines of a good table are those of which no such fact holds
-  pub good-iff : GoodIff
   -- a table that is good has none of these faults; "`table` gives `ok` and bytes used"
   pub table-loaded-iff : TableLoadedIff
+  -- "Numbers are decimal without needless zeros.": those in the bytes of a line
+  pub numeral-iff : NumeralIff
+  -- and a text is that of one list of lines only
+  pub texts-apart : TextsApart
   -- and there is no third way
   pub either-way : (card : Card) (text memory : List ℕ) (store rows : ℕ) →
       ((told : List Line) × Accepts card text memory store rows told) ⊎ ((number : ℕ) × (line : ℕ) × Refuses card text memory store rows number line)
   -- "A refused table leaves the translation memory zeroed, its first 262,144 bytes where it is longer"
   pub refused-table-zeroes : RefusedTableZeroes
-  -- "each `unit` line takes (top VPI + 1) records and each `page` line (top VCI + 1) records, in line order, 8 bytes a record, from byte 0 without gaps": the memory byte by byte; "A good
-  -- load zeroes its rows and starts with all queues empty."
+  -- "each `unit` line takes (top VPI + 1) records and each `page` line (top VCI + 1) records, in line order, 8 bytes a record, from byte 0 without gaps": the memory byte by byte, and the
+  -- shelf number by number; "A good load zeroes its rows and starts with all queues empty."
   pub good-load : GoodLoad
-  -- "A bad .. frame, cell, buffer or shelf state is refused with a fixed number.": each of 8 to 10, over every event
-  pub refused-iff : RefusedIff
-  -- a bad shelf state is one of those that 01 lists under State, and no other
-  pub sound-iff : (card : Card) (shelf : Shelf) (store rows : ℕ) → (soundOf card shelf store rows ≡ true) ↔ Sound card shelf store rows
-  -- "every other refusal changes nothing"
-  pub refusal-changes-nothing : RefusalChangesNothing
+  -- "A bad .. frame, cell, buffer or shelf state is refused with a fixed number.": each of 8 to 10, over every event on every state, sound or not, exactly when 01 says so, a bad state item
+  -- by item; "every other refusal changes nothing"
+  pub refused-rule : RefusedRule
   -- every event leaves a good shelf state good
-  pub soundness-kept : SoundnessKept
+  pub state-kept : StateKept
   -- so no shelf that was loaded is ever refused as State
   pub never-state : NeverState
 
@@ -82,6 +82,17 @@ pub record Demand2 : Type 0 where
   pub starred-hold : T (all-hold starred)
   -- "the CUBIT-Pro data sheet": its equations for the check of the routing header are 01's remainder
   pub check-sheet : (word : ℕ) → word < 4096 → check word ≡ sheet word
+  -- 01's "What an event does", each sentence in its own numbers, on every sound state, in any memory and any store: which fate a cell meets by the record's bytes, what is said, what is
+  -- held where, which counters rise in which rows, and that nothing else changes. "**Arrival** at a unit."
+  pub arrival-rule : ArrivalRule
+  -- "**Frame**, numbered from 0 modulo 65,536."
+  pub frame-rule : FrameRule
+  -- "**Hearing**": "one handed in by the unit named with it"; "Capacities"
+  pub hearing-rule : HearingRule
+  -- "**Take** gives the oldest cell"
+  pub take-rule : TakeRule
+  -- "`count` lists the thirteen"
+  pub count-rule : CountRule
   -- "The shelf does what .. document 01 say, for frames written and frames heard.": every answer and every lent byte, from a good load on
   pub refines : Refines
   -- and from a refused one on: "a fresh 16 bus with no units"
@@ -114,10 +125,8 @@ pub record Demand2 : Type 0 where
   pub lowest-first : LowestFirst
   -- every cell held or taken was meant for that unit, and every cell that waits or is sent arrived there
   pub right-street : RightStreet
-  -- "route, VCI kept; page, the VCI's record"; "PT and CLP are kept.": target, class, outgoing VPI and VCI are those of a line of the table
+  -- "route, VCI kept; page, the VCI's record"; "PT and CLP are kept.": target, class, outgoing VPI and VCI are those of a line of the table; that the lines are in range is part of `Accepts`
   pub line-followed : LineFollowed
-  -- that the lines have their numbers in range, as `line-followed` and `line-delivered` ask, is so of every table that a card accepts
-  pub accepted-ranged : AcceptedRanged
   -- no cell goes out twice: of those that meet any test no more are sent than arrived and were routed, and no more are taken than came in frames meant for the unit
   pub once-only : OnceOnly
   -- the bytes that a take hands out are those of a cell meant for that unit
@@ -134,8 +143,6 @@ pub record Demand2 : Type 0 where
 pub record Demand3 : Type 0 where
   -- "The eight-bit card refuses it as too wide, naming the first line that asks for an NNI link, an outgoing path above 255 or the 32-unit bus, exactly when there is such a line."
   pub too-wide : TooWide
-  -- such a line is one with "`bus` 32, `nni`, or outgoing VPI above 255"
-  pub wide-iff : WideIff
   -- there is a first such line, or none: one of the two always speaks
   pub wide-or-not : (told : List Line) → NoneWide told ⊎ ((line : ℕ) × FirstWide told line)
   -- "Otherwise, over every sequence of events after loading .. it gives the same answers, cells and counters as the twelve-bit card, and both are those of demand 2."
@@ -145,7 +152,9 @@ pub record Demand3 : Type 0 where
 pub record Witnessed : Type 0 where
   -- "This table and these events": on both cards, with the bytes of the cell taken
   pub listing-prints : ListingPrints
-  -- every fate of an arrival and of a copy, Unit and Length
+  -- "A table of the `bus` line alone is good."
+  pub bus-alone : BusAlone
+  -- every fate of an arrival and of a copy, an ABR cell taken, Unit and Length
   pub all-run : AllRun
   -- each refusal of a table
   pub refusals : Refusals

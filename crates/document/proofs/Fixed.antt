@@ -18,7 +18,7 @@ use Rattle.shelf.specs.declared.Found.the-variants as found
 use Rattle.line.specs.declared.Line.{Line}
 use Rattle.answer.specs.declared.Hearing as H
 use Rattle.answer.specs.declared.Hearing.the-variants as hearing
-use Rattle.document.specs.Events.{Event, arrive, frame, hear, take, count}
+use Rattle.document.specs.Events.{Event, arrive, frame, hear, take-cell, count}
 use Rattle.document.specs.Shelf.{Cell, Routed, Unit, Shelf, withInlet, withQueue, blank, unitAt, findIn}
 use Rattle.document.specs.Arrival.{arrived}
 use Rattle.document.specs.Hearing.{hearingOf, keeping, hearingUnit, handedIn}
@@ -104,7 +104,7 @@ given-kept d (hear unit f) =
     at-unit (Keeps d) (findIn (d .units) unit) (eqb (length f) 57) _ _
     (λ place. map-set-same givenOf (d .units) place (hearingUnit (d .lines) (unitAt d place) (heard f) (payload f)) blank (heard-kept (d .lines) (unitAt d place) (heard f) (payload f)))
     (λ number. refl)
-given-kept d (take unit buffer) =
+given-kept d (take-cell unit buffer) =
     at-unit (Keeps d) (findIn (d .units) unit) (eqb (length buffer) 53) _ _ (λ place. took (leaving (unitAt d place)) d place buffer) (λ number. refl)
 given-kept d (count unit) = at-unit (Keeps d) (findIn (d .units) unit) true _ _ (λ place. refl) (λ number. refl)
 

@@ -13,10 +13,11 @@ use Rattle.header.specs.declared.Link.the-variants.{Nni}
 use Rattle.routing.specs.declared.Target.{Target}
 use Rattle.shelf.specs.declared.Settings.{Settings}
 use Rattle.line.specs.declared.Line.{Line}
-use Rattle.promise.specs.Served.{Serving, by-vp, by-drop, by-vc, served}
+use Rattle.told.specs.Served.{Serving, by-vp, by-drop, by-vc, served}
 use Rattle.answer.specs.declared.Arrival as A
 use Rattle.answer.specs.declared.Arrival.the-variants.{Hec, Ignored, Misrouted, Inletfull, Queued}
-use Rattle.document.specs.Counters.{entries, arrivalCounts}
+use Rattle.paper.specs.Counters.{arrivalCounts}
+use Rattle.document.specs.Counters.{entries}
 use Rattle.document.specs.Shelf.{Routed, Unit, Shelf, numberOf, unitAt, withInlet, after}
 
 -- a cell goes to the bus, or is lost with a fate

@@ -19,9 +19,9 @@ use Rattle.answer.specs.declared.Arrival as A
 use Rattle.answer.specs.declared.Arrival.the-variants as arrival
 use Rattle.answer.specs.declared.Hearing as H
 use Rattle.answer.specs.declared.Hearing.the-variants as hearing
-use Rattle.answer.specs.declared.Answer.the-variants.{Refused, Arrived, Framed, Heard}
-use Rattle.document.specs.Events.{Event, arrive, frame, hear, take, count, Said, answers}
-use Rattle.document.specs.Shelf.{Unit, Shelf, unitAt, withQueue, after}
+use Rattle.answer.specs.declared.Answer.the-variants.{Refused, Arrived, Framed, Heard, Taken, Empty}
+use Rattle.document.specs.Events.{Event, arrive, frame, hear, take-cell, count, Said, answers}
+use Rattle.document.specs.Shelf.{Unit, Shelf, unitAt, withQueue, after, opened}
 use Rattle.document.specs.Steps.{gives}
 use Rattle.document.specs.Examples.{one, four as limits, uni, lent}
 
@@ -60,6 +60,15 @@ sound r header = sealed (cell r 0 header (replicate 48 7))
 unfoldable pub says : Shelf → List Event → List Said
 says shelf es = map (λ b. b .said) (gives shelf es)
 
+-- a shelf, a script, and what document 01 has it say
+pub record Case : Type 0 where
+  pub on : Shelf
+  pub script : List Event
+  pub says : List Said
+
+abbrev pub case : Shelf → List Event → List Said → Case
+case shelf script said = record { on = shelf; script = script; says = said }
+
 abbrev pub arrives : List A.Arrival → List Said
 arrives fates = map (λ fate. answers (Arrived fate)) fates
 
@@ -92,7 +101,7 @@ arrivals-say =
 
 -- B. refusals: Unit before Length, Length also of a frame that would be idle and of a take that would be empty
 abbrev pub refusals : List Event
-refusals = arrive 4 [] ∷ arrive 0 [] ∷ frame [] ∷ hear 9 [] ∷ hear 0 (lent 56) ∷ take 0 [] ∷ take 300 [] ∷ count 4 ∷ []
+refusals = arrive 4 [] ∷ arrive 0 [] ∷ frame [] ∷ hear 9 [] ∷ hear 0 (lent 56) ∷ take-cell 0 [] ∷ take-cell 300 [] ∷ count 4 ∷ []
 
 abbrev pub refusals-say : List Said
 refusals-say = map (λ n. answers (Refused n)) (9 ∷ 10 ∷ 10 ∷ 9 ∷ 10 ∷ 10 ∷ 9 ∷ 9 ∷ [])
@@ -143,9 +152,22 @@ discards = to 0 1 0 ∷ to 0 1 0 ∷ to 0 1 1 ∷ to 3 0 0 ∷ to 3 0 0 ∷ to 3
 abbrev pub discards-say : List Said
 discards-say = hears (hearing.Queued ∷ hearing.Queued ∷ hearing.Clp ∷ hearing.Queued ∷ hearing.Queued ∷ hearing.Full ∷ [])
 
--- F. 004's figures 15 and 16: PT of the cells that leave; in figure 16 a class 0 cell leaves before them, marked too
+-- F. 004's figures 15 and 16: PT of the cells that leave
 unfoldable pub pts : Shelf → ℕ → ℕ → List ℕ
-pts shelf unit n = map (λ b. fields Uni (four (b .bytes) 0) .pt) (gives shelf (replicate n (take unit (lent 53))))
+pts shelf unit n = map (λ b. fields Uni (four (b .bytes) 0) .pt) (gives shelf (replicate n (take-cell unit (lent 53))))
+
+-- a shelf, a unit, and the PTs of the cells that are taken there one after the other
+pub record Figure : Type 0 where
+  pub on : Shelf
+  pub unit : ℕ
+  pub marks : List ℕ
+
+abbrev pub figures : List Figure
+figures =
+    record { on = filled 0 0 3 (opened table); unit = 0; marks = 2 ∷ 2 ∷ 0 ∷ [] }
+    -- in figure 16 a class 0 cell leaves before them, marked too
+    ∷ record { on = filled 1 0 1 (filled 1 1 3 (filled 1 2 2 (opened table))); unit = 3; marks = 2 ∷ 2 ∷ 2 ∷ 2 ∷ 2 ∷ 0 ∷ [] }
+    ∷ []
 
 -- G. bus 32 / unit 0 uni 1 1 .. / unit 16 uni 1 1 .. / unit 17 uni 1 1 .., each with vp .. 1 b 0 0
 unfoldable pub wide : List Line
@@ -173,3 +195,46 @@ turns-say =
 -- "modulo 65,536"
 abbrev pub late : Shelf → Shelf
 late d = record { lines = d .lines; bus = d .bus; units = d .units; arbiter = d .arbiter; granted = d .granted; frame = 65535; history = d .history }
+
+-- H. takes: the lowest class held leaves first, ABR last; in mode one all are in one queue
+abbrev pub taking : ℕ → List Event
+taking unit = take-cell unit (lent 53) ∷ take-cell unit (lent 53) ∷ []
+
+abbrev pub took : List Said
+took = answers Taken ∷ answers Empty ∷ []
+
+-- an ABR cell, handed in and taken
+abbrev pub abr : List Event
+abr = to 3 3 0 ∷ taking 3
+
+abbrev pub abr-say : List Said
+abr-say = hears (hearing.Queued ∷ []) ++ took
+
+-- all of them
+abbrev pub cases : List Case
+cases =
+    case (opened table) arrivals arrivals-say
+    ∷ case (opened table) refusals refusals-say
+    ∷ case (opened table) frames frames-say
+    ∷ case (opened table) heard heard-say
+    ∷ case (opened table) discards discards-say
+    ∷ case (opened table) abr abr-say
+    -- mode one, limit 2, unit 0: below the limit, at it, and with CLP 0; cells 123 and 124
+    ∷ case (filled 0 0 1 (opened table)) (to 0 1 1 ∷ to 0 2 1 ∷ to 0 3 0 ∷ []) (hears (hearing.Queued ∷ hearing.Clp ∷ hearing.Queued ∷ []))
+    ∷ case (filled 0 0 122 (opened table)) (to 0 1 0 ∷ to 0 2 0 ∷ to 0 3 1 ∷ []) (hears (hearing.Queued ∷ hearing.Full ∷ hearing.Full ∷ []))
+    -- mode four, unit 3 (place 1): class 0 holds 2 and has no limit, CBR 40 with limit 3, VBR 49 with limit 2, ABR 32 without
+    ∷ case (filled 1 0 1 (opened table)) (to 3 0 1 ∷ to 3 0 1 ∷ []) (hears (hearing.Queued ∷ hearing.Full ∷ []))
+    ∷ case (filled 1 1 2 (opened table)) (to 3 1 1 ∷ to 3 1 1 ∷ to 3 1 0 ∷ []) (hears (hearing.Queued ∷ hearing.Clp ∷ hearing.Queued ∷ []))
+    ∷ case (filled 1 2 48 (opened table)) (to 3 2 1 ∷ to 3 2 0 ∷ to 3 2 0 ∷ []) (hears (hearing.Clp ∷ hearing.Queued ∷ hearing.Full ∷ []))
+    ∷ case (filled 1 3 31 (opened table)) (to 3 3 1 ∷ to 3 3 0 ∷ []) (hears (hearing.Queued ∷ hearing.Full ∷ []))
+    -- in even frames 0 asks, in odd ones 16 and 17
+    ∷ case (opened wide) turns turns-say
+    -- frames are numbered "modulo 65,536"
+    ∷ case (late (opened table)) (frame (lent 57) ∷ frame (lent 57) ∷ []) (answers (Framed 65535 nobody nobody 0) ∷ answers (Framed 0 nobody nobody 0) ∷ [])
+    -- a cell of each class is taken; then the queues are empty
+    ∷ case (filled 1 0 1 (opened table)) (taking 3) took
+    ∷ case (filled 1 1 1 (opened table)) (taking 3) took
+    ∷ case (filled 1 2 1 (opened table)) (taking 3) took
+    ∷ case (filled 1 3 1 (opened table)) (taking 3) took
+    ∷ case (filled 0 0 1 (opened table)) (taking 0) took
+    ∷ []

@@ -11,7 +11,7 @@ pub data Event : Type 0 where
   arrive : ℕ → List ℕ → Event
   frame : List ℕ → Event
   hear : ℕ → List ℕ → Event
-  take : ℕ → List ℕ → Event
+  take-cell : ℕ → List ℕ → Event
   count : ℕ → Event
 
 -- the bytes that are lent with an event
@@ -19,7 +19,7 @@ unfoldable pub bytesOf : Event → List ℕ
 bytesOf (arrive unit cell) = cell
 bytesOf (frame buffer) = buffer
 bytesOf (hear unit heard) = heard
-bytesOf (take unit buffer) = buffer
+bytesOf (take-cell unit buffer) = buffer
 bytesOf (count unit) = []
 
 -- the unit that an event names; a frame is every unit's
@@ -27,7 +27,7 @@ unfoldable pub named : Event → Option ℕ
 named (arrive unit cell) = some unit
 named (frame buffer) = none
 named (hear unit heard) = some unit
-named (take unit buffer) = some unit
+named (take-cell unit buffer) = some unit
 named (count unit) = some unit
 
 -- what an event says: an answer, or the counters of a unit

@@ -13,7 +13,7 @@ use Rattle.line.specs.declared.Line.{Line}
 use Rattle.line.specs.declared.Line.the-variants.{Bus, Unit as L·Unit, Page, Vc}
 use Rattle.answer.specs.declared.Arrival.the-variants as arrival
 use Rattle.answer.specs.declared.Answer.the-variants.{Arrived, Framed, Taken, Empty}
-use Rattle.document.specs.Events.{Event, arrive, frame, take, count, Said, answers, counts, Back}
+use Rattle.document.specs.Events.{Event, arrive, frame, take-cell, count, Said, answers, counts, Back}
 
 abbrev pub back : Said → List ℕ → Back
 back said bytes = record { said = said; bytes = bytes }
@@ -46,7 +46,7 @@ abbrev pub lent : ℕ → List ℕ
 lent n = replicate n 0xee
 
 unfoldable pub events : List Event
-events = arrive 0 good ∷ arrive 0 wrong ∷ frame (lent 57) ∷ frame (lent 57) ∷ take 3 (lent 53) ∷ take 3 (lent 53) ∷ count 3 ∷ []
+events = arrive 0 good ∷ arrive 0 wrong ∷ frame (lent 57) ∷ frame (lent 57) ∷ take-cell 3 (lent 53) ∷ take-cell 3 (lent 53) ∷ count 3 ∷ []
 
 -- the frame: class 2 to unit 3 is 2038, VPI 9 and VCI 40 are 00 90 02 80; the parity is theirs, since 48 equal bytes cancel
 unfoldable pub printed : List Back

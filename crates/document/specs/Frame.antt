@@ -8,7 +8,7 @@ use Rattle.routing.specs.Routing.{routing}
 use Rattle.bus.specs.Frame.{cell, sealed}
 use Rattle.bus.specs.declared.Heard as H
 use Rattle.bus.specs.declared.Heard.the-variants as frame
-use Rattle.arbiter.specs.Arbitration.{asking, renewed, grantedBy}
+use Rattle.arbiter.specs.Arbitration.{asksNow, renewed, grantedBy}
 use Rattle.arbiter.specs.declared.Arbiter.{Arbiter}
 use Rattle.arbiter.specs.declared.Granted.{Granted}
 use Rattle.shelf.specs.declared.Found as F
@@ -18,17 +18,15 @@ use Rattle.answer.specs.declared.Hearing as A
 use Rattle.answer.specs.declared.Answer.the-variants.{Framed}
 use Rattle.answer.specs.declared.Answer as N
 use Rattle.answer.specs.Answers.{queuedOne, isAddressed}
-use Rattle.document.specs.Counters.{Entry, entries, hearingCounts, sentCounts}
+use Rattle.paper.specs.Counters.{hearingCounts, sentCounts}
+use Rattle.document.specs.Counters.{Entry, entries}
 use Rattle.document.specs.Shelf.{Cell, Routed, Unit, Shelf, numberOf, withInlet, findIn, unitAt}
 use Rattle.document.specs.Hearing.{hearingOf, hearingUnit}
 
 -- "First requests: a unit asks if it has a cell besides one already granted." What these units ask now, each by its number
-abbrev pub asksNow : ℕ → Unit → ℕ
-asksNow granted u = asking (u .settings .priority) (length (u .inlet)) (eqb (numberOf u) granted)
-
 unfoldable pub askingOf : ℕ → List ℕ → List Unit → List ℕ
 askingOf granted now [] = now
-askingOf granted now (u ∷ us) = askingOf granted (set now (numberOf u) (asksNow granted u)) us
+askingOf granted now (u ∷ us) = askingOf granted (set now (numberOf u) (asksNow granted (numberOf u) (u .settings .priority) (length (u .inlet)))) us
 
 abbrev pub requests : Shelf → Arbiter
 requests shelf = renewed (shelf .arbiter) (shelf .bus) (shelf .frame) (askingOf (shelf .granted) (replicate 32 0) (shelf .units))

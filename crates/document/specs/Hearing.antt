@@ -14,7 +14,8 @@ use Rattle.line.specs.declared.Line.{Line}
 use Rattle.told.specs.Told.{hearsIn}
 use Rattle.answer.specs.declared.Hearing as A
 use Rattle.answer.specs.declared.Hearing.the-variants.{Damaged, Other, Wide, Full, Clp, Queued}
-use Rattle.document.specs.Counters.{entries, hearingCounts}
+use Rattle.paper.specs.Counters.{hearingCounts}
+use Rattle.document.specs.Counters.{entries}
 use Rattle.document.specs.Shelf.{Cell, Unit, Shelf, numberOf, queueAt, held, withQueue, unitAt, after}
 
 -- "address 8 (unit, session, or 0 for broadcast)", "`mc` unit, session: the unit hears that session", "All declared units hear a broadcast, the

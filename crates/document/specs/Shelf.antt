@@ -1,5 +1,5 @@
 -- The document's shelf: the table as its lines, inlets and outlets as lists of cells, requests and grants by unit number. Assumes nothing.
-use Prim.Native.Nat.{ℕ}
+use Prim.Native.Nat.{ℕ, _+_}
 use mathlib.Core.Bool.{false}
 use mathlib.Core.List.{List, [], _∷_, _++_, map}
 use lib.ListN.{length, getD, set}
@@ -53,6 +53,13 @@ queueAt u q = getD (u .queues) q []
 
 abbrev pub held : Unit → ℕ → ℕ
 held u q = length (queueAt u q)
+
+-- in the four queues together, and the cells in a unit's outlet
+abbrev pub inAll : (ℕ → List Cell) → ℕ
+inAll f = length (f 0) + length (f 1) + length (f 2) + length (f 3)
+
+abbrev pub inOutlet : Unit → ℕ
+inOutlet u = inAll (queueAt u)
 
 abbrev pub withInlet : Unit → List Routed → Unit
 withInlet u inlet = record { settings = u .settings; limits = u .limits; inlet = inlet; queues = u .queues }

@@ -8,7 +8,7 @@ use Rattle.bus.specs.Frame.{heard}
 use Rattle.shelf.specs.declared.Found as F
 use Rattle.shelf.specs.declared.Found.the-variants.{At, Nothing}
 use Rattle.answer.specs.declared.Answer.the-variants.{Refused, Arrived, Heard}
-use Rattle.document.specs.Events.{Event, arrive, frame, hear, take, count, Said, answers, counts, Back}
+use Rattle.document.specs.Events.{Event, arrive, frame, hear, take-cell, count, Said, answers, counts, Back}
 use Rattle.document.specs.Counters.{countersOf}
 use Rattle.document.specs.Shelf.{Shelf, findIn, unitAt, numberOf}
 use Rattle.document.specs.Arrival.{arrivalOf, arrived}
@@ -50,7 +50,7 @@ happensTo shelf (hear unit f) =
     admitted (findIn (shelf .units) unit) (eqb (length f) 57)
     (λ place. step (answers (Heard (hearingOf (shelf .lines) (unitAt shelf place) (heard f)))) (handedIn shelf place f) f)
     (λ number. refused shelf number f)
-happensTo shelf (take unit buffer) =
+happensTo shelf (take-cell unit buffer) =
     admitted (findIn (shelf .units) unit) (eqb (length buffer) 53) (λ place. tookStep (takes shelf place buffer)) (λ number. refused shelf number buffer)
 happensTo shelf (count unit) =
     admitted (findIn (shelf .units) unit) true

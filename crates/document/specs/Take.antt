@@ -1,19 +1,25 @@
 -- 01's Take. Assumes nothing.
 use Prim.Native.Nat.{ℕ}
 use mathlib.Core.Bool.{Bool, _&&_, _||_}
-use mathlib.Core.List.{List, [], _∷_}
+use mathlib.Core.List.{List, [], _∷_, _++_}
 use lib.Dec.{leb}
+use Rattle.octets.specs.Octets.{be4}
+use Rattle.header.specs.Check.{check}
 use Rattle.outlet.specs.declared.Mode.{Mode}
 use Rattle.outlet.specs.declared.Mode.the-variants.{One, Four}
 use Rattle.queueing.specs.Hearing.{limit}
 use Rattle.queueing.specs.Taking.{lowest, queues, outgoing}
 use Rattle.queueing.specs.declared.Leaving as L
 use Rattle.queueing.specs.declared.Leaving.the-variants as leaves
-use Rattle.taking.specs.Takes.{lineCell}
 use Rattle.answer.specs.declared.Answer as A
 use Rattle.answer.specs.declared.Answer.the-variants.{Taken, Empty}
-use Rattle.document.specs.Counters.{taken, entries}
+use Rattle.paper.specs.Counters.{taken}
+use Rattle.document.specs.Counters.{entries}
 use Rattle.document.specs.Shelf.{Cell, Unit, Shelf, numberOf, queueAt, held, withQueue, unitAt, after}
+
+-- "A line cell is 53 bytes: header 4, check 1, payload 48."
+unfoldable pub lineCell : ℕ → List ℕ → List ℕ
+lineCell header payload = be4 header ++ (check header ∷ payload)
 
 -- "the oldest cell (mode `one`) or the oldest cell of the lowest class held (mode `four`), or `empty`": the queue that it leaves
 abbrev pub leaving : Unit → L.Leaving

@@ -6,14 +6,8 @@ use counters::Counters;
 use shelf::Shelf;
 ghost use mathlib.Core.Path.{_≡_};
 ghost use lib.ListN.{length};
-ghost use Rattle.counters.specs.Counting.{settled};
-ghost use Rattle.arriving.specs.Arriving.{arriveDone, arriveStore};
-ghost use Rattle.framing.specs.Frames.{frameDone, frameStore, frameBuffer};
-ghost use Rattle.taking.specs.Takes.{takeDone, takeBuffer};
-ghost use Rattle.hearing.specs.Hearings.{hearDone, hearStore};
-ghost use Rattle.loading.specs.Loads.{loadDone, loadMemory};
-ghost use Rattle.admit.specs.Admission.{counted as placeOf};
-ghost use Rattle.entry.specs.Counts.{countOf, counted as countedOf};
+ghost use Rattle.entry.specs.Counts.{counted as countedOf};
+ghost use Rattle.entry.specs.Outcomes.{arrives, frames, hears, takes, countsOf, loads, LeavesStore, LeavesAll, LeavesBytes, LeavesMemory};
 
 // A cell arrives at a unit.
 pub fn arrive(
@@ -25,9 +19,7 @@ pub fn arrive(
     unit: u8,
     cell: &[u8],
 ) -> Reply
-    ensures { λ r. ⌜ (r ≡ arriveDone card shelf (now (memory .entry)) (length (now (store .entry))) (length (now (rows .entry))) unit (now (cell .entry)) .reply)
-        × ((now (store .exit) ≡ arriveStore card shelf (now (memory .entry)) (now (store .entry)) (length (now (rows .entry))) unit (now (cell .entry)))
-        × (now (rows .exit) ≡ settled (now (rows .entry)) (arriveDone card shelf (now (memory .entry)) (length (now (store .entry))) (length (now (rows .entry))) unit (now (cell .entry)) .rises))) ⌝ }
+    ensures { λ r. ⌜ LeavesStore (arrives card shelf (now (memory .entry)) (now (store .entry)) (now (rows .entry)) (length (now (rows .entry))) unit (now (cell .entry))) r (now (store .exit)) (now (rows .exit)) ⌝ }
 {
     let n = rows.len();
     let done = arriving::arrive(card, shelf, memory, store, n, unit, cell);
@@ -44,10 +36,7 @@ pub fn frame(
     rows: &mut [Counters],
     buffer: &mut [u8],
 ) -> Reply
-    ensures { λ r. ⌜ (r ≡ frameDone card shelf (now (store .entry)) (length (now (rows .entry))) (length (now (buffer .entry))) .reply)
-        × ((now (store .exit) ≡ frameStore card shelf (now (store .entry)) (length (now (rows .entry))) (length (now (buffer .entry))))
-        × ((now (buffer .exit) ≡ frameBuffer card shelf (now (store .entry)) (length (now (rows .entry))) (now (buffer .entry)))
-        × (now (rows .exit) ≡ settled (now (rows .entry)) (frameDone card shelf (now (store .entry)) (length (now (rows .entry))) (length (now (buffer .entry))) .rises)))) ⌝ }
+    ensures { λ r. ⌜ LeavesAll (frames card shelf (now (store .entry)) (now (rows .entry)) (length (now (rows .entry))) (now (buffer .entry))) r (now (store .exit)) (now (buffer .exit)) (now (rows .exit)) ⌝ }
 {
     let n = rows.len();
     let done = framing::frame(card, shelf, store, n, buffer);
@@ -65,9 +54,7 @@ pub fn take(
     unit: u8,
     buffer: &mut [u8],
 ) -> Reply
-    ensures { λ r. ⌜ (r ≡ takeDone card shelf (length (now (store .entry))) (length (now (rows .entry))) unit (length (now (buffer .entry))) .reply)
-        × ((now (buffer .exit) ≡ takeBuffer card shelf (now (store .entry)) (length (now (rows .entry))) unit (now (buffer .entry)))
-        × (now (rows .exit) ≡ settled (now (rows .entry)) (takeDone card shelf (length (now (store .entry))) (length (now (rows .entry))) unit (length (now (buffer .entry))) .rises))) ⌝ }
+    ensures { λ r. ⌜ LeavesBytes (takes card shelf (now (store .entry)) (now (rows .entry)) (length (now (rows .entry))) unit (now (buffer .entry))) r (now (buffer .exit)) (now (rows .exit)) ⌝ }
 {
     let n = rows.len();
     let done = taking::take(card, shelf, store, n, unit, buffer);
@@ -85,9 +72,7 @@ pub fn hear(
     unit: u8,
     frame: &[u8],
 ) -> Reply
-    ensures { λ r. ⌜ (r ≡ hearDone card shelf (length (now (store .entry))) (length (now (rows .entry))) unit (now (frame .entry)) .reply)
-        × ((now (store .exit) ≡ hearStore card shelf (now (store .entry)) (length (now (rows .entry))) unit (now (frame .entry)))
-        × (now (rows .exit) ≡ settled (now (rows .entry)) (hearDone card shelf (length (now (store .entry))) (length (now (rows .entry))) unit (now (frame .entry)) .rises))) ⌝ }
+    ensures { λ r. ⌜ LeavesStore (hears card shelf (now (store .entry)) (now (rows .entry)) (length (now (rows .entry))) unit (now (frame .entry))) r (now (store .exit)) (now (rows .exit)) ⌝ }
 {
     let n = rows.len();
     let done = hearing::hear(card, shelf, store, n, unit, frame);
@@ -104,9 +89,7 @@ pub fn load(
     store: &[u8],
     rows: &mut [Counters],
 ) -> Reply
-    ensures { λ r. ⌜ (r ≡ loadDone card (now (text .entry)) (now (memory .entry)) (length (now (store .entry))) (length (now (rows .entry))) .reply)
-        × ((now (memory .exit) ≡ loadMemory card (now (text .entry)) (now (memory .entry)) (length (now (store .entry))) (length (now (rows .entry))))
-        × (now (rows .exit) ≡ settled (now (rows .entry)) (loadDone card (now (text .entry)) (now (memory .entry)) (length (now (store .entry))) (length (now (rows .entry))) .rises))) ⌝ }
+    ensures { λ r. ⌜ LeavesMemory (loads card (now (text .entry)) (now (memory .entry)) (now (store .entry)) (now (rows .entry)) (length (now (rows .entry)))) r (now (memory .exit)) (now (rows .exit)) ⌝ }
 {
     let n = rows.len();
     let done = loading::load(card, text, memory, store, n);
@@ -139,7 +122,7 @@ pub fn counted_at(place: Place, row: Counters) -> Counted
 
 // The counters of a unit.
 pub fn count(card: Card, shelf: Shelf, store: &[u8], rows: &[Counters], unit: u8) -> Counted
-    ensures { λ r. ⌜ r ≡ countOf (placeOf card shelf (length (now (store .entry))) (length (now (rows .entry))) unit) (now (rows .entry)) ⌝ }
+    ensures { λ r. ⌜ r ≡ countsOf card shelf (now (store .entry)) (now (rows .entry)) (length (now (rows .entry))) unit ⌝ }
 {
     let n = rows.len();
     let place = admit::counted(card, shelf, store, n, unit);

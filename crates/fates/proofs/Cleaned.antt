@@ -27,7 +27,8 @@ use Rattle.answer.specs.declared.Hearing as Q
 use Rattle.answer.specs.declared.Hearing.the-variants as hearing
 use Rattle.answer.specs.Answers.{isAddressed}
 use Rattle.document.specs.Events.{frame}
-use Rattle.document.specs.Counters.{Counter, unheard, damaged, placeOf, entries, times, hearingCounts, sentCounts, occurs}
+use Rattle.paper.specs.Counters.{Counter, unheard, damaged, placeOf, hearingCounts, sentCounts, occurs}
+use Rattle.document.specs.Counters.{entries, times}
 use Rattle.document.specs.Shelf.{Routed, Unit as D·Unit, Shelf, numberOf, held, withInlet, blank, findIn, unitAt}
 use Rattle.document.specs.Hearing.{addressed, fateIn, hearingOf}
 use Rattle.document.specs.Frame.{asHeard, someAddressed, heardEntries, sendsFrom}

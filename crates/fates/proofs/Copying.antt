@@ -16,7 +16,8 @@ use Rattle.document.specs.Shelf.{Cell, Routed, Unit as D·Unit, Shelf, queueAt,
 use Rattle.document.specs.Hearing.{hearingOf, keeping, hearingUnit}
 use Rattle.document.specs.Frame.{asHeard, allHear, copies}
 use Rattle.running.proofs.Changed.{set-or}
-use Rattle.fates.specs.Frames.{inOutlet, inOutlets}
+use Rattle.document.specs.Shelf.{inOutlet}
+use Rattle.fates.specs.Frames.{inOutlets}
 
 -- a unit with one more cell in a queue
 module _ (u : D·Unit) (four : length (u .queues) ≡ 4) (x : Cell) where

@@ -23,14 +23,15 @@ use Rattle.line.specs.declared.Line.{Line}
 use Rattle.line.specs.declared.Line.the-variants.{Bus, Unit as L·Unit, Vp, Drop, Page, Vc, Mc}
 use Rattle.told.specs.Told.{only, either, hearsBy, hearsIn}
 use Rattle.told.proofs.Grown.{decide}
-use Rattle.promise.specs.Served.{Serving, by-vp, by-drop, by-vc, serves, served}
+use Rattle.told.specs.Served.{Serving, by-vp, by-drop, by-vc, serves, served}
 use Rattle.answer.specs.declared.Arrival as A
 use Rattle.answer.specs.declared.Arrival.the-variants as arrival
 use Rattle.answer.specs.declared.Hearing as Q
 use Rattle.answer.specs.declared.Hearing.the-variants as hearing
 use Rattle.answer.specs.declared.Answer.the-variants.{Arrived, Heard}
 use Rattle.document.specs.Events.{answers}
-use Rattle.document.specs.Counters.{entries, arrivalCounts, hearingCounts}
+use Rattle.paper.specs.Counters.{arrivalCounts, hearingCounts}
+use Rattle.document.specs.Counters.{entries}
 use Rattle.document.specs.Shelf.{Unit as D·Unit, numberOf, unitAt}
 use Rattle.document.specs.Arrival.{headerOf, lost, wayBy, wayFor, wayOf, arrivalBy, arrivalOf, arrived}
 use Rattle.document.specs.Hearing.{addressed, fateIn, hearingOf, handedIn}

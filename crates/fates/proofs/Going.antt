@@ -11,7 +11,7 @@ use lib.Seq.{getD-set-same, getD-set-other}
 use borrow.Author.Tests.{eqb-true, eq-eqb, ltb-true, ltb-false, lt-ltb, le-ltb}
 use Rattle.card.specs.declared.Card.{Card}
 use Rattle.arbiter.specs.Arbitration.{nobody, fresh, besides, due, arbiterOf, Asks, Changed}
-use Rattle.arbiter.proofs.Requests.{renewed-at, asks-with, asks-without}
+use Rattle.arbiter.proofs.Requests.{renewed-many, renewed-at, asks-with, asks-without}
 use Rattle.arbiter.proofs.Grants.{not-granted, grants-if-asked, granted-highest, granted-first, granted-changes}
 use Rattle.store.proofs.Slots.{by-lt}
 use Rattle.store.proofs.Queues.{length-cells}
@@ -27,7 +27,8 @@ use Rattle.admit.specs.Admission.{unitAt}
 use Rattle.answer.specs.declared.Answer.the-variants.{Framed}
 use Rattle.document.specs.Events.{frame, answers}
 use Rattle.document.specs.Shelf as D
-use Rattle.document.specs.Frame.{requests, asksNow, askingOf, frameOf, sendsFrom, sends, sentIn, framed, framedAnswer}
+use Rattle.arbiter.specs.Arbitration.{asksNow}
+use Rattle.document.specs.Frame.{requests, askingOf, frameOf, sendsFrom, sends, sentIn, framed, framedAnswer}
 use Rattle.document.specs.Steps.{step, happensTo}
 use Rattle.document.proofs.Fixed.{givenOf, given-kept}
 use Rattle.running.specs.Events.{World, happens}
@@ -37,7 +38,7 @@ use Rattle.refining.proofs.Steps.{once}
 use Rattle.refining.proofs.Refined.{then-alike}
 use Rattle.refining.proofs.Finds.{length-map, find-alike, declared-is}
 use Rattle.fates.specs.Frames.{asksOf, grantedNow, afterFrame, Renewed, leftBy, AsksRightly, Waits, GrantedInTurn, inOutlets, SendsOldest, Idle, Starts, GoesOn, FramesGoOn}
-use Rattle.fates.proofs.Loads.{Full, renewed-many, from-load, found-at, four-queues}
+use Rattle.fates.proofs.Loads.{Full, from-load, found-at, four-queues}
 use Rattle.fates.proofs.Fated.{untrue}
 use Rattle.fates.proofs.Holding.{hears-all}
 use Rattle.fates.proofs.Copying.{copies-queued}
@@ -53,18 +54,18 @@ module _ (g : ℕ) where
   unfolding askingOf
   asked-other now [] n f = refl
   asked-other now (u ∷ us) n f =
-      asked-other (set now (D.numberOf u) (asksNow g u)) us n (λ j h. f (suc j) (omega arith)) ∙ getD-set-other now (D.numberOf u) n (asksNow g u) 0 (λ e. f 0 (omega arith) (sym e))
+      asked-other (set now (D.numberOf u) (asksNow g (D.numberOf u) (u .settings .priority) (length (u .inlet)))) us n (λ j h. f (suc j) (omega arith)) ∙ getD-set-other now (D.numberOf u) n (asksNow g (D.numberOf u) (u .settings .priority) (length (u .inlet))) 0 (λ e. f 0 (omega arith) (sym e))
 
   -- so each unit finds its own
   asked-at : (now : List ℕ) (us : List D.Unit) (i : ℕ) → i < length us → Different us → D.numberOf (getD us i D.blank) < length now →
-      getD (askingOf g now us) (D.numberOf (getD us i D.blank)) 0 ≡ asksNow g (getD us i D.blank)
+      getD (askingOf g now us) (D.numberOf (getD us i D.blank)) 0 ≡ asksNow g (D.numberOf (getD us i D.blank)) ((getD us i D.blank) .settings .priority) (length ((getD us i D.blank) .inlet))
   unfolding askingOf
   asked-at now [] i h once low = absurd (omega arith)
   asked-at now (u ∷ us) zero h once low =
-      asked-other (set now (D.numberOf u) (asksNow g u)) us (D.numberOf u) (λ j k e. once 0 (suc j) (omega arith) (omega arith) (sym e))
-      ∙ getD-set-same now (D.numberOf u) (asksNow g u) 0 low
+      asked-other (set now (D.numberOf u) (asksNow g (D.numberOf u) (u .settings .priority) (length (u .inlet)))) us (D.numberOf u) (λ j k e. once 0 (suc j) (omega arith) (omega arith) (sym e))
+      ∙ getD-set-same now (D.numberOf u) (asksNow g (D.numberOf u) (u .settings .priority) (length (u .inlet))) 0 low
   asked-at now (u ∷ us) (suc i) h once low =
-      asked-at (set now (D.numberOf u) (asksNow g u)) us i (omega arith) (λ j k l m. once (suc j) (suc k) (omega arith) (omega arith)) (omega (arith, low, length-set now (D.numberOf u) (asksNow g u)))
+      asked-at (set now (D.numberOf u) (asksNow g (D.numberOf u) (u .settings .priority) (length (u .inlet)))) us i (omega arith) (λ j k l m. once (suc j) (suc k) (omega arith) (omega arith)) (omega (arith, low, length-set now (D.numberOf u) (asksNow g (D.numberOf u) (u .settings .priority) (length (u .inlet)))))
 
 -- before any request
 no-requests : (n : ℕ) → getD (fresh .asks) n 0 ≡ 0
@@ -257,7 +258,7 @@ module _ (card : Card) (w : World) (d : D.Shelf) (a : WorldAlike card w d) where
 
   -- a unit's request that is renewed is what it asks now
   request-is : Full (d .arbiter) → (i : ℕ) → i < length (d .units) → due (d .bus) (d .frame) (D.numberOf (D.unitAt d i)) ≡ true →
-      getD (asksOf d) (D.numberOf (D.unitAt d i)) 0 ≡ asksNow (d .granted) (D.unitAt d i)
+      getD (asksOf d) (D.numberOf (D.unitAt d i)) 0 ≡ asksNow (d .granted) (D.numberOf (D.unitAt d i)) ((D.unitAt d i) .settings .priority) (length ((D.unitAt d i) .inlet))
   request-is full i h turn =
       let n = D.numberOf (D.unitAt d i) in
       let low : n < 32 = below-32 i h in

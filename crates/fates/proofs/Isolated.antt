@@ -27,7 +27,7 @@ use Rattle.queueing.specs.declared.Leaving as L
 use Rattle.queueing.specs.declared.Leaving.the-variants as leaves
 use Rattle.answer.specs.Answers.{row, refused, arrivalRises, hearingRises, #taken}
 use Rattle.answer.specs.declared.Arrival.the-variants.{Inletfull, Queued}
-use Rattle.counters.specs.Counting.{settled, settledTo, zero}
+use Rattle.counters.specs.Counting.{settled, settledTo, zeros}
 use Rattle.counters.proofs.Settling.{settled-ahead, settled-behind, length-settled}
 use Rattle.counters.specs.declared.Counters as C
 use Rattle.admit.specs.Admission.{admitted, decided, unitAt, withUnit, withInlet, Housed}
@@ -44,7 +44,7 @@ use Rattle.hearing.specs.declared.Plan as P
 use Rattle.hearing.specs.declared.Plan.the-variants as plans
 use Rattle.hearing.proofs.Plans.{plan-queue, outlet-inside}
 use Rattle.taking.specs.Takes as taking
-use Rattle.document.specs.Events.{arrive, frame, hear, take as takes, count, named}
+use Rattle.document.specs.Events.{arrive, frame, hear, take-cell, count, named}
 use Rattle.running.specs.Events.{World, ended, happens}
 use Rattle.fates.specs.Isolation.{Outside, OnlyAt, Isolation}
 
@@ -53,7 +53,7 @@ byte-of : (b : List ℕ) (k : ℕ) → getD (part b k 1) 0 0 ≡ getD b k 0
 byte-of b k = getD-take 1 (drop k b) 0 0 (omega arith) ∙ getD-drop k b 0 0 ∙ ap (λ n. getD b n 0) (let e : k + 0 ≡ k = omega arith in e)
 
 -- a row that changes in one place
-other-row : (rows : List C.Counters) (i n j : ℕ) → j ≢ i → getD (settled rows (row i n)) j zero ≡ getD rows j zero
+other-row : (rows : List C.Counters) (i n j : ℕ) → j ≢ i → getD (settled rows (row i n)) j zeros ≡ getD rows j zeros
 other-row rows i n j apart =
     by-lt j i
     (λ h. settled-behind rows (row i n) (i + 1) j h)
@@ -253,7 +253,7 @@ isolation card w (hear unit f) n e =
     only-unit w i (hearingRises (hearing.copyOf v (heard f) .fate)) _
     (heard-so w i housed (heard f) (take 56 f) (let a = length-take 56 f in let b = eqb-true (length f) 57 r in omega arith)) (hearing.copyOf v (heard f) .unit))
     n e
-isolation card w (takes unit buffer) n e =
+isolation card w (take-cell unit buffer) n e =
     both card w unit (eqb (length buffer) 53)
     (λ a. ended w (decided a (taking.doneAt (w .shelf)) (refused (w .shelf))) (w .store) buffer .world)
     (λ number. refl)

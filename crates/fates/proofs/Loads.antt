@@ -7,6 +7,7 @@ use mathlib.Core.List.{List, [], _∷_, map}
 use lib.Dec.{eqb}
 use lib.ListN.{length, getD, replicate, List·getD-eq-default, List·getD-map}
 use borrow.Author.Tests.{eqb-true}
+use Rattle.arbiter.proofs.Requests.{renewed-many}
 use Rattle.card.specs.declared.Card.{Card}
 use Rattle.shelf.specs.Shelves.{placeFrom}
 use Rattle.shelf.specs.declared.Found as F
@@ -18,7 +19,7 @@ use Rattle.queueing.specs.declared.Leaving as L
 use Rattle.queueing.specs.declared.Leaving.the-variants as leaves
 use Rattle.store.proofs.Slots.{by-lt}
 use Rattle.told.proofs.Grown.{decide}
-use Rattle.document.specs.Events.{Event, arrive, frame, hear, take, count}
+use Rattle.document.specs.Events.{Event, arrive, frame, hear, take-cell, count}
 use Rattle.document.specs.Shelf as D
 use Rattle.document.specs.Arrival.{arrived}
 use Rattle.document.specs.Hearing.{handedIn}
@@ -51,12 +52,6 @@ pub record Full (arbiter : Arbiter) : Type 0 where
   pub lasts : length (arbiter .last) ≡ 3
   pub asks : length (arbiter .asks) ≡ 32
 
--- renewing the requests keeps their number
-pub renewed-many : (bus at : ℕ) (now : List ℕ) (n : ℕ) (asks : List ℕ) → length (renewedFrom bus at now n asks) ≡ length asks
-unfolding renewedFrom
-renewed-many bus at now n [] = refl
-renewed-many bus at now n (a ∷ asks) = let h = renewed-many bus at now (suc n) asks in omega arith
-
 -- a take leaves the arbiter alone
 took-from : (cells : List D.Cell) (d : D.Shelf) (place q : ℕ) (buffer : List ℕ) → T.takesFrom cells d place q buffer .shelf .arbiter ≡ d .arbiter
 unfolding T.takesFrom
@@ -81,7 +76,7 @@ full-kept d (frame buffer) full =
     })
     full
 full-kept d (hear unit f) full = at-unit (λ s. Full (s .shelf .arbiter)) (D.findIn (d .units) unit) (eqb (length f) 57) _ _ (λ place. full) (λ number. full)
-full-kept d (take unit buffer) full =
+full-kept d (take-cell unit buffer) full =
     at-unit (λ s. Full (s .shelf .arbiter)) (D.findIn (d .units) unit) (eqb (length buffer) 53) _ _
     (λ place. subst Full (sym (took (T.leaving (D.unitAt d place)) d place buffer)) full) (λ number. full)
 full-kept d (count unit) full = at-unit (λ s. Full (s .shelf .arbiter)) (D.findIn (d .units) unit) true _ _ (λ place. full) (λ number. full)

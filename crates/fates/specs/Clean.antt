@@ -9,7 +9,8 @@ use Rattle.bus.specs.declared.Heard.the-variants.{Cell}
 use Rattle.arbiter.specs.Arbitration.{nobody}
 use Rattle.routing.specs.declared.Target.{Target}
 use Rattle.document.specs.Events.{frame}
-use Rattle.document.specs.Counters.{Counter, unheard, damaged, times}
+use Rattle.paper.specs.Counters.{Counter, unheard, damaged}
+use Rattle.document.specs.Counters.{times}
 use Rattle.document.specs.Shelf.{Shelf, unitAt}
 use Rattle.document.specs.Steps.{happensTo}
 use Rattle.fates.specs.Fates.{Addressed}

@@ -19,14 +19,15 @@ use Rattle.queueing.specs.Hearing.{queueOf, limit, busClp, TooWide}
 use Rattle.shelf.specs.declared.Found.the-variants.{At}
 use Rattle.line.specs.declared.Line.{Line}
 use Rattle.line.specs.declared.Line.the-variants.{Vp, Drop, Vc, Mc}
-use Rattle.promise.specs.Served.{Serving, by-vp, by-drop, by-vc, served}
+use Rattle.told.specs.Served.{Serving, by-vp, by-drop, by-vc, served}
 use Rattle.answer.specs.declared.Arrival as A
 use Rattle.answer.specs.declared.Arrival.the-variants as arrival
 use Rattle.answer.specs.declared.Hearing as Q
 use Rattle.answer.specs.declared.Hearing.the-variants as hearing
 use Rattle.answer.specs.declared.Answer.the-variants.{Arrived, Heard}
 use Rattle.document.specs.Events.{Event, arrive, hear, Said, answers}
-use Rattle.document.specs.Counters.{Counter, entries, arrivalCounts, hearingCounts}
+use Rattle.paper.specs.Counters.{Counter, arrivalCounts, hearingCounts}
+use Rattle.document.specs.Counters.{entries}
 use Rattle.document.specs.Shelf.{Unit as D·Unit, Shelf, numberOf, held, findIn, unitAt}
 use Rattle.document.specs.Arrival.{headerOf, arrivalOf}
 use Rattle.document.specs.Hearing.{hearingOf}

@@ -11,7 +11,8 @@ use Rattle.shelf.specs.declared.Found.the-variants.{At}
 use Rattle.line.specs.declared.Line.{Line}
 use Rattle.answer.specs.declared.Answer.the-variants.{Framed}
 use Rattle.document.specs.Events.{frame, answers}
-use Rattle.document.specs.Shelf.{Routed, Unit as D·Unit, Shelf, numberOf, held, findIn, unitAt, opened}
+use Rattle.paper.specs.Grants.{Renewed as RenewedIn}
+use Rattle.document.specs.Shelf.{inOutlet, Routed, Unit as D·Unit, Shelf, numberOf, held, findIn, unitAt, opened}
 use Rattle.document.specs.Frame.{requests, frameOf, granting}
 use Rattle.document.specs.Steps.{happensTo}
 use Rattle.fates.specs.Held.{unitAfter}
@@ -30,7 +31,7 @@ afterFrame d buffer = happensTo d (frame buffer) .shelf
 
 -- "On a 16 bus each unit's request is renewed every frame; on a 32 bus units 0 to 15 are renewed in even frames and 16 to 31 in odd ones"
 abbrev pub Renewed : Shelf → ℕ → Type 0
-Renewed d n = (d .bus ≡ 16) ⊎ ((n < 16) × (d .frame % 2 ≡ 0)) ⊎ ((16 ≤ n) × (d .frame % 2 ≡ 1))
+Renewed d n = RenewedIn (d .bus) (d .frame) n
 
 -- what a frame leaves of its grant: the last units granted, and the requests
 abbrev pub leftBy : Shelf → List ℕ → Grant
@@ -59,10 +60,7 @@ pub record GrantedInTurn (d : Shelf) : Type 0 where
   pub first :
       FirstOf (asksOf d) (getD (asksOf d) (grantedNow d) 0) (cyclic (lastAt (d .arbiter .last) (getD (asksOf d) (grantedNow d) 0))) (grantedNow d)
 
--- how many cells a unit has in its outlet, and these units in theirs
-abbrev pub inOutlet : D·Unit → ℕ
-inOutlet u = held u 0 + held u 1 + held u 2 + held u 3
-
+-- how many cells these units have in their outlets
 unfoldable pub inOutlets : List D·Unit → ℕ
 inOutlets [] = 0
 inOutlets (u ∷ us) = inOutlet u + inOutlets us

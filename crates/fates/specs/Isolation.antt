@@ -8,7 +8,7 @@ use Rattle.card.specs.declared.Card.{Card}
 use Rattle.store.specs.Places.{partOf}
 use Rattle.shelf.specs.Shelves.{declared, findIn}
 use Rattle.shelf.specs.declared.Found.the-variants.{At, Nothing}
-use Rattle.counters.specs.Counting.{zero}
+use Rattle.counters.specs.Counting.{zeros}
 use Rattle.admit.specs.Admission.{unitAt}
 use Rattle.document.specs.Events.{Event, named}
 use Rattle.running.specs.Events.{World, happens}
@@ -20,7 +20,7 @@ Outside place byte = (byte < partOf place) ⊎ (partOf place + 8192 ≤ byte)
 -- between these two worlds nothing has changed but the unit in a place, its row and its part of the store
 pub record OnlyAt (place : ℕ) (before after : World) : Type 0 where
   pub units : (j : ℕ) → j ≢ place → unitAt (after .shelf) j ≡ unitAt (before .shelf) j
-  pub rows : (j : ℕ) → j ≢ place → getD (after .rows) j zero ≡ getD (before .rows) j zero
+  pub rows : (j : ℕ) → j ≢ place → getD (after .rows) j zeros ≡ getD (before .rows) j zeros
   pub store : (k : ℕ) → Outside place k → getD (after .store) k 0 ≡ getD (before .store) k 0
   pub many-units : length (after .shelf .units) ≡ length (before .shelf .units)
   pub many-rows : length (after .rows) ≡ length (before .rows)

@@ -17,8 +17,9 @@ use Rattle.line.specs.declared.Line.{Line}
 use Rattle.answer.specs.declared.Hearing as A
 use Rattle.answer.specs.declared.Hearing.the-variants as hearing
 use Rattle.answer.specs.Answers.{queuedOne}
-use Rattle.document.specs.Counters.{placeOf, times, occurs}
-use Rattle.document.specs.Events.{Event, arrive, frame, hear, take, count, named}
+use Rattle.paper.specs.Counters.{placeOf, occurs}
+use Rattle.document.specs.Counters.{times}
+use Rattle.document.specs.Events.{Event, arrive, frame, hear, take-cell, count, named}
 use Rattle.document.specs.Shelf.{Cell, Routed, Unit, Shelf, numberOf, withInlet, findIn, unitAt, opened}
 use Rattle.document.specs.Arrival.{Way, goes, lost, wayOf}
 use Rattle.document.specs.Hearing.{addressed, fateIn, hearingOf}
@@ -49,7 +50,7 @@ unfolding named partOf
 rests-there d (arrive u c) unit i n other = let z : u ≡ unit = cc in not-named d u i (λ x. other (x ∙ z)) (findIn (d .units) u) refl (eqb (length c) 53) (arrives c)
 rests-there d (frame buffer) unit i n other = let z : _≡_ {A = ℕ} 0 1 = cc in absurd (omega arith)
 rests-there d (hear u f) unit i n other = let z : u ≡ unit = cc in not-named d u i (λ x. other (x ∙ z)) (findIn (d .units) u) refl (eqb (length f) 57) _
-rests-there d (take u buffer) unit i n other = let z : u ≡ unit = cc in not-named d u i (λ x. other (x ∙ z)) (findIn (d .units) u) refl (eqb (length buffer) 53) takes
+rests-there d (take-cell u buffer) unit i n other = let z : u ≡ unit = cc in not-named d u i (λ x. other (x ∙ z)) (findIn (d .units) u) refl (eqb (length buffer) 53) takes
 rests-there d (count u) unit i n other = refl
 
 -- so nothing of it changes

@@ -15,7 +15,7 @@ use Rattle.queueing.specs.declared.Leaving.the-variants as leaves
 use Rattle.shelf.specs.declared.Found as F
 use Rattle.shelf.specs.declared.Found.the-variants.{At, Nothing}
 use Rattle.told.proofs.Grown.{decide}
-use Rattle.document.specs.Events.{frame, take, answers}
+use Rattle.document.specs.Events.{frame, take-cell, answers}
 use Rattle.document.specs.Shelf.{Cell, Routed, Unit, Shelf, numberOf, queueAt, held, findIn, unitAt}
 use Rattle.document.specs.Frame.{asHeard, sendsFrom, sends as sends·out, sentIn, framed, framedAnswer}
 use Rattle.document.specs.Take.{leaving, takesFrom, takesBy, takes as takes·out, nothing}
@@ -27,10 +27,10 @@ use Rattle.flow.proofs.Times.{found}
 -- A. a take
 module _ (d : Shelf) (unit : ℕ) (buffer : List ℕ) where
   abbrev out : Step
-  out = happensTo d (take unit buffer)
+  out = happensTo d (take-cell unit buffer)
 
   -- it is refused
-  refused-out : (n : ℕ) → out ≡ refused d n buffer → ((i : ℕ) → partOf d (take unit buffer) i ≡ rests) → NoneOut d unit buffer
+  refused-out : (n : ℕ) → out ≡ refused d n buffer → ((i : ℕ) → partOf d (take-cell unit buffer) i ≡ rests) → NoneOut d unit buffer
   unfolding takenBy
   refused-out n e p =
       record {
@@ -39,24 +39,24 @@ module _ (d : Shelf) (unit : ℕ) (buffer : List ℕ) where
         bytes = ap (λ s. s .bytes) e;
       }
 
-  module _ (place : ℕ) (inside : place < length (d .units)) (named : numberOf (unitAt d place) ≡ unit) (e : out ≡ tookStep (takes·out d place buffer)) (p : (i : ℕ) → partOf d (take unit buffer) i ≡ cond (eqb i place) takes rests) where
+  module _ (place : ℕ) (inside : place < length (d .units)) (named : numberOf (unitAt d place) ≡ unit) (e : out ≡ tookStep (takes·out d place buffer)) (p : (i : ℕ) → partOf d (take-cell unit buffer) i ≡ cond (eqb i place) takes rests) where
     abbrev u : Unit
     u = unitAt d place
 
     -- what leaves, and from where
-    leaves-here : (q : ℕ) → takenFrom d (take unit buffer) place q ≡ oldestIn (leaving u) u q
+    leaves-here : (q : ℕ) → takenFrom d (take-cell unit buffer) place q ≡ oldestIn (leaving u) u q
     unfolding takenBy
     leaves-here q = ap (λ x. takenBy u x q) (p place ∙ ap (λ b. cond b takes rests) (eq-eqb place place refl))
 
     -- nothing leaves elsewhere
-    leaves-there : (i q : ℕ) → (i ≡ place → ⊥) → takenFrom d (take unit buffer) i q ≡ []
+    leaves-there : (i q : ℕ) → (i ≡ place → ⊥) → takenFrom d (take-cell unit buffer) i q ≡ []
     unfolding takenBy
     leaves-there i q apart = ap (λ x. takenBy (unitAt d i) x q) (p i ∙ ap (λ b. cond b takes rests) (ne-eqb i place apart))
 
     -- where the queue has nothing to give, nothing leaves
-    anywhere : (i q : ℕ) → oldestIn (leaving u) u q ≡ [] → takenFrom d (take unit buffer) i q ≡ []
+    anywhere : (i q : ℕ) → oldestIn (leaving u) u q ≡ [] → takenFrom d (take-cell unit buffer) i q ≡ []
     anywhere i q none =
-        decide (eqb i place) (λ t. ap (λ j. takenFrom d (take unit buffer) j q) (eqb-true i place t) ∙ leaves-here q ∙ none) (λ f. leaves-there i q (eqb-false i place f))
+        decide (eqb i place) (λ t. ap (λ j. takenFrom d (take-cell unit buffer) j q) (eqb-true i place t) ∙ leaves-here q ∙ none) (λ f. leaves-there i q (eqb-false i place f))
 
     -- none is there
     none-out : out ≡ tookStep (nothing d buffer) → ((q : ℕ) → oldestIn (leaving u) u q ≡ []) → NoneOut d unit buffer
@@ -91,7 +91,7 @@ module _ (d : Shelf) (unit : ℕ) (buffer : List ℕ) where
               decide (eqb i place)
               (λ t.
               let z = eqb-true i place t in
-              ap (λ j. takenFrom d (take unit buffer) j k) z ∙ leaves-here k ∙ ap (λ x. oldestIn x u k) l
+              ap (λ j. takenFrom d (take-cell unit buffer) j k) z ∙ leaves-here k ∙ ap (λ x. oldestIn x u k) l
               ∙ ap (λ b. cond b (lists.take 1 (queueAt u q)) []) (ne-eqb k q (λ y. apart (z, y))))
               (λ f. leaves-there i k (eqb-false i place f));
           bytes = ap (λ x. x .bytes) (e ∙ ap (λ x. tookStep (takesBy x d place buffer)) l ∙ ap (λ x. tookStep (takesFrom x d place q buffer)) s);

@@ -14,10 +14,11 @@ use Rattle.queueing.specs.Taking.{lowest, marked, outgoing}
 use Rattle.arbiter.specs.Arbitration.{asking, due, renewedFrom, run, cyclic, next, someAsks, highest, first, granted}
 use Rattle.shelf.specs.Shelves.{placeFrom}
 use Rattle.told.specs.Told.{hearsBy, hearsIn}
-use Rattle.promise.specs.Served.{serves, served}
-use Rattle.taking.specs.Takes.{lineCell}
+use Rattle.told.specs.Served.{serves, served}
+use Rattle.document.specs.Take.{lineCell}
 use Rattle.answer.specs.Answers.{queuedOne, isAddressed}
-use Rattle.document.specs.Counters.{times, arrivalCounts, hearingCounts, sentCounts}
+use Rattle.paper.specs.Counters.{arrivalCounts, hearingCounts, sentCounts}
+use Rattle.document.specs.Counters.{times}
 use Rattle.document.specs.Shelf.{Cell, unitsOf, busOf, opened}
 use Rattle.document.specs.Arrival.{wayBy, wayFor, wayOf, arrivalBy, inletBy, arrived}
 use Rattle.document.specs.Hearing.{addressed, fateIn, hearingOf, keeping, hearingUnit, handedIn}

@@ -22,14 +22,13 @@ use Rattle.shelf.specs.declared.Settings.{Settings}
 use Rattle.line.specs.declared.Line.{Line}
 use Rattle.line.specs.declared.Line.the-variants.{Bus, Unit as L·Unit, Vp, Drop, Page, Vc, Mc}
 use Rattle.told.specs.Told.{only, either}
-use Rattle.line.specs.Ranges.{InRange}
+use Rattle.wording.specs.Words.{InRange, AllInRange}
+use Rattle.told.specs.Served.{Serving, by-vp, by-drop, by-vc, serves, served}
 use Rattle.record.specs.Record.{usable}
-use Rattle.promise.specs.Served.{Serving, by-vp, by-drop, by-vc, serves, served}
-use Rattle.promise.proofs.Runs.{AllInRange, good-in-range}
 use Rattle.answer.specs.declared.Arrival.the-variants.{Hec, Ignored, Misrouted}
 use Rattle.document.specs.Shelf.{Routed}
 use Rattle.document.specs.Arrival.{Way, goes, lost, routed, wayBy, wayFor, wayOf, headerOf}
-use Rattle.flow.specs.Street.{LineGives, by-path, by-circuit, Follows, Ranged, LineFollowed, AcceptedRanged}
+use Rattle.flow.specs.Street.{LineGives, by-path, by-circuit, Follows, LineFollowed}
 
 -- the line that says so
 abbrev lineOf : ℕ → ℕ → ℕ → Serving → Line
@@ -99,6 +98,12 @@ vci-lt : (link : Link) (w : ℕ) → fields link w .vci < 2 ^ 16
 unfolding fields
 vci-lt link w = mod-lt (w / 2 ^ 4) (omega arith)
 
+-- each of these lines is in range
+each-ranged : (lines : List Line) → AllInRange lines → (l : Line) → In l lines → InRange l
+each-ranged [] all l m = absurd (List·Memᴰ·not-nil m)
+each-ranged (x ∷ lines) all l (List·Memᴰ·head e) = subst InRange (sym e) (all .0)
+each-ranged (x ∷ lines) all l (List·Memᴰ·tail m) = each-ranged lines (all .1) l m
+
 -- a cell that a line gives a VPI and a VCI follows it
 module _ (lines : List Line) (s : Settings) (bytes : List ℕ) where
   abbrev h : H.Header
@@ -110,17 +115,17 @@ module _ (lines : List Line) (s : Settings) (bytes : List ℕ) where
       (record { vpi = vpi; vci = vci; line = l; header = on-bus (s .link) (four bytes 0) vpi vci p c target class (part bytes 5 48); payload = refl })
 
   -- the line that serves the cell
-  by-line : Ranged lines → (r : Routed) (o : Option Serving) → served lines (s .number) (h .vpi) (h .vci) ≡ o → wayBy o h (part bytes 5 48) ≡ goes r → Follows lines s bytes r
+  by-line : AllInRange lines → (r : Routed) (o : Option Serving) → served lines (s .number) (h .vpi) (h .vci) ≡ o → wayBy o h (part bytes 5 48) ≡ goes r → Follows lines s bytes r
   unfolding wayBy
   by-line good r none t e = let z : _≡_ {A = ℕ} 0 1 = cc in absurd (omega arith)
   by-line good r (some by-drop) t e = let z : _≡_ {A = ℕ} 0 1 = cc in absurd (omega arith)
   by-line good r (some (by-vp target class outvpi)) t e =
       let m = served-line lines (s .number) (h .vpi) (h .vci) (by-vp target class outvpi) t in
-      follows target class outvpi (h .vci) (good _ m .way .outvpi-most) (vci-lt (s .link) (four bytes 0)) (by-path m refl) r (cc)
+      follows target class outvpi (h .vci) (each-ranged lines good _ m .4) (vci-lt (s .link) (four bytes 0)) (by-path m refl) r (cc)
   by-line good r (some (by-vc target class outvpi outvci)) t e =
       let m = served-line lines (s .number) (h .vpi) (h .vci) (by-vc target class outvpi outvci) t in
-      let n = good _ m .outvci-most in
-      follows target class outvpi outvci (good _ m .way .outvpi-most) (omega arith) (by-circuit m) r (cc)
+      let n = each-ranged lines good _ m in
+      follows target class outvpi outvci (n .5) (omega (arith, n .6)) (by-circuit m) r (cc)
 
   -- a cell that goes on has passed the other tests
   goes-by : (r : Routed) → wayOf lines s bytes ≡ goes r → wayBy (served lines (s .number) (h .vpi) (h .vci)) h (part bytes 5 48) ≡ goes r
@@ -146,12 +151,3 @@ module _ (lines : List Line) (s : Settings) (bytes : List ℕ) where
 
 pub line-followed : LineFollowed
 line-followed lines good s bytes r e = by-line lines s bytes good r (served lines (s .number) (headerOf s bytes .vpi) (headerOf s bytes .vci)) refl (goes-by lines s bytes r e)
-
--- each line of an accepted table could be read
-each-ranged : (lines : List Line) → AllInRange lines → Ranged lines
-each-ranged [] all l m = absurd (List·Memᴰ·not-nil m)
-each-ranged (x ∷ lines) all l (List·Memᴰ·head e) = subst InRange (sym e) (all .0)
-each-ranged (x ∷ lines) all l (List·Memᴰ·tail m) = each-ranged lines (all .1) l m
-
-pub accepted-ranged : AcceptedRanged
-accepted-ranged card text memory store rows lines a = each-ranged lines (good-in-range card (usable memory) text lines (a .fine))

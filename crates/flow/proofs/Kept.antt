@@ -7,12 +7,14 @@ use lib.ListN.{length, getD, length-map, length-append, List·getD-map}
 use Rattle.line.specs.declared.Line.{Line}
 use Rattle.line.specs.declared.Line.the-variants.{Bus, Unit as L·Unit, Vp, Drop, Page, Vc, Mc}
 use Rattle.document.specs.Events.{Event}
-use Rattle.document.specs.Counters.{Counter, arrived, hec, ignored, misrouted, inletfull, sent, queued, full, clp, wide, taken, placeOf, times, occurs}
+use Rattle.paper.specs.Counters.{Counter, arrived, hec, ignored, misrouted, inletfull, sent, queued, full, clp, wide, taken, placeOf, occurs}
+use Rattle.document.specs.Counters.{times}
 use Rattle.document.specs.Shelf.{Cell, Unit, Shelf, numberOf, queueAt, blank, unitAt, unitsBy, unitsOf, opened}
 use Rattle.document.specs.Steps.{happensTo, becomes}
 use Rattle.document.proofs.Fixed.{givenOf, given, given-kept}
 use Rattle.flow.specs.Parts.{Part, rests, arrives, hears, takes, sends, partOf, countedAt, arrivedAt, addressedAt, broughtIn, sentFrom, queuedIn, takenFrom}
-use Rattle.flow.specs.Lost.{Different, inAll, happened, Accounted, NothingLost}
+use Rattle.flow.specs.Lost.{Different, happened, Accounted, NothingLost}
+use Rattle.document.specs.Shelf.{inAll}
 use Rattle.flow.specs.Counted.{CountersTrue}
 use Rattle.flow.specs.Order.{over, queuedAll, takenAll, broughtAll, sentAll, InOrder}
 use Rattle.flow.proofs.Times.{occurs-append}

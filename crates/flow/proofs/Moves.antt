@@ -24,20 +24,20 @@ use Rattle.queueing.proofs.Fates.{queue-lt}
 use Rattle.shelf.specs.declared.Settings.{Settings}
 use Rattle.line.specs.declared.Line.{Line}
 use Rattle.told.proofs.Grown.{decide}
-use Rattle.promise.specs.Served.{Serving, by-vp, by-drop, by-vc, served}
+use Rattle.told.specs.Served.{Serving, by-vp, by-drop, by-vc, served}
 use Rattle.answer.specs.declared.Arrival as N
 use Rattle.answer.specs.declared.Arrival.the-variants as arrival
 use Rattle.answer.specs.declared.Hearing as A
 use Rattle.answer.specs.declared.Hearing.the-variants as hearing
 use Rattle.answer.specs.Answers.{queuedOne}
-use Rattle.document.specs.Counters.{Counter, arrived, hec, ignored, misrouted, inletfull, sent, queued, full, clp, wide, taken, placeOf, arrivalCounts, hearingCounts, sentCounts, occurs}
+use Rattle.paper.specs.Counters.{Counter, arrived, hec, ignored, misrouted, inletfull, sent, queued, full, clp, wide, taken, placeOf, arrivalCounts, hearingCounts, sentCounts, occurs}
 use Rattle.document.specs.Shelf.{Cell, Unit, queueAt, held, withInlet, withQueue}
 use Rattle.document.specs.Arrival.{Way, goes, lost, wayBy, wayFor, wayOf, arrivalBy, inletBy}
 use Rattle.document.specs.Hearing.{addressed, fateIn, hearingOf, keeping, hearingUnit}
 use Rattle.document.specs.Frame.{asHeard, someAddressed}
 use Rattle.document.specs.Take.{leaving}
 use Rattle.flow.specs.Parts.{Part, rests, arrives, hears, takes, sends, arrivedBy, heardBy, isFor, among, roomFor, broughtBy, sentBy, copyIn, queuedBy, oldestIn, takenBy, tookBy, countsBy}
-use Rattle.flow.specs.Lost.{inAll}
+use Rattle.document.specs.Shelf.{inAll}
 use Rattle.flow.proofs.Times.{occurs-append}
 use Rattle.flow.proofs.Turns.{leftFrom, leftBy, unitBy, heard-without, holds-one}
 

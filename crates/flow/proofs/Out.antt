@@ -29,18 +29,19 @@ use Rattle.queueing.specs.Taking.{marked, outgoing}
 use Rattle.queueing.specs.declared.Leaving as L
 use Rattle.queueing.specs.declared.Leaving.the-variants as leaves
 use Rattle.queueing.proofs.Headers.{outgoing-fields, vpi-kept, outgoing-lt}
-use Rattle.taking.specs.Takes.{lineCell}
+use Rattle.document.specs.Take.{lineCell}
 use Rattle.line.specs.declared.Line.{Line}
 use Rattle.told.proofs.Grown.{decide}
 use Rattle.document.specs.Arrival.{headerOf}
-use Rattle.document.specs.Events.{Event, take}
+use Rattle.document.specs.Events.{Event, take-cell}
 use Rattle.document.specs.Shelf.{Cell, Unit, queueAt, held, unitAt, opened}
 use Rattle.document.specs.Take.{leaving, atLimit, congested, marks}
 use Rattle.document.proofs.Fixed.{given-stays}
 use Rattle.flow.specs.Parts.{Part, rests, arrives, hears, takes, sends, partOf, oldestIn, takenBy}
 use Rattle.flow.specs.Order.{HandedOut}
 use Rattle.flow.specs.Street.{declaredAt, CameFrom, by-bus, by-hand}
-use Rattle.flow.specs.Out.{reached, out, linkAt, heldAt, Crowded, Marks, ReadsAs, RightlyTaken, TakenRight, LineDelivered, SentRight}
+use Rattle.paper.specs.Outlets.{Crowded, Marks}
+use Rattle.flow.specs.Out.{reached, out, linkAt, heldAt, ReadsAs, RightlyTaken, TakenRight, LineDelivered, SentRight}
 use Rattle.flow.proofs.Kept.{given-at, number-at, as-many, still-different}
 use Rattle.flow.proofs.Streets.{right-street}
 use Rattle.flow.proofs.Follows.{payload-kept, line-followed}
@@ -75,7 +76,7 @@ was-first u (sends r rest) q c e = let z : _≡_ {A = ℕ} 0 1 = cc in absurd (o
 
 -- a cell that leaves fits its unit's link
 not-wide : (lines : List Line) (es : List Event) (i q : ℕ) (c : Cell) → CameFrom lines es i q c → TooWide (linkAt lines i) (c .header) → ⊥
-not-wide lines es i q c (by-bus place r inside a m e) w = m .narrow (subst (λ x. TooWide (linkAt lines i) (x .header)) e w)
+not-wide lines es i q c (by-bus place r inside a s m e) w = m .narrow (subst (λ x. TooWide (linkAt lines i) (x .header)) e w)
 not-wide lines es i q c (by-hand f target class header event h m e) w = m .narrow (subst (λ x. TooWide (linkAt lines i) (x .header)) e w)
 
 -- its payload has 48 bytes
@@ -89,7 +90,7 @@ frame-length f target class header e =
     (λ t. let x = heard-length f (eqb-false (length f) 57 t) in let z : _≡_ {A = ℕ} 0 1 = cc in absurd (omega arith))
 
 payload-length : (lines : List Line) (es : List Event) (i q : ℕ) (c : Cell) → CameFrom lines es i q c → length (c .payload) ≡ 48
-payload-length lines es i q c (by-bus place r inside a m e) =
+payload-length lines es i q c (by-bus place r inside a s m e) =
     let w = a .whole in
     ap (λ x. length (x .payload)) e ∙ ap length (payload-kept lines (declaredAt lines place .settings) (a .bytes) r (a .way)) ∙ part-length (a .bytes) 5 48 (omega arith)
 payload-length lines es i q c (by-hand f target class header event h m e) =
@@ -138,7 +139,7 @@ module _ (lines : List Line) (es : List Event) where
       let l = many in
       let k = h .inside in
       let within : h .place < length (opened lines .units) = omega arith in
-      let o = was-first (unitAt d (h .place)) (partOf d (take unit buffer) (h .place)) (h .queue) (h .cell) (h .left) in
+      let o = was-first (unitAt d (h .place)) (partOf d (take-cell unit buffer) (h .place)) (h .queue) (h .cell) (h .left) in
       let origin = right-street lines es (h .place) within .held (h .queue) (h .cell) (subst (λ cs. In (h .cell) cs) (sym (o .1)) (List·Memᴰ·head refl)) in
       record {
         place = h .place;

@@ -20,11 +20,12 @@ use Rattle.shelf.specs.declared.Found.the-variants.{At, Nothing}
 use Rattle.store.proofs.Slots.{by-lt}
 use Rattle.told.proofs.Grown.{decide}
 use Rattle.line.specs.declared.Line.{Line}
-use Rattle.document.specs.Events.{Event, arrive, frame, hear, take, count, answers}
+use Rattle.document.specs.Events.{Event, arrive, frame, hear, take-cell, count, answers}
 use Rattle.document.specs.Shelf.{Cell, Routed, Unit, Shelf, numberOf, queueAt, blank, findIn, unitAt, opened}
 use Rattle.document.specs.Arrival.{arrived}
 use Rattle.document.specs.Hearing.{handedIn}
-use Rattle.document.specs.Frame.{asksNow, askingOf, requests, frameOf, sendsFrom, sends as sends·out, sentIn, framed, framedAnswer}
+use Rattle.arbiter.specs.Arbitration.{asksNow}
+use Rattle.document.specs.Frame.{askingOf, requests, frameOf, sendsFrom, sends as sends·out, sentIn, framed, framedAnswer}
 use Rattle.document.specs.Take.{leaving, takesFrom, takesBy}
 use Rattle.document.specs.Steps.{Step, step, refused, admitted, happensTo, becomes}
 use Rattle.document.proofs.Fixed.{given-kept}
@@ -66,7 +67,7 @@ zeros (suc m) (suc n) = zeros m n
 
 -- who asks now
 module _ (g : ℕ) where
-  asks-because : (u : Unit) → (asksNow g u ≡ 0 → ⊥) → needs (numberOf u) g ≤ length (u .inlet)
+  asks-because : (u : Unit) → (asksNow g (numberOf u) (u .settings .priority) (length (u .inlet)) ≡ 0 → ⊥) → needs (numberOf u) g ≤ length (u .inlet)
   asks-because u h =
       decide (eqb (besides (length (u .inlet)) (eqb (numberOf u) g)) 0)
       (λ t. absurd (h (asks-without (u .settings .priority) (length (u .inlet)) (eqb (numberOf u) g) (eqb-true (besides (length (u .inlet)) (eqb (numberOf u) g)) 0 t))))
@@ -76,8 +77,8 @@ module _ (g : ℕ) where
   unfolding askingOf
   asked-now now [] n h = (inside-of now n h, inl h)
   asked-now now (u ∷ us) n h =
-      let w = asked-now (set now (numberOf u) (asksNow g u)) us n h in
-      let l = length-set now (numberOf u) (asksNow g u) in
+      let w = asked-now (set now (numberOf u) (asksNow g (numberOf u) (u .settings .priority) (length (u .inlet)))) us n h in
+      let l = length-set now (numberOf u) (asksNow g (numberOf u) (u .settings .priority) (length (u .inlet))) in
       let within : n < length now = omega (arith, w .0) in (
         within,
         ⊎-elim
@@ -85,9 +86,9 @@ module _ (g : ℕ) where
             decide (eqb n (numberOf u))
             (λ t.
             let e = eqb-true n (numberOf u) t in
-            let asks = asks-because u (λ z. k (ap (λ m. getD (set now (numberOf u) (asksNow g u)) m 0) e ∙ getD-set-same now (numberOf u) (asksNow g u) 0 (omega arith) ∙ z)) in
+            let asks = asks-because u (λ z. k (ap (λ m. getD (set now (numberOf u) (asksNow g (numberOf u) (u .settings .priority) (length (u .inlet)))) m 0) e ∙ getD-set-same now (numberOf u) (asksNow g (numberOf u) (u .settings .priority) (length (u .inlet))) 0 (omega arith) ∙ z)) in
             inr (0, omega arith, sym e, subst (λ m. needs m g ≤ length (u .inlet)) (sym e) asks))
-            (λ t. inl (λ z. k (getD-set-other now (numberOf u) n (asksNow g u) 0 (eqb-false n (numberOf u) t) ∙ z))))
+            (λ t. inl (λ z. k (getD-set-other now (numberOf u) n (asksNow g (numberOf u) (u .settings .priority) (length (u .inlet))) 0 (eqb-false n (numberOf u) t) ∙ z))))
             (λ v. inr (suc (v .0), omega (arith, v .1), v .2, v .3)) (w .1),
       )
 
@@ -260,8 +261,8 @@ backed-after d (frame buffer) b = go (eqb (length buffer) 57) refl
 backed-after d (hear unit f) b =
     same-backed d (hear unit f) b (at-unit d (findIn (d .units) unit) (eqb (length f) 57) _ _ (λ place. (refl, refl)) (λ number. (refl, refl)))
     (λ i. only-rests (findIn (d .units) unit) (eqb (length f) 57) i _ refl)
-backed-after d (take unit buffer) b =
-    same-backed d (take unit buffer) b (at-unit d (findIn (d .units) unit) (eqb (length buffer) 53) _ _ (λ place. took d (leaving (unitAt d place)) place buffer) (λ number. (refl, refl)))
+backed-after d (take-cell unit buffer) b =
+    same-backed d (take-cell unit buffer) b (at-unit d (findIn (d .units) unit) (eqb (length buffer) 53) _ _ (λ place. took d (leaving (unitAt d place)) place buffer) (λ number. (refl, refl)))
     (λ i. only-rests (findIn (d .units) unit) (eqb (length buffer) 53) i takes refl)
 backed-after d (count unit) b =
     same-backed d (count unit) b (at-unit d (findIn (d .units) unit) true _ _ (λ place. (refl, refl)) (λ number. (refl, refl))) (λ i. refl)

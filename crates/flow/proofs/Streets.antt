@@ -27,7 +27,7 @@ use Rattle.document.specs.Hearing.{addressed, fateIn, hearingOf}
 use Rattle.document.specs.Frame.{asHeard}
 use Rattle.document.specs.Steps.{happensTo, becomes}
 use Rattle.document.proofs.Fixed.{givenOf, given-kept}
-use Rattle.flow.specs.Parts.{Part, rests, arrives, hears, takes, sends, partOf, roomFor, broughtBy, copyIn, queuedBy, broughtIn, sentFrom, queuedIn}
+use Rattle.flow.specs.Parts.{Part, rests, arrives, hears, takes, sends, partOf, roomFor, broughtBy, copyIn, queuedBy, broughtIn, sentBy, sentFrom, queuedIn}
 use Rattle.flow.specs.Order.{over, queuedAll, takenAll, broughtAll, sentAll}
 use Rattle.flow.specs.Street.{declaredAt, Arrived, MeantFor, CameFrom, by-bus, by-hand, RightStreet}
 use Rattle.flow.proofs.Turns.{Because, Handed, Sent, does}
@@ -98,6 +98,10 @@ pub record On (lines : List Line) (es : List Event) (d : Shelf) : Type 0 where
   pub four : (i : ℕ) → i < length (d .units) → length (unitAt d i .queues) ≡ 4
   pub waiting : (i : ℕ) → i < length (d .units) → (r : Routed) → In r (unitAt d i .inlet) → Arrived lines es i r
 
+-- what an event sends is sent in these events
+abbrev Outgoing : List Line → List Event → Shelf → Event → Type 0
+Outgoing lines es d e = (j : ℕ) (r : Routed) → In r (sentFrom d e j) → In r (sentAll (opened lines) es j)
+
 -- what is routed in, is on its way
 in-room : (w : Way) (u : Unit) (r : Routed) → In r (roomFor w u) → w ≡ goes r
 unfolding roomFor
@@ -141,8 +145,8 @@ module _ (lines : List Line) (es : List Event) (d : Shelf) (on : On lines es d) 
       }
 
   -- a copy of a cell that was sent
-  from-bus : (v : Unit) (h : H.Heard) (bytes : List ℕ) (q : ℕ) (c : Cell) → givenOf v ≡ givenOf u → Copy (d .lines) v h bytes q c → Sent d h bytes → CameFrom lines es i q c
-  from-bus v h bytes q c same k s =
+  from-bus : Outgoing lines es d e → (v : Unit) (h : H.Heard) (bytes : List ℕ) (q : ℕ) (c : Cell) → givenOf v ≡ givenOf u → Copy (d .lines) v h bytes q c → Sent d e h bytes → CameFrom lines es i q c
+  from-bus goes-out v h bytes q c same k s =
       let a = reached v h bytes q c same k in
       let x = k .frame-is in
       let y = s .frame-is in
@@ -153,6 +157,7 @@ module _ (lines : List Line) (es : List Event) (d : Shelf) (on : On lines es d) 
       let w = s .inside in
       by-bus (s .place) (s .r) (omega arith)
       (on .waiting (s .place) (s .inside) (s .r) (subst (λ rs. In (s .r) rs) (sym (s .oldest)) (List·Memᴰ·head refl)))
+      (goes-out (s .place) (s .r) (subst (λ rs. In (s .r) rs) (sym (s .left)) (List·Memᴰ·head refl)))
       (record {
         addresses = ap (addressed lines (declaredAt lines i)) t ∙ a .addresses;
         queue = ap (queueOf (declaredAt lines i .limits)) l ∙ a .queue;
@@ -169,26 +174,26 @@ module _ (lines : List Line) (es : List Event) (d : Shelf) (on : On lines es d) 
       (k .cell ∙ (λ j. record { header = k .header; payload = s .payload-is j }))
 
   -- what comes into a queue is one or the other
-  queued-from : (p : Part) → Because d e i p → (q : ℕ) (c : Cell) → In c (queuedBy (d .lines) u p q) → CameFrom lines es i q c
-  unfolding queuedBy
-  queued-from rests w q c m = absurd (List·Memᴰ·not-nil m)
-  queued-from (arrives x) w q c m = absurd (List·Memᴰ·not-nil m)
-  queued-from (hears h bytes) w q c m =
+  queued-from : Outgoing lines es d e → (p : Part) → partOf d e i ≡ p → Because d e i p → (q : ℕ) (c : Cell) → In c (queuedBy (d .lines) u p q) → CameFrom lines es i q c
+  unfolding queuedBy sentBy
+  queued-from out rests is w q c m = absurd (List·Memᴰ·not-nil m)
+  queued-from out (arrives x) is w q c m = absurd (List·Memᴰ·not-nil m)
+  queued-from out (hears h bytes) is w q c m =
       let k = copied (d .lines) u h bytes q c m in
-      ⊎-elim (from-hand h bytes q c k) (from-bus u h bytes q c refl k) w
-  queued-from takes w q c m = absurd (List·Memᴰ·not-nil m)
-  queued-from (sends r rest) w q c m =
+      ⊎-elim (from-hand h bytes q c k) (from-bus out u h bytes q c refl k) w
+  queued-from out takes is w q c m = absurd (List·Memᴰ·not-nil m)
+  queued-from out (sends r rest) is w q c m =
       let v = withInlet u rest in
-      from-bus v (asHeard r) (r .cell .payload) q c refl (copied (d .lines) v (asHeard r) (r .cell .payload) q c m)
-      (record { place = i; inside = within; r = r; rest = rest; oldest = w; frame-is = refl; payload-is = refl })
+      from-bus out v (asHeard r) (r .cell .payload) q c refl (copied (d .lines) v (asHeard r) (r .cell .payload) q c m)
+      (record { place = i; inside = within; r = r; rest = rest; oldest = w; left = ap sentBy is; frame-is = refl; payload-is = refl })
 
   -- so of an event
   pub brought-in : (r : Routed) → In r (broughtIn d e i) → Arrived lines es i r
   brought-in r m = brought-from (partOf d e i) (does d e i within .because) r m
 
   -- and of a queue
-  pub queued-in : (q : ℕ) (c : Cell) → In c (queuedIn d e i q) → CameFrom lines es i q c
-  queued-in q c m = queued-from (partOf d e i) (does d e i within .because) q c m
+  pub queued-in : Outgoing lines es d e → (q : ℕ) (c : Cell) → In c (queuedIn d e i q) → CameFrom lines es i q c
+  queued-in out q c m = queued-from out (partOf d e i) refl (does d e i within .because) q c m
 
   -- what waits afterwards has waited or came in
   waits : (r : Routed) → In r (unitAt (happensTo d e .shelf) i .inlet) → Arrived lines es i r
@@ -222,14 +227,14 @@ module _ (lines : List Line) (all : List Event) where
         (List·Memᴰ·append-cases (broughtIn d e i) m)
 
     -- the same of a queue
-    all-queued : (d : Shelf) → On lines all d → i < length (d .units) → (es : List Event) → ((e : Event) → In e es → In e all) → (q : ℕ) (c : Cell) → In c (queuedAll d es i q) → CameFrom lines all i q c
+    all-queued : (d : Shelf) → On lines all d → i < length (d .units) → (es : List Event) → ((e : Event) → In e es → In e all) → ((j : ℕ) (r : Routed) → In r (sentAll d es j) → In r (sentAll (opened lines) all j)) → (q : ℕ) (c : Cell) → In c (queuedAll d es i q) → CameFrom lines all i q c
     unfolding over
-    all-queued d on within [] sub q c m = absurd (List·Memᴰ·not-nil m)
-    all-queued d on within (e ∷ es) sub q c m =
+    all-queued d on within [] sub out q c m = absurd (List·Memᴰ·not-nil m)
+    all-queued d on within (e ∷ es) sub out q c m =
         let l = as-many d (happensTo d e .shelf) (given-kept d e) in
         let here = sub e (List·Memᴰ·head refl) in
-        ⊎-elim (queued-in lines all d on e here i within q c)
-        (all-queued (happensTo d e .shelf) (on-after d on e here (omega arith)) (omega arith) es (λ x w. sub x (List·Memᴰ·tail w)) q c)
+        ⊎-elim (queued-in lines all d on e here i within (λ j r w. out j r (Memᴰ·append-left (sentAll (happensTo d e .shelf) es j) w)) q c)
+        (all-queued (happensTo d e .shelf) (on-after d on e here (omega arith)) (omega arith) es (λ x w. sub x (List·Memᴰ·tail w)) (λ j r w. out j r (Memᴰ·append-right (sentFrom d e j) w)) q c)
         (List·Memᴰ·append-cases (queuedIn d e i q) m)
 
   -- it begins so
@@ -248,7 +253,7 @@ pub right-street : RightStreet
 right-street lines es i within =
     let d = becomes (opened lines) es in
     let o = in-order lines es i within in
-    let queued = all-queued lines es i (opened lines) (on-first lines es) within es (λ e w. w) in
+    let queued = all-queued lines es i (opened lines) (on-first lines es) within es (λ e w. w) (λ j r w. w) in
     let brought = all-brought lines es i (opened lines) (on-first lines es) within es (λ e w. w) in
     record {
       held = λ q c m. queued q c (subst (λ cs. In c cs) (sym (o .queues q)) (Memᴰ·append-right (takenAll (opened lines) es i q) m));

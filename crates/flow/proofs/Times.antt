@@ -12,7 +12,8 @@ use Rattle.shelf.specs.Shelves.{placeFrom}
 use Rattle.shelf.specs.declared.Found.the-variants.{At}
 use Rattle.line.specs.declared.Line.{Line}
 use Rattle.told.proofs.Grown.{decide}
-use Rattle.document.specs.Counters.{Counter, placeOf, Entry, entries, matches, times, hearingCounts, occurs}
+use Rattle.paper.specs.Counters.{Counter, placeOf, hearingCounts, occurs}
+use Rattle.document.specs.Counters.{Entry, entries, matches, times}
 use Rattle.document.specs.Shelf.{Routed, Unit, numberOf, blank, findIn}
 use Rattle.document.specs.Hearing.{hearingOf, hearingUnit}
 use Rattle.document.specs.Frame.{asHeard, allHear, heardEntries}

@@ -8,7 +8,7 @@ use mathlib.Core.List.{List, [], _∷_, _++_}
 use lib.Dec.{eqb, ltb}
 use lib.ListN.{length, getD, set, length-set}
 use lib.Seq.{getD-set-same, getD-set-other}
-use borrow.Author.Tests.{eqb-true, eqb-false, ltb-true}
+use borrow.Author.Tests.{eqb-true, eqb-false, ltb-true, eq-eqb}
 use Rattle.routing.specs.declared.Target as T
 use Rattle.routing.specs.declared.Target.the-variants as targets
 use Rattle.bus.specs.Frame.{heard, payload}
@@ -22,15 +22,16 @@ use Rattle.shelf.specs.declared.Found.the-variants.{At, Nothing}
 use Rattle.line.specs.declared.Line.{Line}
 use Rattle.answer.specs.declared.Hearing.the-variants as hearing
 use Rattle.answer.specs.Answers.{isAddressed}
-use Rattle.document.specs.Events.{Event, arrive, frame, hear, take as takes·out, count, answers, counts}
-use Rattle.document.specs.Counters.{Counter, placeOf, Entry, entries, times, countersOf, hearingCounts, sentCounts, occurs}
+use Rattle.document.specs.Events.{Event, arrive, frame, hear, take-cell, count, answers, counts}
+use Rattle.paper.specs.Counters.{Counter, placeOf, hearingCounts, sentCounts, occurs}
+use Rattle.document.specs.Counters.{Entry, entries, times, countersOf}
 use Rattle.document.specs.Shelf.{Cell, Routed, Unit, Shelf, numberOf, queueAt, held, withInlet, withQueue, blank, findIn, unitAt}
 use Rattle.document.specs.Arrival.{wayOf, inletBy, arrived}
 use Rattle.document.specs.Hearing.{addressed, fateIn, hearingOf, hearingUnit, handedIn}
 use Rattle.document.specs.Frame.{asHeard, allHear, someAddressed, heardEntries, sendsFrom, sends as sends·out, sentIn, framed, framedAnswer}
 use Rattle.document.specs.Take.{leaving, takesFrom, takesBy}
 use Rattle.document.specs.Steps.{Step, step, refused, admitted, happensTo}
-use Rattle.flow.specs.Parts.{Part, rests, arrives, hears, takes, sends, onlyAt, sending, sendingBy, partOf, tookBy, countsBy}
+use Rattle.flow.specs.Parts.{Part, rests, arrives, hears, takes, sends, onlyAt, sending, sendingBy, partOf, tookBy, countsBy, sentBy, sentFrom}
 use Rattle.flow.specs.Lost.{Different}
 use Rattle.flow.proofs.Times.{occurs-append, times-append, times-here, times-other, different-apart, same-numbers, same-different, heard-unit, heard-times, found}
 
@@ -87,12 +88,13 @@ pub record Handed (d : Shelf) (e : Event) (i : ℕ) (h : H.Heard) (bytes : List 
   pub frame-is : h ≡ heard f
   pub payload-is : bytes ≡ payload f
 
-pub record Sent (d : Shelf) (h : H.Heard) (bytes : List ℕ) : Type 0 where
+pub record Sent (d : Shelf) (e : Event) (h : H.Heard) (bytes : List ℕ) : Type 0 where
   pub place : ℕ
   pub inside : place < length (d .units)
   pub r : Routed
   pub rest : List Routed
   pub oldest : unitAt d place .inlet ≡ r ∷ rest
+  pub left : sentFrom d e place ≡ r ∷ []
   pub frame-is : h ≡ asHeard r
   pub payload-is : bytes ≡ r .cell .payload
 
@@ -100,7 +102,7 @@ pub record Sent (d : Shelf) (h : H.Heard) (bytes : List ℕ) : Type 0 where
 abbrev pub Because : Shelf → Event → ℕ → Part → Type 0
 Because d e i rests = ⊥ → ⊥
 Because d e i (arrives c) = (e ≡ arrive (numberOf (unitAt d i)) c) × (length c ≡ 53)
-Because d e i (hears h bytes) = Handed d e i h bytes ⊎ Sent d h bytes
+Because d e i (hears h bytes) = Handed d e i h bytes ⊎ Sent d e h bytes
 Because d e i takes = ⊥ → ⊥
 Because d e i (sends r rest) = unitAt d i .inlet ≡ r ∷ rest
 
@@ -206,7 +208,7 @@ module _ (d : Shelf) (i : ℕ) (within : i < length (d .units)) where
 
   -- a frame is sent
   module _ (e : Event) (d′ : Shelf) (same : d′ .lines ≡ d .lines) where
-    module _ (place : ℕ) (inside : place < length (d .units)) (r : Routed) (rest : List Routed) (oldest : unitAt d place .inlet ≡ r ∷ rest) where
+    module _ (place : ℕ) (inside : place < length (d .units)) (r : Routed) (rest : List Routed) (oldest : unitAt d place .inlet ≡ r ∷ rest) (left : sentFrom d e place ≡ r ∷ []) where
       -- the units once the cell is out
       abbrev without : List Unit
       without = set (d .units) place (withInlet (unitAt d place) rest)
@@ -272,7 +274,7 @@ module _ (d : Shelf) (i : ℕ) (within : i < length (d .units)) where
                   let a = times-other (numberOf (unitAt d place)) (sentCounts someOne) n c (λ x. different-apart (d .units) once i place within inside q (sym x)) in
                   let b = ap (λ u. occurs (hearingCounts (hearingOf (d .lines) u (asHeard r))) (placeOf c)) now in
                   omega (arith, w, a, b);
-              because = inr (record { place = place; inside = inside; r = r; rest = rest; oldest = oldest; frame-is = refl; payload-is = refl });
+              because = inr (record { place = place; inside = inside; r = r; rest = rest; oldest = oldest; left = left; frame-is = refl; payload-is = refl });
             }
 
         -- each
@@ -295,32 +297,34 @@ module _ (d : Shelf) (i : ℕ) (within : i < length (d .units)) where
         }
 
     -- by the cells that wait
-    sent-from : (place : ℕ) → place < length (d .units) → (buffer : List ℕ) (inlet : List Routed) → unitAt d place .inlet ≡ inlet → d′ .units ≡ sendsFrom inlet d place buffer .units → d′ .history ≡ sendsFrom inlet d place buffer .happened ++ d .history → Does d d′ e i (sending inlet place i)
-    unfolding sendsFrom sending
-    sent-from place inside buffer [] oldest units told = idle-does units told
-    sent-from place inside buffer (r ∷ rest) oldest units told = all-do place inside r rest oldest units told
+    sent-from : (place : ℕ) → place < length (d .units) → (buffer : List ℕ) (inlet : List Routed) → unitAt d place .inlet ≡ inlet → ((j : ℕ) → partOf d e j ≡ sending inlet place j) → d′ .units ≡ sendsFrom inlet d place buffer .units → d′ .history ≡ sendsFrom inlet d place buffer .happened ++ d .history → Does d d′ e i (sending inlet place i)
+    unfolding sendsFrom sending sentBy
+    sent-from place inside buffer [] oldest has units told = idle-does units told
+    sent-from place inside buffer (r ∷ rest) oldest has units told =
+        all-do place inside r rest oldest (ap sentBy (has place) ∙ (λ t. sentBy (cond (eq-eqb place place refl t) (sends r rest) (hears (asHeard r) (r .cell .payload))))) units told
 
     -- by the unit granted
-    sent-does : (f : F.Found) → findIn (d .units) (d .granted) ≡ f → (buffer : List ℕ) → d′ .units ≡ sends·out f d buffer .units → d′ .history ≡ sends·out f d buffer .happened ++ d .history → Does d d′ e i (sendingBy f d i)
+    sent-does : (f : F.Found) → findIn (d .units) (d .granted) ≡ f → (buffer : List ℕ) → ((j : ℕ) → partOf d e j ≡ sendingBy f d j) → d′ .units ≡ sends·out f d buffer .units → d′ .history ≡ sends·out f d buffer .happened ++ d .history → Does d d′ e i (sendingBy f d i)
     unfolding sends·out sendingBy
-    sent-does (At place) t buffer units told = sent-from place (found (d .units) (d .granted) place t .0) buffer (unitAt d place .inlet) refl units told
-    sent-does Nothing t buffer units told = idle-does units told
+    sent-does (At place) t buffer has units told = sent-from place (found (d .units) (d .granted) place t .0) buffer (unitAt d place .inlet) refl has units told
+    sent-does Nothing t buffer has units told = idle-does units told
 
 -- every event
 pub does : (d : Shelf) (e : Event) (i : ℕ) → i < length (d .units) → Does d (happensTo d e .shelf) e i (partOf d e i)
 unfolding happensTo partOf admitted
 does d (arrive unit c) i within =
     at-unit d (arrive unit c) i unit (findIn (d .units) unit) refl (eqb (length c) 53) _ _ (arrives c) (arrive-does d i within unit c) (λ k. still d (arrive unit c) i)
-does d (frame buffer) i within = go (eqb (length buffer) 57)
+does d (frame buffer) i within = go (eqb (length buffer) 57) refl
   where
-    go : (b : Bool) → Does d (cond b (step (answers (framedAnswer d buffer)) (framed d buffer) (sentIn d buffer .bytes)) (refused d 10 buffer) .shelf) (frame buffer) i (cond b (sendingBy (findIn (d .units) (d .granted)) d i) rests)
-    go true = sent-does d i within (frame buffer) (framed d buffer) refl (findIn (d .units) (d .granted)) refl buffer refl refl
-    go false = still d (frame buffer) i
+    go : (b : Bool) → eqb (length buffer) 57 ≡ b → Does d (cond b (step (answers (framedAnswer d buffer)) (framed d buffer) (sentIn d buffer .bytes)) (refused d 10 buffer) .shelf) (frame buffer) i (cond b (sendingBy (findIn (d .units) (d .granted)) d i) rests)
+    go true t =
+        sent-does d i within (frame buffer) (framed d buffer) refl (findIn (d .units) (d .granted)) refl buffer (λ j. λ x. cond (t x) (sendingBy (findIn (d .units) (d .granted)) d j) rests) refl refl
+    go false t = still d (frame buffer) i
 does d (hear unit f) i within =
     at-unit d (hear unit f) i unit (findIn (d .units) unit) refl (eqb (length f) 57) _ _ (hears (heard f) (payload f)) (hear-does d i within unit f) (λ k. still d (hear unit f) i)
-does d (takes·out unit buffer) i within =
-    at-unit d (takes·out unit buffer) i unit (findIn (d .units) unit) refl (eqb (length buffer) 53) _ _ takes
-    (λ place inside named right. took d i within (takes·out unit buffer) place inside buffer (leaving (unitAt d place)) refl) (λ k. still d (takes·out unit buffer) i)
+does d (take-cell unit buffer) i within =
+    at-unit d (take-cell unit buffer) i unit (findIn (d .units) unit) refl (eqb (length buffer) 53) _ _ takes
+    (λ place inside named right. took d i within (take-cell unit buffer) place inside buffer (leaving (unitAt d place)) refl) (λ k. still d (take-cell unit buffer) i)
 does d (count unit) i within = count-does (findIn (d .units) unit)
   where
     count-does : (f : F.Found) → Does d (admitted f true (λ place. step (counts (countersOf (d .history) (numberOf (unitAt d place)))) d []) (λ number. refused d number []) .shelf) (count unit) i rests

@@ -6,7 +6,7 @@ use mathlib.Core.List.{List}
 use mathlib.Core.Option.{some}
 use lib.ListN.{length}
 use Rattle.line.specs.declared.Line.{Line}
-use Rattle.document.specs.Counters.{Counter}
+use Rattle.paper.specs.Counters.{Counter}
 use Rattle.document.specs.Events.{Event, named}
 use Rattle.document.specs.Shelf.{Cell, Routed, Shelf, numberOf, unitAt, unitsOf, opened}
 use Rattle.document.specs.Steps.{happensTo}

@@ -5,11 +5,12 @@ use mathlib.Core.List.{List}
 use lib.ListN.{length}
 use Rattle.line.specs.declared.Line.{Line}
 use Rattle.document.specs.Events.{Event}
-use Rattle.document.specs.Counters.{Counter, arrived, sent, queued, full, clp, wide, taken, placeOf, occurs}
+use Rattle.paper.specs.Counters.{Counter, arrived, sent, queued, full, clp, wide, taken, placeOf, occurs}
 use Rattle.document.specs.Shelf.{unitsOf, opened}
 use Rattle.document.specs.Steps.{becomes}
 use Rattle.flow.specs.Parts.{countedAt, arrivedAt, addressedAt}
-use Rattle.flow.specs.Lost.{Different, inAll, happened}
+use Rattle.document.specs.Shelf.{inAll}
+use Rattle.flow.specs.Lost.{Different, happened}
 use Rattle.flow.specs.Order.{over, queuedAll, takenAll, sentAll}
 
 -- of the unit in place i: each of the thirteen says how often the events counted it there. Some of them in cells: those that arrived, were sent, were queued, were taken; and

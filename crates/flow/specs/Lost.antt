@@ -7,20 +7,14 @@ use Rattle.line.specs.declared.Line.{Line}
 use Rattle.card.specs.declared.Card.{Card}
 use Rattle.told.specs.Lines.{Good}
 use Rattle.document.specs.Events.{Event}
-use Rattle.document.specs.Counters.{Counter, times, arrived, hec, ignored, misrouted, inletfull, sent, queued, taken}
-use Rattle.document.specs.Shelf.{Cell, Unit, Shelf, numberOf, queueAt, blank, unitAt, unitsOf, opened}
+use Rattle.paper.specs.Counters.{Counter, arrived, hec, ignored, misrouted, inletfull, sent, queued, taken}
+use Rattle.document.specs.Counters.{times}
+use Rattle.document.specs.Shelf.{Unit, Shelf, numberOf, inOutlet, blank, unitAt, unitsOf, opened}
 use Rattle.document.specs.Steps.{becomes}
 
 -- "a unit repeated": no unit number is there twice
 abbrev pub Different : List Unit → Type 0
 Different us = (i j : ℕ) → i < j → j < length us → numberOf (getD us i blank) ≡ numberOf (getD us j blank) → ⊥
-
--- in the four queues together, and the cells in a unit's outlet
-abbrev pub inAll : (ℕ → List Cell) → ℕ
-inAll f = length (f 0) + length (f 1) + length (f 2) + length (f 3)
-
-abbrev pub inOutlet : Unit → ℕ
-inOutlet u = inAll (queueAt u)
 
 -- how often a counter of the unit in place i counted
 abbrev pub happened : Shelf → ℕ → Counter → ℕ

@@ -6,7 +6,7 @@ use mathlib.Core.List.{List, [], _∷_, _++_}
 use lib.ListN.{length}
 use Rattle.line.specs.declared.Line.{Line}
 use Rattle.answer.specs.declared.Answer.the-variants.{Taken}
-use Rattle.document.specs.Events.{Event, frame, take, answers}
+use Rattle.document.specs.Events.{Event, frame, take-cell, answers}
 use Rattle.document.specs.Shelf.{Cell, Routed, Shelf, numberOf, queueAt, held, unitAt, unitsOf, opened}
 use Rattle.document.specs.Frame.{frameOf}
 use Rattle.document.specs.Take.{handed}
@@ -47,16 +47,16 @@ pub record HandedOut (d : Shelf) (unit : ℕ) (buffer : List ℕ) : Type 0 where
   pub cell : Cell
   pub inside : place < length (d .units)
   pub named : numberOf (unitAt d place) ≡ unit
-  pub said : happensTo d (take unit buffer) .said ≡ answers Taken
-  pub left : takenFrom d (take unit buffer) place queue ≡ cell ∷ []
-  pub others : (i q : ℕ) → ((i ≡ place) × (q ≡ queue) → ⊥) → takenFrom d (take unit buffer) i q ≡ []
-  pub bytes : happensTo d (take unit buffer) .bytes ≡ handed (unitAt d place) cell
+  pub said : happensTo d (take-cell unit buffer) .said ≡ answers Taken
+  pub left : takenFrom d (take-cell unit buffer) place queue ≡ cell ∷ []
+  pub others : (i q : ℕ) → ((i ≡ place) × (q ≡ queue) → ⊥) → takenFrom d (take-cell unit buffer) i q ≡ []
+  pub bytes : happensTo d (take-cell unit buffer) .bytes ≡ handed (unitAt d place) cell
 
 -- "`empty` with the buffer unchanged", or refused: no cell leaves any queue
 pub record NoneOut (d : Shelf) (unit : ℕ) (buffer : List ℕ) : Type 0 where
-  pub said : happensTo d (take unit buffer) .said ≡ answers Taken → ⊥
-  pub left : (i q : ℕ) → takenFrom d (take unit buffer) i q ≡ []
-  pub bytes : happensTo d (take unit buffer) .bytes ≡ buffer
+  pub said : happensTo d (take-cell unit buffer) .said ≡ answers Taken → ⊥
+  pub left : (i q : ℕ) → takenFrom d (take-cell unit buffer) i q ≡ []
+  pub bytes : happensTo d (take-cell unit buffer) .bytes ≡ buffer
 
 abbrev pub TakenHanded : Type 0
 TakenHanded = (d : Shelf) (unit : ℕ) (buffer : List ℕ) → HandedOut d unit buffer ⊎ NoneOut d unit buffer

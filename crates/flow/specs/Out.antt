@@ -1,7 +1,7 @@
 -- Promise: what the lent bytes hold after a take or a frame came down the right street. Assumes nothing.
-use Prim.Native.Nat.{ℕ, _<_, _≤_}
+use Prim.Native.Nat.{ℕ, _<_}
 use mathlib.Core.Path.{_≡_}
-use mathlib.Core.Logic.{_↔_, _⊎_}
+use mathlib.Core.Logic.{_↔_}
 use mathlib.Core.Bool.{Bool, true}
 use mathlib.Core.List.{List, _∷_}
 use lib.ListN.{length, getD, drop}
@@ -11,21 +11,21 @@ use Rattle.header.specs.Check.{check}
 use Rattle.header.specs.declared.Header as H
 use Rattle.header.specs.declared.Link.{Link}
 use Rattle.header.specs.declared.Link.the-variants.{Nni}
-use Rattle.outlet.specs.declared.Mode.{Mode}
-use Rattle.outlet.specs.declared.Mode.the-variants.{One, Four}
 use Rattle.outlet.specs.declared.Limits.{Limits}
 use Rattle.queueing.specs.Taking.{marked}
 use Rattle.arbiter.specs.Arbitration.{nobody}
 use Rattle.line.specs.declared.Line.{Line}
 use Rattle.answer.specs.declared.Answer.the-variants.{Taken}
+use Rattle.paper.specs.Outlets.{Marks}
 use Rattle.document.specs.Arrival.{headerOf}
-use Rattle.document.specs.Events.{Event, frame, take, answers}
+use Rattle.document.specs.Events.{Event, frame, take-cell, answers}
 use Rattle.document.specs.Shelf.{Cell, Routed, Shelf, numberOf, queueAt, held, unitAt, unitsOf, opened}
 use Rattle.document.specs.Frame.{frameOf}
 use Rattle.document.specs.Take.{handed}
 use Rattle.document.specs.Steps.{happensTo, becomes}
 use Rattle.flow.specs.Lost.{Different}
-use Rattle.flow.specs.Street.{declaredAt, Arrived, CameFrom, Follows, Ranged}
+use Rattle.wording.specs.Words.{AllInRange}
+use Rattle.flow.specs.Street.{declaredAt, Arrived, CameFrom, Follows}
 
 -- the shelf after some events
 abbrev pub reached : List Line → List Event → Shelf
@@ -33,7 +33,7 @@ reached lines es = becomes (opened lines) es
 
 -- what a take then leaves in its buffer; the link of the unit in place i, its limits, and how many cells each of its queues holds
 abbrev pub out : List Line → List Event → ℕ → List ℕ → List ℕ
-out lines es unit buffer = happensTo (reached lines es) (take unit buffer) .bytes
+out lines es unit buffer = happensTo (reached lines es) (take-cell unit buffer) .bytes
 
 abbrev pub linkAt : List Line → ℕ → Link
 linkAt lines i = declaredAt lines i .settings .link
@@ -43,14 +43,6 @@ limitsAt lines i = declaredAt lines i .limits
 
 abbrev pub heldAt : List Line → List Event → ℕ → ℕ → ℕ
 heldAt lines es i q = held (unitAt (reached lines es) i) q
-
--- "If mark is 1 and, counted before it leaves, CBR or VBR is at its limit or above (mode `one`: the queue at the VBR limit or above)"
-abbrev pub Crowded : Mode → Limits → (ℕ → ℕ) → Type 0
-Crowded One limits cells = limits .vbrlimit ≤ cells 0
-Crowded Four limits cells = (limits .cbrlimit ≤ cells 1) ⊎ (limits .vbrlimit ≤ cells 2)
-
-abbrev pub Marks : Limits → (ℕ → ℕ) → Type 0
-Marks limits cells = (limits .mark ≡ true) × Crowded (limits .mode) limits cells
 
 -- "A line cell is 53 bytes: header 4, check 1, payload 48.": bytes, as a link reads them, with this VPI, VCI and payload, with the CLP of this header and its PT but for the mark;
 -- "A UNI unit writes GFC 0. The check is new."
@@ -80,7 +72,7 @@ pub record RightlyTaken (lines : List Line) (es : List Event) (unit : ℕ) (buff
 -- every take, after every sequence of events: "Take gives the oldest cell .., or `empty` with the buffer unchanged"
 abbrev pub TakenRight : Type 0
 TakenRight =
-    (lines : List Line) (es : List Event) (unit : ℕ) (buffer : List ℕ) → happensTo (reached lines es) (take unit buffer) .said ≡ answers Taken → RightlyTaken lines es unit buffer
+    (lines : List Line) (es : List Event) (unit : ℕ) (buffer : List ℕ) → happensTo (reached lines es) (take-cell unit buffer) .said ≡ answers Taken → RightlyTaken lines es unit buffer
 
 -- such a cell that arrived at one of our units: VPI and VCI are the line's, payload and CLP the arrival's, PT but for the mark
 pub record Delivered (lines : List Line) (es : List Event) (unit : ℕ) (buffer : List ℕ) (t : RightlyTaken lines es unit buffer) (place : ℕ) (r : Routed) (a : Arrived lines es place r) : Type 0 where
@@ -92,7 +84,7 @@ pub record Delivered (lines : List Line) (es : List Event) (unit : ℕ) (buffer 
 -- every cell handed out that is not of a frame handed in
 abbrev pub LineDelivered : Type 0
 LineDelivered =
-    (lines : List Line) → Ranged lines → (es : List Event) (unit : ℕ) (buffer : List ℕ) (t : RightlyTaken lines es unit buffer) (place : ℕ) (r : Routed) (a : Arrived lines es place r) →
+    (lines : List Line) → AllInRange lines → (es : List Event) (unit : ℕ) (buffer : List ℕ) (t : RightlyTaken lines es unit buffer) (place : ℕ) (r : Routed) (a : Arrived lines es place r) →
     t .cell ≡ r .cell → Delivered lines es unit buffer t place r a
 
 -- a frame written: of the oldest cell of the unit granted in the frame before, at which it arrived

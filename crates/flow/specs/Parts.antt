@@ -14,8 +14,8 @@ use Rattle.shelf.specs.declared.Found as F
 use Rattle.shelf.specs.declared.Found.the-variants.{At, Nothing}
 use Rattle.line.specs.declared.Line.{Line}
 use Rattle.answer.specs.Answers.{queuedOne}
-use Rattle.document.specs.Counters.{Counter, taken, arrivalCounts, hearingCounts, sentCounts}
-use Rattle.document.specs.Events.{Event, arrive, frame, hear, take as takes·out, count}
+use Rattle.paper.specs.Counters.{Counter, taken, arrivalCounts, hearingCounts, sentCounts}
+use Rattle.document.specs.Events.{Event, arrive, frame, hear, take-cell, count}
 use Rattle.document.specs.Shelf.{Cell, Routed, Unit, Shelf, queueAt, withInlet, findIn, unitAt}
 use Rattle.document.specs.Arrival.{Way, goes, lost, wayOf, arrivalOf}
 use Rattle.document.specs.Hearing.{addressed, hearingOf}
@@ -49,7 +49,7 @@ unfoldable pub partOf : Shelf → Event → ℕ → Part
 partOf d (arrive unit c) i = onlyAt (findIn (d .units) unit) (eqb (length c) 53) i (arrives c)
 partOf d (frame buffer) i = cond (eqb (length buffer) 57) (sendingBy (findIn (d .units) (d .granted)) d i) rests
 partOf d (hear unit f) i = onlyAt (findIn (d .units) unit) (eqb (length f) 57) i (hears (heard f) (payload f))
-partOf d (takes·out unit buffer) i = onlyAt (findIn (d .units) unit) (eqb (length buffer) 53) i takes
+partOf d (take-cell unit buffer) i = onlyAt (findIn (d .units) unit) (eqb (length buffer) 53) i takes
 partOf d (count unit) i = rests
 
 -- the cells that arrive at a unit

@@ -13,11 +13,9 @@ use Rattle.bus.specs.declared.Heard.the-variants as frames
 use Rattle.routing.specs.declared.Target.{Target}
 use Rattle.queueing.specs.Hearing.{queueOf, TooWide}
 use Rattle.shelf.specs.declared.Settings.{Settings}
-use Rattle.card.specs.declared.Card.{Card}
 use Rattle.line.specs.declared.Line.{Line}
 use Rattle.line.specs.declared.Line.the-variants.{Vp, Vc}
-use Rattle.line.specs.Ranges.{InRange}
-use Rattle.promise.specs.Refusals.{Accepts}
+use Rattle.wording.specs.Words.{AllInRange}
 use Rattle.document.specs.Events.{Event, arrive, hear}
 use Rattle.document.specs.Shelf.{Cell, Routed, Unit, numberOf, queueAt, blank, unitAt, unitsOf, opened}
 use Rattle.document.specs.Arrival.{goes, headerOf, wayOf}
@@ -44,7 +42,7 @@ pub record MeantFor (lines : List Line) (i q : ℕ) (target : Target) (class hea
 
 -- a cell in queue q of the unit in place i: a cell that arrived at some unit and was sent, or that of a frame handed in
 pub data CameFrom (lines : List Line) (es : List Event) (i q : ℕ) (c : Cell) : Type 0 where
-  by-bus : (place : ℕ) (r : Routed) → place < length (unitsOf lines) → Arrived lines es place r → MeantFor lines i q (r .target) (r .class) (r .cell .header) → c ≡ r .cell → CameFrom lines es i q c
+  by-bus : (place : ℕ) (r : Routed) → place < length (unitsOf lines) → Arrived lines es place r → In r (sentAll (opened lines) es place) → MeantFor lines i q (r .target) (r .class) (r .cell .header) → c ≡ r .cell → CameFrom lines es i q c
   by-hand : (f : List ℕ) (target : Target) (class header : ℕ) → In (hear (numberOf (declaredAt lines i)) f) es → heard f ≡ frames.Cell target class header → MeantFor lines i q target class header → c ≡ record { header = header; payload = payload f } → CameFrom lines es i q c
 
 -- "Not addressed: `other`": every cell held and every cell taken was meant for that unit, every cell that waits and every cell sent has arrived there
@@ -71,13 +69,6 @@ pub record Follows (lines : List Line) (s : Settings) (bytes : List ℕ) (r : Ro
   pub header : fields Nni (r .cell .header) ≡ record { gfc = 0; vpi = vpi; vci = vci; pt = headerOf s bytes .pt; clp = headerOf s bytes .clp }
   pub payload : r .cell .payload ≡ part bytes 5 48
 
--- "Classes are 0 to 3, units 0 to 31, VPIs 0 to 4,095, VCIs 0 to 65,535.": in each of these lines
-abbrev pub Ranged : List Line → Type 0
-Ranged lines = (l : Line) → In l lines → InRange l
-
+-- of lines with their numbers in range, as those of every table that a card accepts are
 abbrev pub LineFollowed : Type 0
-LineFollowed = (lines : List Line) → Ranged lines → (s : Settings) (bytes : List ℕ) (r : Routed) → wayOf lines s bytes ≡ goes r → Follows lines s bytes r
-
--- "field outside its range" is Form: the lines of every table that a card accepts are so
-abbrev pub AcceptedRanged : Type 0
-AcceptedRanged = (card : Card) (text memory : List ℕ) (store rows : ℕ) (lines : List Line) → Accepts card text memory store rows lines → Ranged lines
+LineFollowed = (lines : List Line) → AllInRange lines → (s : Settings) (bytes : List ℕ) (r : Routed) → wayOf lines s bytes ≡ goes r → Follows lines s bytes r

@@ -18,7 +18,8 @@ use Rattle.admit.specs.Admission.{withUnit}
 use Rattle.admit.proofs.Laws.{nowhere}
 use Rattle.hearing.specs.Hearings.{copyOf, storeOf}
 use Rattle.hearing.specs.declared.Copy.{Copy}
-use Rattle.framing.specs.Requests.{asksNow, askingOf}
+use Rattle.arbiter.specs.Arbitration.{asksNow}
+use Rattle.framing.specs.Requests.{askingOf}
 use Rattle.answer.specs.Answers.{queuedOne, isAddressed}
 use Rattle.framing.specs.Sending.{after, heardFrom, storeFrom}
 use Rattle.framing.specs.declared.Listened.{Listened}
@@ -42,7 +43,7 @@ module _ (shelf : Shelf) (long : length (shelf .units) ≡ 32) (i : ℕ) where
         drop-cons (declared shelf) i nowhere inside
         ∙ (λ k. declared-at shelf i nowhere (omega (arith, less)) k ∷ drop (sym (add-one i) k) (declared shelf))
 
-    pub asked : (granted : ℕ) (now after : List ℕ) → after ≡ set now (numberOf (getD (shelf .units) i nowhere)) (asksNow granted (getD (shelf .units) i nowhere)) →
+    pub asked : (granted : ℕ) (now after : List ℕ) → after ≡ set now (numberOf (getD (shelf .units) i nowhere)) (asksNow granted (numberOf (getD (shelf .units) i nowhere)) ((getD (shelf .units) i nowhere) .settings .priority) ((getD (shelf .units) i nowhere) .inlet .count)) →
         askingOf granted now (drop i (declared shelf)) ≡ askingOf granted after (drop (i + 1) (declared shelf))
     unfolding askingOf
     asked granted now after e = ap (askingOf granted now) one-left ∙ ap (λ x. askingOf granted x (drop (i + 1) (declared shelf))) (sym e)

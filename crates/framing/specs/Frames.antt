@@ -66,7 +66,7 @@ doneAt shelf store = ended shelf (granted shelf) (listenedOf shelf store)
 
 -- State, then Length
 unfoldable pub checked : {A : Type 0} → Bool → ℕ → A → A → A → A
-checked sound length unsound misfit good = cond sound (cond (eqb length 57) good misfit) unsound
+checked sound lent unsound misfit good = cond sound (cond (eqb lent 57) good misfit) unsound
 
 abbrev pub frameDone : Card → Shelf → List ℕ → ℕ → ℕ → Done
 frameDone card shelf store rows buffer =

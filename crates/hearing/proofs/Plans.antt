@@ -53,20 +53,22 @@ back-le cap p = pick (ltb p cap)
     pick true = omega arith
     pick false = omega arith
 
-pub outlet-inside : (place bytes : ℕ) (u : U.Unit) (q : ℕ) → Housed place u bytes → q < 4 →
-    slotAt place (outletSlot (u .outlet .limits) q (tail (queue (u .outlet) q) (capacity (u .outlet .limits) q))) + 56 ≤ bytes
+pub slot-below : (place bytes : ℕ) (u : U.Unit) (q : ℕ) → Housed place u bytes → q < 4 → outletSlot (u .outlet .limits) q (tail (queue (u .outlet) q) (capacity (u .outlet .limits) q)) < 146
 unfolding tail
-outlet-inside place bytes u q h few =
+slot-below place bytes u q h few =
     let ring = queue (u .outlet) q in
     let cap = capacity (u .outlet .limits) q in
     let fits = h .queues .each q few in
     let start = start-inside (u .outlet .limits) q (h .limits) few in
     let low = back-le cap (ring .head + ring .count) in
-    let slot : outletSlot (u .outlet .limits) q (tail ring cap) < 146 =
     by-lt 0 cap
     (λ some. omega (arith, start, back-lt cap (ring .head + ring .count) (omega (arith, fits .place some, fits .held))))
-    (λ none. let z : cap ≡ 0 = omega arith in omega (arith, start, low, fits .nowhere z, fits .held)) in
-    omega (arith, slot-inside place (outletSlot (u .outlet .limits) q (tail ring cap)) slot .1, h .inside)
+    (λ none. let z : cap ≡ 0 = omega arith in omega (arith, start, low, fits .nowhere z, fits .held))
+
+pub outlet-inside : (place bytes : ℕ) (u : U.Unit) (q : ℕ) → Housed place u bytes → q < 4 →
+    slotAt place (outletSlot (u .outlet .limits) q (tail (queue (u .outlet) q) (capacity (u .outlet .limits) q))) + 56 ≤ bytes
+outlet-inside place bytes u q h few =
+    omega (arith, slot-inside place (outletSlot (u .outlet .limits) q (tail (queue (u .outlet) q) (capacity (u .outlet .limits) q))) (slot-below place bytes u q h few) .1, h .inside)
 
 -- one of four queues has one more cell
 abbrev pub withQueues : U.Unit → List Ring → U.Unit

@@ -39,7 +39,7 @@ cardLine fs =
 
 -- `lend memory LENGTH BYTE`, `lend store LENGTH BYTE`: to 300,000; `lend rows COUNT VALUE`: to 40, below 4,294,967,296
 unfoldable pub lendBank : List (List ℕ) → Bank → Reading
-lendBank fs bank = num (numberIn fs 3 300000) λ length. octet (byteIn fs 4) λ byte. Does (command.Lend bank length byte)
+lendBank fs bank = num (numberIn fs 3 300000) λ bytes. octet (byteIn fs 4) λ byte. Does (command.Lend bank bytes byte)
 
 unfoldable pub lendRows : List (List ℕ) → Reading
 lendRows fs = num (numberIn fs 3 40) λ count. num (numberIn fs 4 4294967295) λ value. Does (command.LendRows count value)

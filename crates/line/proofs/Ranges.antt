@@ -12,7 +12,7 @@ use Rattle.header.specs.Fields.{highest}
 use Rattle.header.specs.declared.Link.{Link}
 use Rattle.header.specs.declared.Link.the-variants.{Uni, Nni}
 use Rattle.routing.specs.declared.Target.{Target}
-use Rattle.routing.proofs.Laws.{Sayable}
+use Rattle.routing.specs.Routing.{Sayable}
 use Rattle.outlet.specs.Outlets.{GivenIn, Given as LimitsGiven}
 use Rattle.outlet.specs.declared.Mode.{Mode}
 use Rattle.outlet.specs.declared.Mode.the-variants.{One, Four}

@@ -4,13 +4,13 @@ use mathlib.Core.Path.{_≡_, _∙_, sym, ap}
 use mathlib.Core.List.{List}
 use lib.ListN.{length, getD, List·getD-eq-default}
 use Rattle.counters.specs.declared.Counters.{Counters}
-use Rattle.counters.specs.Counting.{zero}
+use Rattle.counters.specs.Counting.{zeros}
 use Rattle.admit.specs.declared.Place.{Place}
 use Rattle.entry.specs.Counts.{counted, countOf}
 
 module _ (rows : List Counters) (p q : Place) (e : p ≡ q) (at : ℕ) (is : at ≡ p .at) where
-  pub found : counted p (getD rows at zero) ≡ countOf q rows
-  found = ap (λ (i : ℕ). counted p (getD rows i zero)) is ∙ ap (λ (x : Place). countOf x rows) e
+  pub found : counted p (getD rows at zeros) ≡ countOf q rows
+  found = ap (λ (i : ℕ). counted p (getD rows i zeros)) is ∙ ap (λ (x : Place). countOf x rows) e
 
-  pub past : length rows ≤ at → (c : Counters) → c ≡ zero → counted p c ≡ countOf q rows
-  past h c none = ap (counted p) (none ∙ sym (List·getD-eq-default rows zero h)) ∙ found
+  pub past : length rows ≤ at → (c : Counters) → c ≡ zeros → counted p c ≡ countOf q rows
+  past h c none = ap (counted p) (none ∙ sym (List·getD-eq-default rows zeros h)) ∙ found

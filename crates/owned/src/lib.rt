@@ -5,15 +5,7 @@ use counters::Counters;
 use entry::Counted;
 use shelf::Shelf;
 ghost use mathlib.Core.Path.{_≡_};
-ghost use lib.ListN.{length};
-ghost use Rattle.counters.specs.Counting.{settled};
-ghost use Rattle.arriving.specs.Arriving.{arriveDone, arriveStore};
-ghost use Rattle.framing.specs.Frames.{frameDone, frameStore, frameBuffer};
-ghost use Rattle.taking.specs.Takes.{takeDone, takeBuffer};
-ghost use Rattle.hearing.specs.Hearings.{hearDone, hearStore};
-ghost use Rattle.loading.specs.Loads.{loadDone, loadMemory};
-ghost use Rattle.admit.specs.Admission.{counted as placeOf};
-ghost use Rattle.entry.specs.Counts.{countOf};
+ghost use Rattle.entry.specs.Outcomes.{arrives, frames, hears, takes, countsOf, loads, LeavesStore, LeavesAll, LeavesBytes, LeavesMemory};
 
 // What is given back, and the rows afterwards.
 pub struct After {
@@ -36,9 +28,7 @@ pub fn arrive(
     unit: u8,
     cell: &[u8],
 ) -> After
-    ensures { λ r. ⌜ (r .reply ≡ arriveDone card shelf (now (memory .entry)) (length (now (store .entry))) 40 unit (now (cell .entry)) .reply)
-        × ((now (store .exit) ≡ arriveStore card shelf (now (memory .entry)) (now (store .entry)) 40 unit (now (cell .entry)))
-        × (r .rows ≡ settled rows (arriveDone card shelf (now (memory .entry)) (length (now (store .entry))) 40 unit (now (cell .entry)) .rises))) ⌝ }
+    ensures { λ r. ⌜ LeavesStore (arrives card shelf (now (memory .entry)) (now (store .entry)) rows 40 unit (now (cell .entry))) (r .reply) (now (store .exit)) (r .rows) ⌝ }
 {
     let mut rs = rows;
     let reply = entry::arrive(card, shelf, memory, store, &mut rs, unit, cell);
@@ -52,10 +42,7 @@ pub fn frame(
     rows: [Counters; 40],
     buffer: &mut [u8],
 ) -> After
-    ensures { λ r. ⌜ (r .reply ≡ frameDone card shelf (now (store .entry)) 40 (length (now (buffer .entry))) .reply)
-        × ((now (store .exit) ≡ frameStore card shelf (now (store .entry)) 40 (length (now (buffer .entry))))
-        × ((now (buffer .exit) ≡ frameBuffer card shelf (now (store .entry)) 40 (now (buffer .entry)))
-        × (r .rows ≡ settled rows (frameDone card shelf (now (store .entry)) 40 (length (now (buffer .entry))) .rises)))) ⌝ }
+    ensures { λ r. ⌜ LeavesAll (frames card shelf (now (store .entry)) rows 40 (now (buffer .entry))) (r .reply) (now (store .exit)) (now (buffer .exit)) (r .rows) ⌝ }
 {
     let mut rs = rows;
     let reply = entry::frame(card, shelf, store, &mut rs, buffer);
@@ -70,9 +57,7 @@ pub fn take(
     unit: u8,
     buffer: &mut [u8],
 ) -> After
-    ensures { λ r. ⌜ (r .reply ≡ takeDone card shelf (length (now (store .entry))) 40 unit (length (now (buffer .entry))) .reply)
-        × ((now (buffer .exit) ≡ takeBuffer card shelf (now (store .entry)) 40 unit (now (buffer .entry)))
-        × (r .rows ≡ settled rows (takeDone card shelf (length (now (store .entry))) 40 unit (length (now (buffer .entry))) .rises))) ⌝ }
+    ensures { λ r. ⌜ LeavesBytes (takes card shelf (now (store .entry)) rows 40 unit (now (buffer .entry))) (r .reply) (now (buffer .exit)) (r .rows) ⌝ }
 {
     let mut rs = rows;
     let reply = entry::take(card, shelf, store, &mut rs, unit, buffer);
@@ -87,9 +72,7 @@ pub fn hear(
     unit: u8,
     frame: &[u8],
 ) -> After
-    ensures { λ r. ⌜ (r .reply ≡ hearDone card shelf (length (now (store .entry))) 40 unit (now (frame .entry)) .reply)
-        × ((now (store .exit) ≡ hearStore card shelf (now (store .entry)) 40 unit (now (frame .entry)))
-        × (r .rows ≡ settled rows (hearDone card shelf (length (now (store .entry))) 40 unit (now (frame .entry)) .rises))) ⌝ }
+    ensures { λ r. ⌜ LeavesStore (hears card shelf (now (store .entry)) rows 40 unit (now (frame .entry))) (r .reply) (now (store .exit)) (r .rows) ⌝ }
 {
     let mut rs = rows;
     let reply = entry::hear(card, shelf, store, &mut rs, unit, frame);
@@ -97,9 +80,7 @@ pub fn hear(
 }
 
 pub fn load(card: Card, text: &[u8], memory: &mut [u8], store: &[u8], rows: [Counters; 40]) -> After
-    ensures { λ r. ⌜ (r .reply ≡ loadDone card (now (text .entry)) (now (memory .entry)) (length (now (store .entry))) 40 .reply)
-        × ((now (memory .exit) ≡ loadMemory card (now (text .entry)) (now (memory .entry)) (length (now (store .entry))) 40)
-        × (r .rows ≡ settled rows (loadDone card (now (text .entry)) (now (memory .entry)) (length (now (store .entry))) 40 .rises))) ⌝ }
+    ensures { λ r. ⌜ LeavesMemory (loads card (now (text .entry)) (now (memory .entry)) (now (store .entry)) rows 40) (r .reply) (now (memory .exit)) (r .rows) ⌝ }
 {
     let mut rs = rows;
     let reply = entry::load(card, text, memory, store, &mut rs);
@@ -115,7 +96,7 @@ pub fn count_among(
     lent: usize,
     unit: u8,
 ) -> Counted
-    ensures { λ r. ⌜ r ≡ countOf (placeOf card shelf (length (now (store .entry))) lent unit) rows ⌝ }
+    ensures { λ r. ⌜ r ≡ countsOf card shelf (now (store .entry)) rows lent unit ⌝ }
 {
     let place = admit::counted(card, shelf, store, lent, unit);
     let at = entry::row_at(place);
@@ -127,7 +108,7 @@ pub fn count_among(
 }
 
 pub fn count(card: Card, shelf: Shelf, store: &[u8], rows: [Counters; 40], unit: u8) -> Counted
-    ensures { λ r. ⌜ r ≡ countOf (placeOf card shelf (length (now (store .entry))) 40 unit) rows ⌝ }
+    ensures { λ r. ⌜ r ≡ countsOf card shelf (now (store .entry)) rows 40 unit ⌝ }
 {
     count_among(card, shelf, store, rows, 40, unit)
 }

@@ -9,15 +9,8 @@ use owned::After;
 use shelf::Shelf;
 ghost use mathlib.Core.Path.{_≡_};
 ghost use Prim.Native.Nat.{_≤_};
-ghost use lib.ListN.{length};
 ghost use Rattle.counters.specs.Counting.{settled};
-ghost use Rattle.arriving.specs.Arriving.{arriveDone, arriveStore};
-ghost use Rattle.framing.specs.Frames.{frameDone, frameStore, frameBuffer};
-ghost use Rattle.taking.specs.Takes.{takeDone, takeBuffer};
-ghost use Rattle.hearing.specs.Hearings.{hearDone, hearStore};
-ghost use Rattle.loading.specs.Loads.{loadDone, loadMemory};
-ghost use Rattle.admit.specs.Admission.{counted as placeOf};
-ghost use Rattle.entry.specs.Counts.{countOf};
+ghost use Rattle.entry.specs.Outcomes.{arrives, frames, hears, takes, countsOf, loads, LeavesStore, LeavesAll, LeavesBytes, LeavesMemory};
 
 // The rows after an event: by value what `counters::settle` does to lent ones.
 fn settle(rows: [Counters; 40], done: Done) -> After
@@ -46,9 +39,7 @@ pub fn arrive(
     unit: u8,
     cell: &[u8],
 ) -> After
-    ensures { λ r. ⌜ (r .reply ≡ arriveDone card shelf (now (memory .entry)) (length (now (store .entry))) lent unit (now (cell .entry)) .reply)
-        × ((now (store .exit) ≡ arriveStore card shelf (now (memory .entry)) (now (store .entry)) lent unit (now (cell .entry)))
-        × (r .rows ≡ settled rows (arriveDone card shelf (now (memory .entry)) (length (now (store .entry))) lent unit (now (cell .entry)) .rises))) ⌝ }
+    ensures { λ r. ⌜ LeavesStore (arrives card shelf (now (memory .entry)) (now (store .entry)) rows lent unit (now (cell .entry))) (r .reply) (now (store .exit)) (r .rows) ⌝ }
 {
     if lent == 40 {
         return owned::arrive(card, shelf, memory, store, rows, unit, cell);
@@ -67,10 +58,7 @@ pub fn frame(
     lent: usize,
     buffer: &mut [u8],
 ) -> After
-    ensures { λ r. ⌜ (r .reply ≡ frameDone card shelf (now (store .entry)) lent (length (now (buffer .entry))) .reply)
-        × ((now (store .exit) ≡ frameStore card shelf (now (store .entry)) lent (length (now (buffer .entry))))
-        × ((now (buffer .exit) ≡ frameBuffer card shelf (now (store .entry)) lent (now (buffer .entry)))
-        × (r .rows ≡ settled rows (frameDone card shelf (now (store .entry)) lent (length (now (buffer .entry))) .rises)))) ⌝ }
+    ensures { λ r. ⌜ LeavesAll (frames card shelf (now (store .entry)) rows lent (now (buffer .entry))) (r .reply) (now (store .exit)) (now (buffer .exit)) (r .rows) ⌝ }
 {
     if lent == 40 {
         return owned::frame(card, shelf, store, rows, buffer);
@@ -87,9 +75,7 @@ pub fn take(
     unit: u8,
     buffer: &mut [u8],
 ) -> After
-    ensures { λ r. ⌜ (r .reply ≡ takeDone card shelf (length (now (store .entry))) lent unit (length (now (buffer .entry))) .reply)
-        × ((now (buffer .exit) ≡ takeBuffer card shelf (now (store .entry)) lent unit (now (buffer .entry)))
-        × (r .rows ≡ settled rows (takeDone card shelf (length (now (store .entry))) lent unit (length (now (buffer .entry))) .rises))) ⌝ }
+    ensures { λ r. ⌜ LeavesBytes (takes card shelf (now (store .entry)) rows lent unit (now (buffer .entry))) (r .reply) (now (buffer .exit)) (r .rows) ⌝ }
 {
     if lent == 40 {
         return owned::take(card, shelf, store, rows, unit, buffer);
@@ -106,9 +92,7 @@ pub fn hear(
     unit: u8,
     frame: &[u8],
 ) -> After
-    ensures { λ r. ⌜ (r .reply ≡ hearDone card shelf (length (now (store .entry))) lent unit (now (frame .entry)) .reply)
-        × ((now (store .exit) ≡ hearStore card shelf (now (store .entry)) lent unit (now (frame .entry)))
-        × (r .rows ≡ settled rows (hearDone card shelf (length (now (store .entry))) lent unit (now (frame .entry)) .rises))) ⌝ }
+    ensures { λ r. ⌜ LeavesStore (hears card shelf (now (store .entry)) rows lent unit (now (frame .entry))) (r .reply) (now (store .exit)) (r .rows) ⌝ }
 {
     if lent == 40 {
         return owned::hear(card, shelf, store, rows, unit, frame);
@@ -124,9 +108,7 @@ pub fn load(
     rows: [Counters; 40],
     lent: usize,
 ) -> After
-    ensures { λ r. ⌜ (r .reply ≡ loadDone card (now (text .entry)) (now (memory .entry)) (length (now (store .entry))) lent .reply)
-        × ((now (memory .exit) ≡ loadMemory card (now (text .entry)) (now (memory .entry)) (length (now (store .entry))) lent)
-        × (r .rows ≡ settled rows (loadDone card (now (text .entry)) (now (memory .entry)) (length (now (store .entry))) lent .rises))) ⌝ }
+    ensures { λ r. ⌜ LeavesMemory (loads card (now (text .entry)) (now (memory .entry)) (now (store .entry)) rows lent) (r .reply) (now (memory .exit)) (r .rows) ⌝ }
 {
     if lent == 40 {
         return owned::load(card, text, memory, store, rows);
@@ -142,7 +124,7 @@ pub fn count(
     lent: usize,
     unit: u8,
 ) -> Counted
-    ensures { λ r. ⌜ r ≡ countOf (placeOf card shelf (length (now (store .entry))) lent unit) rows ⌝ }
+    ensures { λ r. ⌜ r ≡ countsOf card shelf (now (store .entry)) rows lent unit ⌝ }
 {
     owned::count_among(card, shelf, store, rows, lent, unit)
 }

@@ -29,7 +29,8 @@ use Rattle.told.proofs.Regions.{start, both-left, both-right}
 use Rattle.told.proofs.Fits.{fine-page, fine-vc}
 use Rattle.told.proofs.Grown.{decide, grown, page-new}
 use Rattle.told.proofs.Memory.{AllRanged, records-hold, stands-at}
-use Rattle.promise.specs.Served.{serves, served, become, lookedUp}
+use Rattle.told.specs.Served.{serves, served}
+use Rattle.promise.specs.Served.{become, lookedUp}
 
 -- what becomes of a cell by the record of its VPI and by that of its VCI in the page
 abbrev by : R.Record → R.Record → H.Header → Looked

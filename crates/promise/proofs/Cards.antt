@@ -1,7 +1,7 @@
 -- Demand 3, first half: a table that the wide card accepts is refused by the narrow card as Wide at its first line that is too wide, exactly when
 -- there is one; else it is accepted, with the same shelf, and every lookup agrees. Assumes nothing.
 use mathlib.Core.Path.{_≡_, refl, sym, ap, ap₂, subst, _∙_}
-use mathlib.Core.Bool.{Bool, true, false, cond, not}
+use mathlib.Core.Bool.{Bool, true, false, cond, not, false≢true}
 use mathlib.Core.List.{List, [], _∷_, _++_}
 use mathlib.Core.Option.{Option, none, some}
 use mathlib.Core.Logic.{_⊎_, inl, inr, ⊎-elim}
@@ -38,11 +38,14 @@ use Rattle.told.proofs.Shelved.{shelved}
 use Rattle.table.specs.declared.Outcome.the-variants.{Refused}
 use Rattle.table.specs.Load.{load, loaded}
 use Rattle.promise.specs.Served.{lookedUp, lookupAt, saidBy}
-use Rattle.promise.specs.Refusals.{linesOf, readThen, AllGood, Accepts, Refuses}
-use Rattle.promise.specs.Narrow.{tooWide, NoneWide, FirstWide}
-use Rattle.promise.proofs.Runs.{FirstFault, good-ranged}
+use Rattle.promise.specs.Readings.{linesOf, readThen}
+use Rattle.promise.specs.Refusals.{Accepts, Refuses}
+use Rattle.promise.specs.Says.{IsWide}
+use Rattle.promise.specs.Narrow.{NoneWide, FirstWide}
+use Rattle.promise.proofs.Runs.{AllFine, FirstFault}
+use Rattle.promise.proofs.Faults.{tooWide, wide-iff, good-iff}
 use Rattle.promise.proofs.ByLines.{lookup-lines}
-use Rattle.promise.proofs.Refusals.{at-line, refused, accepted, refused-line, loaded-refused}
+use Rattle.promise.proofs.Refusals.{all-fine, accepts-good, accepts-ranged, at-line, refused, accepted, refused-line, loaded-refused}
 
 -- A. one line: what is fine on the wide card is Wide on the narrow one, or fine there too
 abbrev judged : Bool → Verdict
@@ -107,9 +110,15 @@ narrow-judge room told (Vc u v w target class outvpi outvci) e =
 narrow-judge room told (Mc u session) e = e
 
 -- B. the lines of a table
+wide-true : (l : Line) → IsWide l → tooWide l ≡ true
+wide-true l w = wide-iff l .1 w
+
+wide-false : (l : Line) → (IsWide l → ⊥) → tooWide l ≡ false
+wide-false l n = decide (tooWide l) (λ t. absurd (n (wide-iff l .0 t))) (λ t. t)
+
 pub good-narrow : (room : ℕ) (told : List Line) → Good W room told → NoneWide told → Good Narrow room told
 good-narrow room [] g n = tt
-good-narrow room (l ∷ told) g n = (narrow-judge room told l (g .0) ∙ ap judged (n .0), good-narrow room told (g .1) (n .1))
+good-narrow room (l ∷ told) g n = (narrow-judge room told l (g .0) ∙ ap judged (wide-false l (n .0)), good-narrow room told (g .1) (n .1))
 
 pub wide-or-not : (told : List Line) → NoneWide told ⊎ ((line : ℕ) × FirstWide told line)
 wide-or-not [] = inl tt
@@ -118,8 +127,8 @@ wide-or-not (l ∷ told) = ⊎-elim here (λ w. inr (w .0, later (w .0) (w .1)))
     here : NoneWide told → NoneWide (l ∷ told) ⊎ ((line : ℕ) × FirstWide (l ∷ told) line)
     here n =
         decide (tooWide l)
-        (λ t. inr (length told + 1, record { before = told; it = l; after = []; all = refl; none-before = n; wide = t; counted = refl }))
-        (λ t. inl (t, n))
+        (λ t. inr (length told + 1, record { before = told; it = l; after = []; all = refl; none-before = n; wide = wide-iff l .0 t; counted = refl }))
+        (λ t. inl (λ w. false≢true (sym t ∙ wide-true l w), n))
 
     later : (line : ℕ) → FirstWide told line → FirstWide (l ∷ told) line
     later line w =
@@ -142,7 +151,7 @@ unfolding readThen
 then-append [] told rest = refl
 then-append (l ∷ after) told rest = then-append after told (Read l ∷ rest)
 
-first-wide-faults : (room : ℕ) (lines : List Reading) (told : List Line) (line : ℕ) → AllGood W room lines told → FirstWide told line → FirstFault Narrow room lines line Wide
+first-wide-faults : (room : ℕ) (lines : List Reading) (told : List Line) (line : ℕ) → AllFine W room lines told → FirstWide told line → FirstFault Narrow room lines line Wide
 unfolding readThen
 first-wide-faults room lines told line g w =
     let good = good-before W room (w .after) (w .it ∷ w .before) (subst (Good W room) (w .all) (g .good)) in
@@ -153,7 +162,7 @@ first-wide-faults room lines told line g w =
       all = g .all ∙ ap (λ x. readThen x []) (w .all) ∙ then-append (w .after) (w .it ∷ w .before) [];
       good = good-narrow room (w .before) (good .1) (w .none-before);
       counted = w .counted;
-      judged = narrow-judge room (w .before) (w .it) (good .0) ∙ ap judged (w .wide);
+      judged = narrow-judge room (w .before) (w .it) (good .0) ∙ ap judged (wide-true (w .it) (w .wide));
       faulty = wide-fine;
     }
 
@@ -161,13 +170,18 @@ first-wide-faults room lines told line g w =
 module _ (text memory : List ℕ) (store rows : ℕ) (told : List Line) (a : Accepts W text memory store rows told) where
   narrow-refuses : (line : ℕ) → FirstWide told line → Refuses Narrow text memory store rows 5 line
   narrow-refuses line w =
-      inr (inl (at-line Narrow text memory line (a .short) Wide (first-wide-faults (usable memory) (linesOf text) told line (a .fine) w)))
+      inr (inl (at-line Narrow text memory line (a .short) Wide (first-wide-faults (usable memory) (linesOf text) told line (all-fine W text memory told (a .fine)) w)))
 
   pub narrow-accepts : NoneWide told → Accepts Narrow text memory store rows told
   narrow-accepts n =
       record {
         short = a .short;
-        fine = record { all = a .fine .all; good = good-narrow (usable memory) told (a .fine .good) n };
+        fine = record {
+          some = a .fine .some;
+          all = a .fine .all;
+          ranged = a .fine .ranged;
+          faultless = good-iff Narrow memory told .0 (good-narrow (usable memory) told (accepts-good W text memory store rows told a) n);
+        };
         store-enough = a .store-enough;
         rows-enough = a .rows-enough;
       }
@@ -197,10 +211,10 @@ nothing-at e = let z : _≡_ {A = ℕ} 0 1 = cc in omega arith
 
 module _ (card : Card) (text memory : List ℕ) (store rows : ℕ) (told : List Line) (a : Accepts card text memory store rows told) where
   abbrev good : Good card (usable memory) told
-  good = a .fine .good
+  good = accepts-good card text memory store rows told a
 
   ranges : AllRanged told
-  ranges = good-ranged card (usable memory) text told (a .fine)
+  ranges = accepts-ranged card text memory store rows told a
 
   -- a unit that is found was declared
   was-declared : (u i : ℕ) → findIn (declared (shelfOf told)) u ≡ At i → (top : ℕ) × (topOf told (ofUnit u) ≡ some top)

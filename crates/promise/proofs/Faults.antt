@@ -26,23 +26,25 @@ use Rattle.shelf.specs.declared.Settings.{Settings}
 use Rattle.line.specs.declared.Line.{Line}
 use Rattle.line.specs.declared.Line.the-variants.{Bus, Unit as L·Unit, Vp, Drop, Page, Vc, Mc}
 use Rattle.ranged.specs.declared.Wrong.{Wrong}
+use Rattle.line.specs.Lines.{readingOf}
 use Rattle.line.specs.declared.Reading.{Reading}
 use Rattle.line.specs.declared.Reading.the-variants.{Good as Read, Bad}
 use Rattle.verdict.specs.declared.Verdict.{Verdict}
 use Rattle.verdict.specs.declared.Verdict.the-variants.{Fine, Form, Order, Twice, Wide, Room}
 use Rattle.verdict.specs.Verdicts.{numberOf, asked, roomFor, offBus, taken, pageIn}
 use Rattle.judge.specs.Judge.{inPage, judgeBus, judgeUnit, judgeVp, judgeDrop, judgePage, judgeVc, judgeMc}
-use Rattle.told.specs.Told.{ofUnit, ofPage, opens, topOf, total, recordOf, hearsIn, shelfOf}
-use Rattle.told.specs.Lines.{started, isFirst, owned, isDeclared, judge, Good}
+use Rattle.told.specs.Told.{ofUnit, ofPage, topOf, total, recordOf, hearsIn, shelfOf}
+use Rattle.told.specs.Lines.{started, isFirst, owned, isDeclared, judge, Good, verdictOn}
 use Rattle.told.proofs.Tabulate.{some-inj, none-some}
 use Rattle.told.proofs.Regions.{start}
 use Rattle.told.proofs.Grown.{Grown, decide, grown}
 use Rattle.told.proofs.Memory.{fits-room}
 use Rattle.told.proofs.Members.{heard-in, in-heard, first-is, bus-in, in-bus, below-bus}
-use Rattle.promise.specs.Says.{Declares, Uses, HasUnit, IsUnit, HasTarget, HasVpi, Gives, IsVc, IsWide}
-use Rattle.promise.specs.Narrow.{tooWide, WideIff}
-use Rattle.promise.specs.Faults.{OutOfOrder, first-not-bus, bus-again, unit-off, target-off, not-declared, vpi-above, no-page, vci-above, Again, unit-again, vpi-again, vc-again, mc-again, Exceeds, Condition, form, order, twice, wide, room, Faultless, FaultIff, GoodIff}
-use Rattle.promise.proofs.Said.{declared, page-in, given-before, before-given, vc-before, before-vc, top-is, top-of-page, page-stands}
+use Rattle.promise.specs.Says.{Declares, Uses, HasUnit, IsUnit, HasTarget, HasVpi, Gives, IsVc, IsWide, recordsBy, recordsOf}
+use Rattle.wording.specs.Words.{wordsOf, InRange}
+use Rattle.wording.proofs.Readings.{reads-iff, words-only, form-iff}
+use Rattle.promise.specs.Faults.{OutOfOrder, first-not-bus, bus-again, unit-off, target-off, not-declared, vpi-above, no-page, vci-above, Again, unit-again, vpi-again, vc-again, mc-again, Exceeds, Fault, order, twice, wide, room, Condition, not-ended, no-line, fault, Faultless}
+use Rattle.promise.proofs.Said.{records-total, declared, page-in, given-before, before-given, vc-before, before-vc, top-is, top-of-page, page-stands}
 
 -- A. what a verdict means, where Order, Twice, Wide and Room are these facts
 abbrev Means : (O A W M : Type 0) → Verdict → Type 0
@@ -120,7 +122,17 @@ asks-iff : (ask : Ask) → (not (narrowHolds ask) ≡ true) ↔ Asks ask
 asks-iff ask =
     decide (narrowHolds ask) (λ t. rw t (λ e. absurd (false≢true e), λ h. absurd (narrow-asks ask .1 t h))) (λ t. rw t (λ e. narrow-asks ask .0 t, λ h. refl))
 
-pub wide-iff : WideIff
+-- the same of a line, as a test
+unfoldable pub tooWide : Line → Bool
+tooWide (Bus n) = not (narrowHolds (A·Bus n))
+tooWide (L·Unit settings limits) = not (narrowHolds (On (settings .link)))
+tooWide (Vp u v target class outvpi) = not (narrowHolds (Out outvpi))
+tooWide (Drop u v) = false
+tooWide (Page u v topvci) = false
+tooWide (Vc u v w target class outvpi outvci) = not (narrowHolds (Out outvpi))
+tooWide (Mc u session) = false
+
+pub wide-iff : (l : Line) → (tooWide l ≡ true) ↔ IsWide l
 unfolding tooWide
 wide-iff (Bus n) = asks-iff (A·Bus n)
 wide-iff (L·Unit settings limits) = asks-iff (On (settings .link))
@@ -210,9 +222,9 @@ module _ (card : Card) (memory : List ℕ) (told : List Line) (good : Good card 
   Says l = Means (OutOfOrder told l) (Again told l) ((card ≡ Narrow) × IsWide l) (Exceeds memory (l ∷ told))
 
   -- a line that takes no records
-  still : (l : Line) → opens l ≡ none → Exceeds memory (l ∷ told) → ⊥
-  unfolding total
-  still l o = not-over memory (size * total (l ∷ told)) (rw o (let h = fits-room card (usable memory) told good in omega arith))
+  still : (l : Line) → recordsBy l ≡ 0 → Exceeds memory (l ∷ told) → ⊥
+  unfolding recordsOf
+  still l o = not-over memory (8 * recordsOf (l ∷ told)) (let h = fits-room card (usable memory) told good in let k = records-total told in omega arith)
 
   -- a line that uses a unit
   uses : (l : Line) (u : ℕ) (f : ℕ → Verdict) → Uses u l → (isFirst told ≡ false → (top : ℕ) → topOf told (ofUnit u) ≡ some top → Says l (f top)) → Says l (started told (owned (topOf told (ofUnit u)) f))
@@ -234,17 +246,19 @@ module _ (card : Card) (memory : List ℕ) (told : List Line) (good : Good card 
       (λ o. let k = off-bus bus target o in target-off bus (k .0) (bus-in card (usable memory) told good b) (h (k .0) (k .1)) (k .2)) rest
 
   -- with an outgoing VPI
-  goes-out : (l : Line) (outvpi : ℕ) → (255 < outvpi → IsWide l) → (IsWide l → 255 < outvpi) → opens l ≡ none → (OutOfOrder told l → ⊥) → (Again told l → ⊥) → Says l (asked card (Out outvpi) Fine)
+  goes-out : (l : Line) (outvpi : ℕ) → (255 < outvpi → IsWide l) → (IsWide l → 255 < outvpi) → recordsBy l ≡ 0 → (OutOfOrder told l → ⊥) → (Again told l → ⊥) → Says l (asked card (Out outvpi) Fine)
   goes-out l outvpi to from o ok new =
       wide-test _ _ _ _ (holds card (Out outvpi)) Fine ok new (λ t. let w = too-wide card (Out outvpi) t in (w .0, to (w .1)))
       (λ t. (ok, new, λ w. not-wide card (Out outvpi) t (w .0, from (w .1)), still l o))
 
   -- with records of its own
-  takes-room : (l : Line) (top : ℕ) → total (l ∷ told) ≡ total told + (top + 1) → (OutOfOrder told l → ⊥) → (Again told l → ⊥) → ((card ≡ Narrow) × IsWide l → ⊥) → Says l (roomFor (usable memory) (size * total told) (top + 1))
+  takes-room : (l : Line) (top : ℕ) → recordsBy l ≡ top + 1 → (OutOfOrder told l → ⊥) → (Again told l → ⊥) → ((card ≡ Narrow) × IsWide l → ⊥) → Says l (roomFor (usable memory) (size * total told) (top + 1))
+  unfolding recordsOf
   takes-room l top e ok new narrow =
+      let n = records-total told in
       room-test _ _ _ _ (leb (size * total told + size * (top + 1)) (usable memory)) ok new narrow
-      (λ t. over memory (size * total (l ∷ told)) (let k = leb-false (size * total told + size * (top + 1)) (usable memory) t in omega arith))
-      (λ t. not-over memory (size * total (l ∷ told)) (let k = leb-true (size * total told + size * (top + 1)) (usable memory) t in omega arith))
+      (λ t. over memory (8 * recordsOf (l ∷ told)) (let k = leb-false (size * total told + size * (top + 1)) (usable memory) t in omega arith))
+      (λ t. not-over memory (8 * recordsOf (l ∷ told)) (let k = leb-true (size * total told + size * (top + 1)) (usable memory) t in omega arith))
 
   -- the VPI of a `vp`, `drop` or `page` line, where something may stand
   free-path : (u v : ℕ) → taken (Is (recordOf told (ofUnit u) v)) ≡ false → (a b : ℕ) → (u ≡ a) × (v ≡ b) → taken (Is (recordOf told (ofUnit a) b)) ≡ false
@@ -278,7 +292,6 @@ module _ (card : Card) (memory : List ℕ) (told : List Line) (good : Good card 
   bus-order n empty (vci-above u v w t h m k) = h
 
   first-bus : (n : ℕ) → isFirst told ≡ true → Says (Bus n) (asked card (A·Bus n) Fine)
-  unfolding opens
   first-bus n f =
       let empty = first-is told f in
       let none-in : (l : Line) → In l told → ⊥ = λ l m. List·Memᴰ·not-nil (subst (In l) empty m) in
@@ -304,7 +317,7 @@ module _ (card : Card) (memory : List ℕ) (told : List Line) (good : Good card 
 
   -- the verdict on a line
   pub judged : (l : Line) → Says l (judge card (usable memory) told l)
-  unfolding judge judgeBus judgeUnit judgeVp judgeDrop judgePage judgeVc judgeMc opens total
+  unfolding judge judgeBus judgeUnit judgeVp judgeDrop judgePage judgeVc judgeMc
   judged (Bus n) =
       decide (isFirst told) (λ f. rw f (first-bus n f)) (λ f. rw f (bus-again bus n (bus-in card (usable memory) told good f) refl))
   judged (L·Unit settings limits) =
@@ -364,39 +377,23 @@ module _ (card : Card) (memory : List ℕ) (told : List Line) (good : Good card 
       (λ y. (ok, anew l (λ n t z. absurd z) (λ n w z. absurd z) (λ n w c z. absurd z) (unheard u session y), λ w. w .1, still l refl)))
 
 -- D. the numbers
-pub condition-number : (card : Card) (memory : List ℕ) (told : List Line) (r : Reading) (n : ℕ) → Condition card memory told r n → n ≡ 0 → ⊥
-condition-number card memory told r n (form wrong e k) z = omega arith
-condition-number card memory told r n (order l e h k) z = omega arith
-condition-number card memory told r n (twice l e h k) z = omega arith
-condition-number card memory told r n (wide l e c h k) z = omega arith
-condition-number card memory told r n (room l e h k) z = omega arith
-
-read-bad : {l : Line} {wrong : Wrong} → Read l ≡ Bad wrong → ⊥
-read-bad e = let z : _≡_ {A = ℕ} 0 1 = cc in omega arith
-
-read-is : {l m : Line} → Read l ≡ Read m → m ≡ l
-read-is e = cc
+pub fault-least : (card : Card) (memory : List ℕ) (told : List Line) (l : Line) (n : ℕ) → Fault card memory told l n → 3 ≤ n
+fault-least card memory told l n (order h k) = omega arith
+fault-least card memory told l n (twice h k) = omega arith
+fault-least card memory told l n (wide c h k) = omega arith
+fault-least card memory told l n (room h k) = omega arith
 
 module _ (card : Card) (memory : List ℕ) (told : List Line) where
-  -- a line that cannot be read has one condition
-  only-form : (wrong : Wrong) (n : ℕ) → Condition card memory told (Bad wrong) n → n ≡ 2
-  only-form wrong n (form w e k) = k
-  only-form wrong n (order l e h k) = absurd (read-bad (sym e))
-  only-form wrong n (twice l e h k) = absurd (read-bad (sym e))
-  only-form wrong n (wide l e c h k) = absurd (read-bad (sym e))
-  only-form wrong n (room l e h k) = absurd (read-bad (sym e))
-
-  -- one that can has four
-  by-condition : (P : Type 0) (l : Line) (n : ℕ) → (n ≡ 3 → OutOfOrder told l → P) → (n ≡ 4 → Again told l → P) → (n ≡ 5 → (card ≡ Narrow) × IsWide l → P) → (n ≡ 6 → Exceeds memory (l ∷ told) → P) → Condition card memory told (Read l) n → P
-  by-condition P l n o a w m (form wrong e k) = absurd (read-bad e)
-  by-condition P l n o a w m (order x e h k) = o k (subst (OutOfOrder told) (read-is e) h)
-  by-condition P l n o a w m (twice x e h k) = a k (subst (Again told) (read-is e) h)
-  by-condition P l n o a w m (wide x e c h k) = w k (c, subst IsWide (read-is e) h)
-  by-condition P l n o a w m (room x e h k) = m k (subst (λ y. Exceeds memory (y ∷ told)) (read-is e) h)
+  -- a line has four conditions
+  by-fault : (P : Type 0) (l : Line) (n : ℕ) → (n ≡ 3 → OutOfOrder told l → P) → (n ≡ 4 → Again told l → P) → (n ≡ 5 → (card ≡ Narrow) × IsWide l → P) → (n ≡ 6 → Exceeds memory (l ∷ told) → P) → Fault card memory told l n → P
+  by-fault P l n o a w m (order h k) = o k h
+  by-fault P l n o a w m (twice h k) = a k h
+  by-fault P l n o a w m (wide c h k) = w k (c, h)
+  by-fault P l n o a w m (room h k) = m k h
 
   -- the number is that of the first condition that holds
   abbrev First : Line → ℕ → Type 0
-  First l n = Condition card memory told (Read l) n × ((m : ℕ) → m < n → Condition card memory told (Read l) m → ⊥)
+  First l n = Fault card memory told l n × ((m : ℕ) → m < n → Fault card memory told l m → ⊥)
 
   abbrev Meant : Line → Verdict → Type 0
   Meant l = Means (OutOfOrder told l) (Again told l) ((card ≡ Narrow) × IsWide l) (Exceeds memory (l ∷ told))
@@ -405,40 +402,39 @@ module _ (card : Card) (memory : List ℕ) (told : List Line) where
   number-first l n Fine h least e = absurd (least (sym e))
   number-first l n (Form wrong) h least e = absurd h
   number-first l n (Order field) h least e =
-      (order l refl h (sym e), λ m k. by-condition ⊥ l m (λ q z. omega arith) (λ q z. omega arith) (λ q z. omega arith) (λ q z. omega arith))
+      (order h (sym e), λ m k. by-fault ⊥ l m (λ q z. omega arith) (λ q z. omega arith) (λ q z. omega arith) (λ q z. omega arith))
   number-first l n (Twice field) h least e =
-      (twice l refl (h .1) (sym e), λ m k. by-condition ⊥ l m (λ q. h .0) (λ q z. omega arith) (λ q z. omega arith) (λ q z. omega arith))
+      (twice (h .1) (sym e), λ m k. by-fault ⊥ l m (λ q. h .0) (λ q z. omega arith) (λ q z. omega arith) (λ q z. omega arith))
   number-first l n Wide h least e =
-      (wide l refl (h .2 .0) (h .2 .1) (sym e), λ m k. by-condition ⊥ l m (λ q. h .0) (λ q. h .1) (λ q z. omega arith) (λ q z. omega arith))
-  number-first l n Room h least e =
-      (room l refl (h .3) (sym e), λ m k. by-condition ⊥ l m (λ q. h .0) (λ q. h .1) (λ q. h .2) (λ q z. omega arith))
+      (wide (h .2 .0) (h .2 .1) (sym e), λ m k. by-fault ⊥ l m (λ q. h .0) (λ q. h .1) (λ q z. omega arith) (λ q z. omega arith))
+  number-first l n Room h least e = (room (h .3) (sym e), λ m k. by-fault ⊥ l m (λ q. h .0) (λ q. h .1) (λ q. h .2) (λ q z. omega arith))
 
   first-number : (l : Line) (n : ℕ) (v : Verdict) → Meant l v → First l n → numberOf v ≡ n
-  first-number l n Fine h f = absurd (by-condition ⊥ l n (λ q. h .0) (λ q. h .1) (λ q. h .2) (λ q. h .3) (f .0))
+  first-number l n Fine h f = absurd (by-fault ⊥ l n (λ q. h .0) (λ q. h .1) (λ q. h .2) (λ q. h .3) (f .0))
   first-number l n (Form wrong) h f = absurd h
   first-number l n (Order field) h f =
-      let no : 3 < n → ⊥ = λ k. f .1 3 k (order l refl h refl) in
-      by-condition (3 ≡ n) l n (λ q z. sym q) (λ q z. absurd (no (omega arith))) (λ q z. absurd (no (omega arith))) (λ q z. absurd (no (omega arith))) (f .0)
+      let no : 3 < n → ⊥ = λ k. f .1 3 k (order h refl) in
+      by-fault (3 ≡ n) l n (λ q z. sym q) (λ q z. absurd (no (omega arith))) (λ q z. absurd (no (omega arith))) (λ q z. absurd (no (omega arith))) (f .0)
   first-number l n (Twice field) h f =
-      let no : 4 < n → ⊥ = λ k. f .1 4 k (twice l refl (h .1) refl) in
-      by-condition (4 ≡ n) l n (λ q z. absurd (h .0 z)) (λ q z. sym q) (λ q z. absurd (no (omega arith))) (λ q z. absurd (no (omega arith))) (f .0)
+      let no : 4 < n → ⊥ = λ k. f .1 4 k (twice (h .1) refl) in
+      by-fault (4 ≡ n) l n (λ q z. absurd (h .0 z)) (λ q z. sym q) (λ q z. absurd (no (omega arith))) (λ q z. absurd (no (omega arith))) (f .0)
   first-number l n Wide h f =
-      let no : 5 < n → ⊥ = λ k. f .1 5 k (wide l refl (h .2 .0) (h .2 .1) refl) in
-      by-condition (5 ≡ n) l n (λ q z. absurd (h .0 z)) (λ q z. absurd (h .1 z)) (λ q z. sym q) (λ q z. absurd (no (omega arith))) (f .0)
+      let no : 5 < n → ⊥ = λ k. f .1 5 k (wide (h .2 .0) (h .2 .1) refl) in
+      by-fault (5 ≡ n) l n (λ q z. absurd (h .0 z)) (λ q z. absurd (h .1 z)) (λ q z. sym q) (λ q z. absurd (no (omega arith))) (f .0)
   first-number l n Room h f =
-      by-condition (6 ≡ n) l n (λ q z. absurd (h .0 z)) (λ q z. absurd (h .1 z)) (λ q z. absurd (h .2 z)) (λ q z. sym q) (f .0)
+      by-fault (6 ≡ n) l n (λ q z. absurd (h .0 z)) (λ q z. absurd (h .1 z)) (λ q z. absurd (h .2 z)) (λ q z. sym q) (f .0)
 
   -- a line with no condition is fine
-  none-fine : (l : Line) (v : Verdict) → Meant l v → ((n : ℕ) → Condition card memory told (Read l) n → ⊥) → v ≡ Fine
+  none-fine : (l : Line) (v : Verdict) → Meant l v → ((n : ℕ) → Fault card memory told l n → ⊥) → v ≡ Fine
   none-fine l Fine h none-holds = refl
   none-fine l (Form wrong) h none-holds = absurd h
-  none-fine l (Order field) h none-holds = absurd (none-holds 3 (order l refl h refl))
-  none-fine l (Twice field) h none-holds = absurd (none-holds 4 (twice l refl (h .1) refl))
-  none-fine l Wide h none-holds = absurd (none-holds 5 (wide l refl (h .2 .0) (h .2 .1) refl))
-  none-fine l Room h none-holds = absurd (none-holds 6 (room l refl (h .3) refl))
+  none-fine l (Order field) h none-holds = absurd (none-holds 3 (order h refl))
+  none-fine l (Twice field) h none-holds = absurd (none-holds 4 (twice (h .1) refl))
+  none-fine l Wide h none-holds = absurd (none-holds 5 (wide (h .2 .0) (h .2 .1) refl))
+  none-fine l Room h none-holds = absurd (none-holds 6 (room (h .3) refl))
 
-  fine-none : (l : Line) → Meant l Fine → (n : ℕ) → Condition card memory told (Read l) n → ⊥
-  fine-none l h n = by-condition ⊥ l n (λ q. h .0) (λ q. h .1) (λ q. h .2) (λ q. h .3)
+  fine-none : (l : Line) → Meant l Fine → (n : ℕ) → Fault card memory told l n → ⊥
+  fine-none l h n = by-fault ⊥ l n (λ q. h .0) (λ q. h .1) (λ q. h .2) (λ q. h .3)
 
 faultless : (card : Card) (memory : List ℕ) (told : List Line) → Good card (usable memory) told → Faultless card memory told
 faultless card memory [] g = tt
@@ -451,14 +447,56 @@ good card memory (l ∷ told) f =
     let g = good card memory told (f .1) in
     (none-fine card memory told l (judge card (usable memory) told l) (judged card memory told g l) (f .0), g)
 
-pub good-iff : GoodIff
+-- the lines that loading finds good are the faultless ones
+pub good-iff : (card : Card) (memory : List ℕ) (told : List Line) → Good card (usable memory) told ↔ Faultless card memory told
 good-iff card memory told = (faultless card memory told, good card memory told)
 
-pub fault-iff : FaultIff
-fault-iff card memory told (Read l) n f least =
-    let h = judged card memory told (good card memory told f) l in
-    (number-first card memory told l n (judge card (usable memory) told l) h least, first-number card memory told l n (judge card (usable memory) told l) h)
-fault-iff card memory told (Bad wrong) n f least = (
-  λ e. (form wrong refl (sym e), λ m k c. let q = only-form card memory told wrong m c in omega arith),
-  λ h. sym (only-form card memory told wrong n (h .0)),
-)
+-- E. the same of a line's bytes
+read-bad : {l : Line} {wrong : Wrong} → Read l ≡ Bad wrong → ⊥
+read-bad e = let z : _≡_ {A = ℕ} 0 1 = cc in omega arith
+
+was-ended : (bytes : List ℕ) (ended : Bool) (l : Line) → readingOf bytes ended ≡ Read l → ended ≡ true
+unfolding readingOf
+was-ended bytes true l e = refl
+was-ended bytes false l e = absurd (read-bad (sym e))
+
+module _ (card : Card) (memory : List ℕ) (told : List Line) (bytes : List ℕ) (ended : Bool) where
+  pub condition-least : (n : ℕ) → Condition card memory told bytes ended n → 2 ≤ n
+  condition-least n (not-ended e k) = omega arith
+  condition-least n (no-line h k) = omega arith
+  condition-least n (fault l e r w h) = let k = fault-least card memory told l n h in omega arith
+
+  -- a line that cannot be read has one condition, and one that can be read its four
+  only-form : (wrong : Wrong) → readingOf bytes ended ≡ Bad wrong → (n : ℕ) → Condition card memory told bytes ended n → n ≡ 2
+  only-form wrong e n (not-ended f k) = k
+  only-form wrong e n (no-line h k) = k
+  only-form wrong e n (fault l t r w h) = absurd (read-bad (sym (ap (readingOf bytes) t ∙ reads-iff bytes l .1 (r, w)) ∙ e))
+
+  only-fault : (l : Line) → InRange l → bytes ≡ wordsOf l → ended ≡ true → (n : ℕ) → Condition card memory told bytes ended n → Fault card memory told l n
+  only-fault l r w t n (not-ended e k) = absurd (false≢true (sym e ∙ t))
+  only-fault l r w t n (no-line h k) = absurd (h l r w)
+  only-fault l r w t n (fault m e s x h) = subst (λ y. Fault card memory told y n) (words-only m l s r (sym x ∙ w)) h
+
+  abbrev FirstCondition : ℕ → Type 0
+  FirstCondition n = Condition card memory told bytes ended n × ((m : ℕ) → m < n → Condition card memory told bytes ended m → ⊥)
+
+  form-first : (wrong : Wrong) → readingOf bytes ended ≡ Bad wrong → FirstCondition 2
+  form-first wrong e = (
+    ⊎-elim (λ f. not-ended f refl) (λ f. no-line f refl) (form-iff bytes ended .0 (wrong, e)),
+    λ m k c. let q = condition-least m c in omega arith,
+  )
+
+  pub condition-iff : Faultless card memory told → (n : ℕ) → (n ≡ 0 → ⊥) → (numberOf (verdictOn card (usable memory) told (readingOf bytes ended)) ≡ n) ↔ FirstCondition n
+  condition-iff f n least = go (readingOf bytes ended) refl
+    where
+      go : (r : Reading) → readingOf bytes ended ≡ r → (numberOf (verdictOn card (usable memory) told r) ≡ n) ↔ FirstCondition n
+      go (Bad wrong) e = (λ k. subst FirstCondition k (form-first wrong e), λ h. sym (only-form wrong e n (h .0)))
+      go (Read l) e =
+          let t = was-ended bytes ended l e in
+          let r = reads-iff bytes l .0 (ap (readingOf bytes) (sym t) ∙ e) in
+          let h = judged card memory told (good card memory told f) l in
+          let only = only-fault l (r .0) (r .1) t in
+          let all : (m : ℕ) → Fault card memory told l m → Condition card memory told bytes ended m = λ m k. fault l t (r .0) (r .1) k in (
+            λ k. let g = number-first card memory told l n (judge card (usable memory) told l) h least k in (all n (g .0), λ m i c. g .1 m i (only m c)),
+            λ c. first-number card memory told l n (judge card (usable memory) told l) h (only n (c .0), λ m i k. c .1 m i (all m k)),
+          )

@@ -1,6 +1,7 @@
 pub mod Values
 pub mod Sheets
 pub mod ByLines
+pub mod Texts
 pub mod Runs
 pub mod Said
 pub mod Faults

@@ -37,8 +37,8 @@ use Rattle.told.proofs.Shelved.{Shelved, shelved, declared-more, place-left}
 use Rattle.table.specs.Load.{load}
 use Rattle.promise.specs.Refusals.{Accepts, Refuses}
 use Rattle.promise.specs.Loads.{LoadSound}
-use Rattle.promise.proofs.Runs.{AllInRange, good-in-range, all-ranged}
-use Rattle.promise.proofs.Refusals.{accepted, refused, either-way}
+use Rattle.promise.proofs.Runs.{AllInRange, all-ranged}
+use Rattle.promise.proofs.Refusals.{accepts-good, accepts-in-range, accepts-units, accepted, refused, either-way}
 
 -- A. what a `unit` line gives is what State asks for: a freshly declared unit, where nobody is granted and nobody asks
 fresh-unit : (card : Card) (bus place : ℕ) (settings : Settings) (limits : Limits) → bus ≤ 32 → settings .number < bus → holds card (On (settings .link)) ≡ true → LineGiven settings limits → UnitSound card bus nobody [] (unit settings limits place)
@@ -256,10 +256,11 @@ module _ (card : Card) (text memory : List ℕ) (store rows : ℕ) where
   -- a good load gives a sound shelf
   pub loaded-sound : (told : List Line) → Accepts card text memory store rows told → soundOf card (load card text memory store rows .shelf) store rows ≡ true
   loaded-sound told a =
+      let n = accepts-units card text memory store rows told a in
       ap (λ x. soundOf card (x .shelf) store rows) (accepted card text memory store rows told a .0)
       ∙ sound-iff card (shelfOf told) store rows .1
-      (with-store card (shelfOf told) store rows (a .store-enough) (a .rows-enough)
-      (ready card (usable memory) told (a .fine .good) (good-in-range card (usable memory) text told (a .fine))))
+      (with-store card (shelfOf told) store rows (omega (arith, a .store-enough)) (omega (arith, a .rows-enough))
+      (ready card (usable memory) told (accepts-good card text memory store rows told a) (accepts-in-range card text memory store rows told a)))
 
   -- and a refusal a fresh one, which is sound too
   pub refused-sound : (number line : ℕ) → Refuses card text memory store rows number line → soundOf card (load card text memory store rows .shelf) store rows ≡ true

@@ -10,21 +10,28 @@ use lib.ListN.{length}
 use borrow.Author.Tests.{ltb-true, ltb-false, lt-ltb, le-ltb}
 use Rattle.card.specs.declared.Card.{Card}
 use Rattle.record.specs.Record.{size, usable, cleared}
+use Rattle.line.specs.Lines.{readingOf}
 use Rattle.line.specs.declared.Line.{Line}
+use Rattle.line.specs.declared.Reading.{Reading}
 use Rattle.shelf.specs.declared.Shelf.{Shelf}
 use Rattle.verdict.specs.declared.Verdict.{Verdict}
 use Rattle.verdict.specs.declared.Verdict.the-variants.{Fine, Form, Order, Twice, Wide, Room}
 use Rattle.verdict.specs.Verdicts.{numberOf}
 use Rattle.told.specs.Told.{total, shelfOf, memoryOf}
-use Rattle.told.specs.Lines.{Ran, done, stopped, verdictOn}
+use Rattle.told.specs.Lines.{Good, Ran, done, stopped, verdictOn}
+use Rattle.told.proofs.Memory.{AllRanged}
 use Rattle.told.proofs.Grown.{decide}
 use Rattle.table.specs.declared.Outcome.the-variants.{Loaded, Refused}
 use Rattle.table.specs.declared.Loading.{Loading}
 use Rattle.table.specs.Load.{ranOf, refusal, tooLittle, loadingOf, memoryRan, load, loaded}
 use Rattle.table.proofs.Cleared.{load-long, load-short}
-use Rattle.promise.specs.Refusals.{linesOf, Long, AtLine, Store, Accepts, Refuses}
-use Rattle.promise.proofs.Runs.{FirstFault, done-iff-good, fault-first, first-stops, ran-lines}
-use Rattle.promise.proofs.Faults.{condition-number, fault-iff, good-iff}
+use Rattle.promise.specs.Says.{recordsOf, unitLines}
+use Rattle.promise.specs.Readings.{linesOf}
+use Rattle.promise.specs.Refusals.{AllGood, Long, AtLine, Store, Accepts, Refuses}
+use Rattle.promise.proofs.Texts.{all-read-iff, line-read-iff}
+use Rattle.promise.proofs.Said.{records-total, units-count}
+use Rattle.promise.proofs.Runs.{AllFine, FirstFault, AllInRange, line-ranges, all-ranged, done-iff-good, fault-first, first-stops, ran-lines}
+use Rattle.promise.proofs.Faults.{condition-least, condition-iff, good-iff}
 
 pub loaded-refused : {used number line : ℕ} → Loaded used ≡ Refused number line → ⊥
 loaded-refused e = let z : _≡_ {A = ℕ} 0 1 = cc in omega arith
@@ -79,39 +86,72 @@ module _ (card : Card) (text memory : List ℕ) (line : ℕ) where
   pub at-line : length text ≤ 65536 → (v : Verdict) → FirstFault card (usable memory) (linesOf text) line v → AtLine card text memory (numberOf v) line
   at-line h v f =
       let fine = good-iff card memory (f .before) .0 (f .good) in
-      let k = fault-iff card memory (f .before) (f .it) (numberOf v) fine (number-some v (f .faulty)) .0 (ap numberOf (f .judged)) in
+      let r = line-read-iff text (f .before) (f .it) .0 (f .after, f .all) in
+      let k = condition-iff card memory (f .before) (r .bytes) (r .ended) fine (numberOf v) (number-some v (f .faulty)) .0 (ap (λ x. numberOf (verdictOn card (usable memory) (f .before) x)) (r .read) ∙ ap numberOf (f .judged)) in
       record {
         short = h;
         before = f .before;
-        it = f .it;
-        after = f .after;
-        all = f .all;
+        bytes = r .bytes;
+        ended = r .ended;
+        it = r .here;
+        ranged = r .ranged;
         faultless = fine;
         counted = f .counted;
-        fault = k .0;
+        faulty = k .0;
         first = k .1;
       }
 
+  reading-at : (number : ℕ) → AtLine card text memory number line → Reading
+  reading-at number a = readingOf (a .bytes) (a .ended)
+
   verdict-at : (number : ℕ) → AtLine card text memory number line → Verdict
-  verdict-at number a = verdictOn card (usable memory) (a .before) (a .it)
+  verdict-at number a = verdictOn card (usable memory) (a .before) (reading-at number a)
+
+  some-number : (number : ℕ) (a : AtLine card text memory number line) → number ≡ 0 → ⊥
+  some-number number a e = let k = condition-least card memory (a .before) (a .bytes) (a .ended) number (a .faulty) in omega arith
 
   number-at : (number : ℕ) (a : AtLine card text memory number line) → numberOf (verdict-at number a) ≡ number
-  unfolding verdict-at
-  number-at number a = fault-iff card memory (a .before) (a .it) number (a .faultless) (condition-number card memory (a .before) (a .it) number (a .fault)) .1 (a .fault, a .first)
+  unfolding verdict-at reading-at
+  number-at number a = condition-iff card memory (a .before) (a .bytes) (a .ended) (a .faultless) number (some-number number a) .1 (a .faulty, a .first)
 
   line-at : (number : ℕ) (a : AtLine card text memory number line) → FirstFault card (usable memory) (linesOf text) line (verdict-at number a)
-  unfolding verdict-at
+  unfolding verdict-at reading-at
   line-at number a =
+      let r = line-read-iff text (a .before) (reading-at number a) .1 (record { ranged = a .ranged; bytes = a .bytes; ended = a .ended; here = a .it; read = refl }) in
       record {
         before = a .before;
-        it = a .it;
-        after = a .after;
-        all = a .all;
+        it = reading-at number a;
+        after = r .0;
+        all = r .1;
         good = good-iff card memory (a .before) .1 (a .faultless);
         counted = a .counted;
         judged = refl;
-        faulty = λ e. condition-number card memory (a .before) (a .it) number (a .fault) (sym (number-at number a) ∙ ap numberOf e);
+        faulty = λ e. some-number number a (sym (number-at number a) ∙ ap numberOf e);
       }
+
+-- a text whose every line is good is read as those lines, each fine
+module _ (card : Card) (text memory : List ℕ) (told : List Line) where
+  pub all-fine : AllGood card text memory told → AllFine card (usable memory) (linesOf text) told
+  all-fine a = record { all = all-read-iff text told .1 (a .some, a .ranged, a .all); good = good-iff card memory told .1 (a .faultless) }
+
+  fine-all : AllFine card (usable memory) (linesOf text) told → AllGood card text memory told
+  fine-all f =
+      let r = all-read-iff text told .0 (f .all) in
+      record { some = r .0; all = r .2; ranged = r .1; faultless = good-iff card memory told .0 (f .good) }
+
+-- what those rooms ask that speak of the lines as they are read and judged
+module _ (card : Card) (text memory : List ℕ) (store rows : ℕ) (told : List Line) (a : Accepts card text memory store rows told) where
+  pub accepts-good : Good card (usable memory) told
+  accepts-good = good-iff card memory told .1 (a .fine .faultless)
+
+  pub accepts-in-range : AllInRange told
+  accepts-in-range = line-ranges told (a .fine .ranged)
+
+  pub accepts-ranged : AllRanged told
+  accepts-ranged = all-ranged told accepts-in-range
+
+  pub accepts-units : shelfOf told .count ≡ unitLines told
+  accepts-units = units-count card (usable memory) told accepts-good
 
 module _ (card : Card) (text memory : List ℕ) (store rows : ℕ) where
   abbrev answer : Loading
@@ -130,8 +170,9 @@ module _ (card : Card) (text memory : List ℕ) (store rows : ℕ) where
   pub accepted : (told : List Line) → Accepts card text memory store rows told → (answer ≡ record { outcome = Loaded (size * total told); shelf = shelfOf told }) × (loaded card text memory store rows ≡ memoryOf card memory told)
   unfolding loadingOf memoryRan
   accepted told a =
-      let r = by-ran (a .short) (done told) (ran-lines card room text ∙ done-iff-good card room (linesOf text) told .1 (a .fine)) in
-      let t = is-enough (shelfOf told) store rows (a .store-enough) (a .rows-enough) in
+      let r = by-ran (a .short) (done told) (ran-lines card room text ∙ done-iff-good card room (linesOf text) told .1 (all-fine card text memory told (a .fine))) in
+      let n = accepts-units card text memory store rows told a in
+      let t = is-enough (shelfOf told) store rows (omega (arith, a .store-enough)) (omega (arith, a .rows-enough)) in
       (r .0 ∙ rw t, r .1 ∙ rw t)
 
   -- a refusal: 01's number and line, a fresh 16 bus, the memory zero
@@ -150,8 +191,10 @@ module _ (card : Card) (text memory : List ℕ) (store rows : ℕ) where
   refused-store : (number line : ℕ) → Store card text memory store rows number line → (answer ≡ refusal (Refused number line)) × (loaded card text memory store rows ≡ cleared memory)
   unfolding loadingOf memoryRan
   refused-store number line r =
-      let s = by-ran (r .short) (done (r .told)) (ran-lines card room text ∙ done-iff-good card room (linesOf text) (r .told) .1 (r .fine)) in
-      let t = is-little (shelfOf (r .told)) store rows (r .little) in
+      let f = all-fine card text memory (r .told) (r .fine) in
+      let s = by-ran (r .short) (done (r .told)) (ran-lines card room text ∙ done-iff-good card room (linesOf text) (r .told) .1 f) in
+      let n = units-count card room (r .told) (f .good) in
+      let t = is-little (shelfOf (r .told)) store rows (subst (λ m. (store < 8192 * m) ⊎ (rows < m)) (sym n) (r .little)) in
       (s .0 ∙ rw t (ap₂ (λ k n. refusal (Refused k n)) (sym (r .number-is)) (sym (r .line-is))), s .1 ∙ rw t)
 
   pub refused : (number line : ℕ) → Refuses card text memory store rows number line → (answer ≡ refusal (Refused number line)) × (loaded card text memory store rows ≡ cleared memory)
@@ -160,10 +203,12 @@ module _ (card : Card) (text memory : List ℕ) (store rows : ℕ) where
   -- and every answer is one of these
   all-read : length text ≤ 65536 → (told : List Line) → ranOf card room text ≡ done told → Accepts card text memory store rows told ⊎ Store card text memory store rows 7 0
   all-read h told e =
-      let g = done-iff-good card room (linesOf text) told .0 (sym (ran-lines card room text) ∙ e) in
+      let f = done-iff-good card room (linesOf text) told .0 (sym (ran-lines card room text) ∙ e) in
+      let g = fine-all card text memory told f in
+      let m = units-count card room told (f .good) in
       decide (tooLittle (shelfOf told) store rows)
-      (λ t. inr (record { short = h; told = told; fine = g; little = little-is (shelfOf told) store rows t; number-is = refl; line-is = refl }))
-      (λ t. let n = enough-is (shelfOf told) store rows t in inl (record { short = h; fine = g; store-enough = n .0; rows-enough = n .1 }))
+      (λ t. inr (record { short = h; told = told; fine = g; little = subst (λ k. (store < 8192 * k) ⊎ (rows < k)) m (little-is (shelfOf told) store rows t); number-is = refl; line-is = refl }))
+      (λ t. let n = enough-is (shelfOf told) store rows t in inl (record { short = h; fine = g; store-enough = omega (arith, n .0); rows-enough = omega (arith, n .1) }))
 
   stopped-at : length text ≤ 65536 → (told : List Line) (line : ℕ) (v : Verdict) → ranOf card room text ≡ stopped told line v → AtLine card text memory (numberOf v) line
   stopped-at h told line v e = at-line card text memory line h v (fault-first card room (linesOf text) told line v (sym (ran-lines card room text) ∙ e))
@@ -178,6 +223,12 @@ module _ (card : Card) (text memory : List ℕ) (store rows : ℕ) where
       go h (done told) e = ⊎-elim (λ a. inl (told, a)) (λ r. inr (7, 0, inr (inr r))) (all-read h told e)
       go h (stopped told line v) e = inr (numberOf v, line, inr (inl (stopped-at h told line v e)))
 
+  -- no refusal has number 0
+  pub refuses-some : (number line : ℕ) → Refuses card text memory store rows number line → 0 < number
+  refuses-some number line r =
+      ⊎-elim (λ h. omega (arith, h .number-is))
+      (⊎-elim (λ h. let k = some-number card text memory line number h in omega (arith, k)) (λ h. omega (arith, h .number-is))) r
+
   pub refused-iff : (number line : ℕ) → (answer .outcome ≡ Refused number line → Refuses card text memory store rows number line) × (Refuses card text memory store rows number line → answer .outcome ≡ Refused number line)
   refused-iff number line = (forth, λ r. ap (λ x. x .outcome) (refused number line r .0))
     where
@@ -189,10 +240,10 @@ module _ (card : Card) (text memory : List ℕ) (store rows : ℕ) where
           ⊎-elim (λ a. absurd (loaded-refused (sym (ap (λ x. x .outcome) (accepted (a .0) (a .1) .0)) ∙ e)))
           (λ r. same (r .0) (r .1) (r .2) (sym (ap (λ x. x .outcome) (refused (r .0) (r .1) (r .2) .0)) ∙ e)) either-way
 
-  pub loaded-iff : (used : ℕ) → (answer .outcome ≡ Loaded used → (told : List Line) × Accepts card text memory store rows told × (used ≡ size * total told)) × ((told : List Line) × Accepts card text memory store rows told × (used ≡ size * total told) → answer .outcome ≡ Loaded used)
-  loaded-iff used = (forth, λ a. ap (λ x. x .outcome) (accepted (a .0) (a .1) .0) ∙ ap Loaded (sym (a .2)))
+  pub loaded-iff : (used : ℕ) → (answer .outcome ≡ Loaded used → (told : List Line) × Accepts card text memory store rows told × (used ≡ 8 * recordsOf told)) × ((told : List Line) × Accepts card text memory store rows told × (used ≡ 8 * recordsOf told) → answer .outcome ≡ Loaded used)
+  loaded-iff used = (forth, λ a. ap (λ x. x .outcome) (accepted (a .0) (a .1) .0) ∙ ap Loaded (ap (λ n. 8 * n) (records-total (a .0)) ∙ sym (a .2)))
     where
-      forth : answer .outcome ≡ Loaded used → (told : List Line) × Accepts card text memory store rows told × (used ≡ size * total told)
+      forth : answer .outcome ≡ Loaded used → (told : List Line) × Accepts card text memory store rows told × (used ≡ 8 * recordsOf told)
       forth e =
-          ⊎-elim (λ a. (a .0, a .1, loaded-used (sym e ∙ ap (λ x. x .outcome) (accepted (a .0) (a .1) .0))))
+          ⊎-elim (λ a. (a .0, a .1, loaded-used (sym e ∙ ap (λ x. x .outcome) (accepted (a .0) (a .1) .0)) ∙ ap (λ n. 8 * n) (records-total (a .0))))
           (λ r. absurd (loaded-refused (sym e ∙ ap (λ x. x .outcome) (refused (r .0) (r .1) (r .2) .0)))) either-way

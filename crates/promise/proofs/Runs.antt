@@ -1,6 +1,6 @@
 -- Reading lines: all are good, or one is the first that is not; and the numbers of the good ones are in range. Assumes nothing.
 use mathlib.Core.Path.{_≡_, refl, sym, ap, subst, _∙_}
-use mathlib.Core.Bool.{Bool, true, false, false≢true}
+use mathlib.Core.Bool.{false, false≢true}
 use mathlib.Core.List.{List, [], _∷_}
 use Prim.Native.Nat.{ℕ, _+_}
 use native.Mathlib.Numerals.{add-one}
@@ -8,24 +8,27 @@ use native.Mathlib.Omega.{arith}
 use lib.Dec.{eqb}
 use lib.ListN.{length}
 use Rattle.card.specs.declared.Card.{Card}
-use Rattle.text.specs.Text.{split}
-use Rattle.line.specs.Lines.{readingOf}
 use Rattle.line.specs.declared.Line.{Line}
-use Rattle.ranged.specs.declared.Wrong.{Wrong}
 use Rattle.line.specs.declared.Reading.{Reading}
 use Rattle.line.specs.declared.Reading.the-variants.{Good as Read, Bad}
 use Rattle.line.specs.Ranges.{InRange}
-use Rattle.line.proofs.Ranges.{read-in-range}
 use Rattle.verdict.specs.declared.Verdict.{Verdict}
 use Rattle.verdict.specs.declared.Verdict.the-variants.{Fine}
 use Rattle.verdict.specs.Verdicts.{isFine}
 use Rattle.told.specs.Lines.{judge, Good, Ran, done, stopped, verdictOn, run}
 use Rattle.told.proofs.Grown.{decide}
 use Rattle.told.proofs.Memory.{AllRanged}
-use Rattle.table.specs.Load.{readingsOf, ranOf}
+use Rattle.table.specs.Load.{ranOf}
 use Rattle.table.proofs.Leaves.{fine-is}
 use Rattle.table.proofs.Turns.{ranged}
-use Rattle.promise.specs.Refusals.{linesOf, readThen, AllGood}
+use Rattle.wording.specs.Words as wording
+use Rattle.wording.proofs.Ranges.{range-iff}
+use Rattle.promise.specs.Readings.{linesOf, readThen}
+
+-- every line is good after those before it
+pub record AllFine (card : Card) (room : ℕ) (lines : List Reading) (told : List Line) : Type 0 where
+  pub all : lines ≡ readThen told []
+  pub good : Good card room told
 
 -- the first faulty line, counted from 1: those before it are good, and it is not
 pub record FirstFault (card : Card) (room : ℕ) (lines : List Reading) (line : ℕ) (verdict : Verdict) : Type 0 where
@@ -84,12 +87,12 @@ module _ (card : Card) (room : ℕ) where
             subst P (sym (ap (λ x. run card room told n (x ∷ rs)) k ∙ run-good told n l rs f)) (good l k f))
             (λ t. let f = ap (λ x. isFine (verdictOn card room told x)) k ∙ t in subst P (sym (run-bad told n r rs f)) (bad f))
 
-  all-good : (told : List Line) (n : ℕ) (rs : List Reading) (all : List Line) → Good card room told → run card room told n rs ≡ done all → AllGood card room (readThen told rs) all
+  all-good : (told : List Line) (n : ℕ) (rs : List Reading) (all : List Line) → Good card room told → run card room told n rs ≡ done all → AllFine card room (readThen told rs) all
   unfolding run readThen
-  all-good told n [] all g = λ e. subst (AllGood card room (readThen told [])) (done-is e) (record { all = refl; good = g })
+  all-good told n [] all g = λ e. subst (AllFine card room (readThen told [])) (done-is e) (record { all = refl; good = g })
   all-good told n (r ∷ rs) all g =
-      by-verdict (λ x. x ≡ done all → AllGood card room (readThen told (r ∷ rs)) all) told n r rs
-      (λ l k f e. subst (λ x. AllGood card room (readThen told (x ∷ rs)) all) (sym k) (all-good (l ∷ told) (n + 1) rs all (f, g) e))
+      by-verdict (λ x. x ≡ done all → AllFine card room (readThen told (r ∷ rs)) all) told n r rs
+      (λ l k f e. subst (λ x. AllFine card room (readThen told (x ∷ rs)) all) (sym k) (all-good (l ∷ told) (n + 1) rs all (f, g) e))
       (λ f e. absurd (done-stopped (sym e)))
 
   first-fault : (told : List Line) (rs : List Reading) (before : List Line) (line : ℕ) (v : Verdict) → Good card room told → run card room told (length told) rs ≡ stopped before line v → FirstFault card room (readThen told rs) line v
@@ -119,7 +122,7 @@ module _ (card : Card) (room : ℕ) where
   run-then (l ∷ told) rest g =
       run-then told (Read l ∷ rest) (g .1) ∙ run-good told (length told) l rest (g .0) ∙ ap (λ n. run card room (l ∷ told) n rest) (add-one (length told))
 
-  pub done-iff-good : (lines : List Reading) (told : List Line) → (run card room [] 0 lines ≡ done told → AllGood card room lines told) × (AllGood card room lines told → run card room [] 0 lines ≡ done told)
+  pub done-iff-good : (lines : List Reading) (told : List Line) → (run card room [] 0 lines ≡ done told → AllFine card room lines told) × (AllFine card room lines told → run card room [] 0 lines ≡ done told)
   unfolding run readThen
   done-iff-good lines told = (all-good [] 0 lines told tt, λ g. ap (run card room [] 0) (g .all) ∙ run-then told [] (g .good))
 
@@ -139,41 +142,14 @@ module _ (card : Card) (room : ℕ) where
   ran-lines text = decide (eqb (length text) 0) (λ t. rw t) (λ t. rw t)
 
 -- what was read is in range
-abbrev Ranges : List Reading → Type 0
-Ranges [] = Unit {0}
-Ranges (r ∷ rs) = ((l : Line) → r ≡ Read l → InRange l) × Ranges rs
-
-bad-read : {wrong : Wrong} {l : Line} → Bad wrong ≡ Read l → ⊥
-bad-read e = let z : _≡_ {A = ℕ} 0 1 = cc in omega arith
-
-reading-ranged : (text : List ℕ) (ended : Bool) (l : Line) → readingOf text ended ≡ Read l → InRange l
-reading-ranged text ended l e = read-in-range text ended e
-
-readings-ranged : (ps : List (List ℕ)) → Ranges (readingsOf ps)
-unfolding readingsOf
-readings-ranged [] = tt
-readings-ranged (p ∷ []) = decide (eqb (length p) 0) (λ t. rw t tt) (λ t. rw t (reading-ranged p false, tt))
-readings-ranged (p ∷ q ∷ ps) = (reading-ranged p true, readings-ranged (q ∷ ps))
-
-lines-ranged : (text : List ℕ) → Ranges (linesOf text)
-unfolding linesOf
-lines-ranged text = decide (eqb (length text) 0) (λ t. rw t ((λ l e. absurd (bad-read e)), tt)) (λ t. rw t (readings-ranged (split 10 text)))
-
 abbrev pub AllInRange : List Line → Type 0
 AllInRange [] = Unit {0}
 AllInRange (l ∷ told) = InRange l × AllInRange told
 
-then-ranged : (told : List Line) (rest : List Reading) → Ranges (readThen told rest) → AllInRange told × Ranges rest
-unfolding readThen
-then-ranged [] rest r = (tt, r)
-then-ranged (l ∷ told) rest r = let k = then-ranged told (Read l ∷ rest) r in ((k .1 .0 l refl, k .0), k .1 .1)
-
-pub good-in-range : (card : Card) (room : ℕ) (text : List ℕ) (told : List Line) → AllGood card room (linesOf text) told → AllInRange told
-good-in-range card room text told g = then-ranged told [] (subst Ranges (g .all) (lines-ranged text)) .0
+pub line-ranges : (told : List Line) → wording.AllInRange told → AllInRange told
+line-ranges [] r = tt
+line-ranges (l ∷ told) r = (range-iff l .1 (r .0), line-ranges told (r .1))
 
 pub all-ranged : (told : List Line) → AllInRange told → AllRanged told
 all-ranged [] r = tt
 all-ranged (l ∷ told) r = (ranged l (r .0), all-ranged told (r .1))
-
-pub good-ranged : (card : Card) (room : ℕ) (text : List ℕ) (told : List Line) → AllGood card room (linesOf text) told → AllRanged told
-good-ranged card room text told g = all-ranged told (good-in-range card room text told g)

@@ -1,25 +1,32 @@
 -- What `told` reads off the lines is what some line before says. Assumes nothing.
-use mathlib.Core.Path.{_≡_, refl, sym, ap, _∙_}
+use mathlib.Core.Path.{_≡_, refl, sym, ap, ap₂, _∙_}
 use mathlib.Core.Bool.{Bool, true, false, _&&_, false≢true}
-use mathlib.Core.List.{List, List·Memᴰ as In, Memᴰ·cast}
+use mathlib.Core.List.{List, [], _∷_, List·Memᴰ as In, Memᴰ·cast}
 use mathlib.Core.Option.{none, some}
-use Prim.Native.Nat.{ℕ, _*_}
+use Prim.Native.Nat.{ℕ, _+_, _*_}
+use native.Mathlib.Omega.{arith}
 use lib.Dec.{eqb}
 use borrow.Author.Tests.{eqb-true, eq-eqb}
 use Rattle.record.specs.Record.{size}
 use Rattle.record.specs.declared.Record as R
 use Rattle.record.specs.declared.Record.the-variants.{Empty, Page as R·Page}
 use Rattle.record.specs.declared.Got.the-variants.{Is}
+use Rattle.card.specs.declared.Card.{Card}
+use Rattle.shelf.specs.Shelves.{findIn}
+use Rattle.shelf.specs.declared.Shelf.{Shelf}
+use Rattle.shelf.specs.declared.Found.{Found}
+use Rattle.shelf.specs.declared.Found.the-variants.{At, Nothing}
 use Rattle.line.specs.declared.Line.{Line}
 use Rattle.line.specs.declared.Line.the-variants.{Bus, Unit as L·Unit, Vp, Drop, Page, Vc, Mc}
 use Rattle.verdict.specs.Verdicts.{taken}
-use Rattle.told.specs.Told.{ofUnit, ofPage, same, opens, gives, only, topBy, topOf, givenBy, recordOf}
+use Rattle.told.specs.Told.{ofUnit, ofPage, same, opens, gives, only, topBy, topOf, takes, total, givenBy, recordOf, declare, joinAt, shelfBy, shelfOf}
+use Rattle.told.specs.Lines.{Good}
 use Rattle.told.proofs.Tabulate.{none-some, only-true, only-is}
 use Rattle.told.proofs.Regions.{start, same-self, both-left, both-right}
-use Rattle.told.proofs.Fits.{free}
+use Rattle.told.proofs.Fits.{free, fine-bus}
 use Rattle.told.proofs.Grown.{Grown}
-use Rattle.told.proofs.Members.{top-in, in-top, given-in, in-given}
-use Rattle.promise.specs.Says.{Declares, Gives, IsVc}
+use Rattle.told.proofs.Members.{top-in, in-top, given-in, in-given, first-is}
+use Rattle.promise.specs.Says.{Declares, Gives, IsVc, recordsBy, recordsOf, unitLines}
 use Rattle.promise.specs.Faults.{Before}
 
 -- A. one line
@@ -156,3 +163,37 @@ module _ (told : List Line) (grew : Grown told) where
 
   pub page-stands : (u v top : ℕ) → In (Page u v top) told → recordOf told (ofUnit u) v ≡ R·Page top (size * start told (ofPage u v))
   page-stands u v top m = grew .given u v top (top-of-page u v top m)
+
+-- C. how many records and units there are
+takes-by : (l : Line) → takes (opens l) ≡ recordsBy l
+unfolding opens
+takes-by (Bus bus) = refl
+takes-by (L·Unit settings limits) = refl
+takes-by (Vp a b target class outvpi) = refl
+takes-by (Drop a b) = refl
+takes-by (Page a b topvci) = refl
+takes-by (Vc a b c target class outvpi outvci) = refl
+takes-by (Mc a session) = refl
+
+pub records-total : (told : List Line) → total told ≡ recordsOf told
+unfolding total recordsOf
+records-total [] = refl
+records-total (l ∷ told) = ap₂ _+_ (records-total told) (takes-by l)
+
+joined-count : (shelf : Shelf) (f : Found) (session : ℕ) → joinAt shelf f session .count ≡ shelf .count
+unfolding joinAt
+joined-count shelf (At i) session = refl
+joined-count shelf Nothing session = refl
+
+-- a `bus` line comes first
+pub units-count : (card : Card) (room : ℕ) (told : List Line) → Good card room told → shelfOf told .count ≡ unitLines told
+unfolding shelfOf shelfBy declare unitLines
+units-count card room [] g = refl
+units-count card room (Bus bus ∷ told) g = sym (ap (λ x. unitLines x + 0) (first-is told (fine-bus card room told bus (g .0) .0)))
+units-count card room (L·Unit settings limits ∷ told) g = ap (λ n. n + 1) (units-count card room told (g .1))
+units-count card room (Vp a b target class outvpi ∷ told) g = units-count card room told (g .1) ∙ omega arith
+units-count card room (Drop a b ∷ told) g = units-count card room told (g .1) ∙ omega arith
+units-count card room (Page a b topvci ∷ told) g = units-count card room told (g .1) ∙ omega arith
+units-count card room (Vc a b c target class outvpi outvci ∷ told) g = units-count card room told (g .1) ∙ omega arith
+units-count card room (Mc a session ∷ told) g =
+    joined-count (shelfOf told) (findIn (Rattle.shelf.specs.Shelves.declared (shelfOf told)) a) session ∙ units-count card room told (g .1) ∙ omega arith

@@ -2,20 +2,15 @@
 use Prim.Native.Nat.{ℕ, _*_, _<_, _≤_}
 use mathlib.Core.Path.{_≡_}
 use mathlib.Core.List.{List, [], _∷_, List·Memᴰ as In}
-use mathlib.Core.Logic.{_⊎_, _↔_}
+use mathlib.Core.Logic.{_⊎_}
+use mathlib.Core.Bool.{Bool, true, false}
 use lib.ListN.{length}
 use Rattle.card.specs.declared.Card.{Card}
 use Rattle.card.specs.declared.Card.the-variants.{Narrow}
-use Rattle.record.specs.Record.{size, usable}
-use Rattle.ranged.specs.declared.Wrong.{Wrong}
 use Rattle.line.specs.declared.Line.{Line}
 use Rattle.line.specs.declared.Line.the-variants.{Bus, Page, Mc}
-use Rattle.line.specs.declared.Reading.{Reading}
-use Rattle.line.specs.declared.Reading.the-variants.{Good as Read, Bad}
-use Rattle.verdict.specs.Verdicts.{numberOf}
-use Rattle.told.specs.Told.{total}
-use Rattle.told.specs.Lines.{Good, verdictOn}
-use Rattle.promise.specs.Says.{Declares, Uses, HasUnit, HasTarget, HasVpi, Gives, IsVc, IsWide}
+use Rattle.wording.specs.Words.{wordsOf, InRange}
+use Rattle.promise.specs.Says.{Declares, Uses, HasUnit, HasTarget, HasVpi, Gives, IsVc, IsWide, recordsOf}
 
 -- some line before it is such
 abbrev pub Before : List Line → (Line → Type 0) → Type 0
@@ -53,34 +48,29 @@ pub data Again (told : List Line) (l : Line) : Type 0 where
 
 -- the records of these lines exceed "the memory or 262,144 bytes", at "8 bytes a record"
 abbrev pub Exceeds : List ℕ → List Line → Type 0
-Exceeds memory told = (length memory < size * total told) ⊎ (262144 < size * total told)
+Exceeds memory told = (length memory < 8 * recordsOf told) ⊎ (262144 < 8 * recordsOf told)
 
 -- the condition for a number, of a line after those told before it
-pub data Condition (card : Card) (memory : List ℕ) (told : List Line) (r : Reading) (number : ℕ) : Type 0 where
-  -- "2 Form: unknown word, wrong field count, field outside its range, missing final newline, empty text (line 1)": a line that cannot be read
-  form : (wrong : Wrong) → r ≡ Bad wrong → number ≡ 2 → Condition card memory told r number
+pub data Fault (card : Card) (memory : List ℕ) (told : List Line) (l : Line) (number : ℕ) : Type 0 where
   -- "3 Order", as above
-  order : (l : Line) → r ≡ Read l → OutOfOrder told l → number ≡ 3 → Condition card memory told r number
+  order : OutOfOrder told l → number ≡ 3 → Fault card memory told l number
   -- "4 Twice", as above
-  twice : (l : Line) → r ≡ Read l → Again told l → number ≡ 4 → Condition card memory told r number
+  twice : Again told l → number ≡ 4 → Fault card memory told l number
   -- "5 Wide: narrow card only: `bus` 32, `nni`, or outgoing VPI above 255"
-  wide : (l : Line) → r ≡ Read l → card ≡ Narrow → IsWide l → number ≡ 5 → Condition card memory told r number
+  wide : card ≡ Narrow → IsWide l → number ≡ 5 → Fault card memory told l number
   -- "6 Room: records so far exceed the memory or 262,144 bytes": those of this line too
-  room : (l : Line) → r ≡ Read l → Exceeds memory (l ∷ told) → number ≡ 6 → Condition card memory told r number
+  room : Exceeds memory (l ∷ told) → number ≡ 6 → Fault card memory told l number
+
+-- the same of its bytes, and whether a newline ended them
+pub data Condition (card : Card) (memory : List ℕ) (told : List Line) (bytes : List ℕ) (ended : Bool) (number : ℕ) : Type 0 where
+  -- "2 Form: .. missing final newline, empty text (line 1)"
+  not-ended : ended ≡ false → number ≡ 2 → Condition card memory told bytes ended number
+  -- "2 Form: unknown word, wrong field count, field outside its range": they are the words of no line whose numbers are in their ranges
+  no-line : ((l : Line) → InRange l → bytes ≡ wordsOf l → ⊥) → number ≡ 2 → Condition card memory told bytes ended number
+  -- 3 to 6, of the line whose words they are
+  fault : (l : Line) → ended ≡ true → InRange l → bytes ≡ wordsOf l → Fault card memory told l number → Condition card memory told bytes ended number
 
 -- no condition holds of any of these lines, each after those before it; the latest comes first
 abbrev pub Faultless : Card → List ℕ → List Line → Type 0
 Faultless card memory [] = Unit {0}
-Faultless card memory (l ∷ told) = ((number : ℕ) → Condition card memory told (Read l) number → ⊥) × Faultless card memory told
-
--- "Given exactly when", "with 2 to 6 tried in that order on it": after faultless lines, a line gets a number exactly when that number's condition holds
--- and none before it does
-abbrev pub FaultIff : Type 0
-FaultIff =
-    (card : Card) (memory : List ℕ) (told : List Line) (r : Reading) (number : ℕ) → Faultless card memory told → (number ≡ 0 → ⊥) →
-    (numberOf (verdictOn card (usable memory) told r) ≡ number)
-    ↔ (Condition card memory told r number × ((m : ℕ) → m < number → Condition card memory told r m → ⊥))
-
--- and the lines that loading finds good are the faultless ones
-abbrev pub GoodIff : Type 0
-GoodIff = (card : Card) (memory : List ℕ) (told : List Line) → Good card (usable memory) told ↔ Faultless card memory told
+Faultless card memory (l ∷ told) = ((number : ℕ) → Fault card memory told l number → ⊥) × Faultless card memory told

@@ -4,5 +4,6 @@ pub mod Served
 pub mod Says
 pub mod Faults
 pub mod Refusals
+pub mod Readings
 pub mod Narrow
 pub mod Loads

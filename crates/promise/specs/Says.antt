@@ -1,7 +1,8 @@
 -- What a line says of units, VPIs and VCIs, in the words of 01's route table. The line comes last. Assumes nothing.
-use Prim.Native.Nat.{ℕ, _<_}
+use Prim.Native.Nat.{ℕ, _+_, _<_}
 use mathlib.Core.Path.{_≡_}
 use mathlib.Core.Logic.{_⊎_}
+use mathlib.Core.List.{List, [], _∷_}
 use Rattle.header.specs.declared.Link.the-variants.{Nni}
 use Rattle.routing.specs.declared.Target.{Target}
 use Rattle.routing.specs.declared.Target.the-variants.{Unit as T·Unit, Session, All}
@@ -81,3 +82,31 @@ IsWide (Drop a b) = ⊥
 IsWide (Page a b topvci) = ⊥
 IsWide (Vc a b c target class outvpi outvci) = 255 < outvpi
 IsWide (Mc a session) = ⊥
+
+-- "each `unit` line takes (top VPI + 1) records and each `page` line (top VCI + 1) records": how many a line takes, and how many these lines do
+abbrev pub recordsBy : Line → ℕ
+recordsBy (Bus bus) = 0
+recordsBy (L·Unit settings limits) = settings .top + 1
+recordsBy (Vp a b target class outvpi) = 0
+recordsBy (Drop a b) = 0
+recordsBy (Page a b topvci) = topvci + 1
+recordsBy (Vc a b c target class outvpi outvci) = 0
+recordsBy (Mc a session) = 0
+
+unfoldable pub recordsOf : List Line → ℕ
+recordsOf [] = 0
+recordsOf (l ∷ told) = recordsOf told + recordsBy l
+
+-- the declared units: how many `unit` lines there are
+abbrev pub unitsBy : Line → ℕ
+unitsBy (Bus bus) = 0
+unitsBy (L·Unit settings limits) = 1
+unitsBy (Vp a b target class outvpi) = 0
+unitsBy (Drop a b) = 0
+unitsBy (Page a b topvci) = 0
+unitsBy (Vc a b c target class outvpi outvci) = 0
+unitsBy (Mc a session) = 0
+
+unfoldable pub unitLines : List Line → ℕ
+unitLines [] = 0
+unitLines (l ∷ told) = unitLines told + unitsBy l

@@ -13,7 +13,6 @@ use Rattle.routing.specs.declared.Target.{Target}
 use Rattle.routing.specs.declared.Target.the-variants.{Unit as unit, Session as session}
 use Rattle.card.specs.declared.Card.{Card}
 use Rattle.card.specs.declared.Card.the-variants.{Narrow}
-use Rattle.ranged.specs.Words.{wBus, wUnit, wVp, wUni, wOne, wB}
 use Rattle.table.specs.declared.Outcome.{Outcome}
 use Rattle.table.specs.declared.Outcome.the-variants.{Loaded, Refused}
 use Rattle.table.specs.Load.{load}
@@ -35,8 +34,10 @@ same (Refused j m) (Refused k n) = eqb j k && eqb m n
 --   bus 16 / unit 0 uni 0 1 one 0 0 1 0 / vp 0 0 b 0 ..
 unfoldable pub path : List ℕ → List ℕ
 path digits =
-    wBus ++ (9 ∷ 49 ∷ 54 ∷ 10 ∷ []) ++ wUnit ++ (9 ∷ 48 ∷ 9 ∷ []) ++ wUni ++ (9 ∷ 48 ∷ 9 ∷ 49 ∷ 9 ∷ []) ++ wOne
-    ++ (9 ∷ 48 ∷ 9 ∷ 48 ∷ 9 ∷ 49 ∷ 9 ∷ 48 ∷ 10 ∷ []) ++ wVp ++ (9 ∷ 48 ∷ 9 ∷ 48 ∷ 9 ∷ []) ++ wB ++ (9 ∷ 48 ∷ 9 ∷ []) ++ digits ++ (10 ∷ [])
+    (98 ∷ 117 ∷ 115 ∷ 9 ∷ 49 ∷ 54 ∷ 10 ∷
+    117 ∷ 110 ∷ 105 ∷ 116 ∷ 9 ∷ 48 ∷ 9 ∷ 117 ∷ 110 ∷ 105 ∷ 9 ∷ 48 ∷ 9 ∷ 49 ∷ 9 ∷ 111 ∷ 110 ∷ 101 ∷ 9 ∷ 48 ∷ 9 ∷ 48 ∷ 9 ∷ 49 ∷ 9 ∷ 48 ∷ 10 ∷
+    118 ∷ 112 ∷ 9 ∷ 48 ∷ 9 ∷ 48 ∷ 9 ∷ 98 ∷ 9 ∷ 48 ∷ 9 ∷ [])
+    ++ digits ++ (10 ∷ [])
 
 unfoldable pub holds : Case → Bool
 holds (check-of header value) = eqb (check header) value

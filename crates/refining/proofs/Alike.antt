@@ -7,7 +7,7 @@ use mathlib.Core.List.{List, [], _∷_, map}
 use lib.ListN.{length, getD}
 use Rattle.octets.specs.Octets.{four, part}
 use Rattle.routing.specs.Routing.{routing}
-use Rattle.routing.proofs.Laws.{Sayable}
+use Rattle.routing.specs.Routing.{Sayable}
 use Rattle.card.specs.declared.Card.{Card}
 use Rattle.bus.specs.Frame.{cell}
 use Rattle.outlet.specs.Outlets.{queue}
@@ -21,10 +21,11 @@ use Rattle.line.specs.declared.Line.{Line}
 use Rattle.told.specs.Told.{hearsIn}
 use Rattle.promise.specs.Served.{lookupAt, saidBy}
 use Rattle.promise.proofs.Runs.{AllInRange}
-use Rattle.counters.specs.Counting.{value, zero}
+use Rattle.counters.specs.Counting.{value, zeros}
 use Rattle.counters.specs.declared.Counters as C
 use Rattle.admit.specs.Admission.{unitAt, Housed}
-use Rattle.document.specs.Counters.{Counter, placeOf, counterOf}
+use Rattle.paper.specs.Counters.{Counter, placeOf}
+use Rattle.document.specs.Counters.{counterOf}
 use Rattle.document.specs.Shelf as D
 use Rattle.running.specs.Events.{World}
 use Rattle.running.specs.Keeping.{soundIn}
@@ -64,7 +65,7 @@ pub record UnitAlike (store : List ℕ) (place : ℕ) (u : U.Unit) (d : D.Unit) 
 
 -- the counters of a unit
 abbrev pub RowAlike : List C.Counters → D.Shelf → ℕ → Type 0
-RowAlike rows d i = (c : Counter) → value (getD rows i zero) (placeOf c) ≡ counterOf (d .history) (D.numberOf (D.unitAt d i)) c
+RowAlike rows d i = (c : Counter) → value (getD rows i zeros) (placeOf c) ≡ counterOf (d .history) (D.numberOf (D.unitAt d i)) c
 
 -- everything but the counters
 pub record Alike (card : Card) (shelf : Shelf) (memory store : List ℕ) (d : D.Shelf) : Type 0 where

@@ -30,7 +30,8 @@ use Rattle.line.specs.Ranges.{WayIn}
 use Rattle.line.specs.declared.Line.{Line}
 use Rattle.line.specs.declared.Line.the-variants.{Bus as L·Bus, Unit as L·Unit, Vp, Drop, Page, Vc, Mc}
 use Rattle.told.proofs.Grown.{decide}
-use Rattle.promise.specs.Served.{Serving, by-vp, by-drop, by-vc, serves, served, become, lookedUp}
+use Rattle.told.specs.Served.{Serving, by-vp, by-drop, by-vc, serves, served}
+use Rattle.promise.specs.Served.{become, lookedUp}
 use Rattle.promise.proofs.Runs.{AllInRange}
 use Rattle.answer.specs.Answers.{arrivalRises, row}
 use Rattle.answer.specs.declared.Answer.the-variants as answer
@@ -38,7 +39,8 @@ use Rattle.admit.specs.Admission.{unitAt, withInlet, Housed}
 use Rattle.arriving.specs.Arriving as arriving
 use Rattle.arriving.specs.declared.Way.{Way}
 use Rattle.arriving.specs.declared.Way.the-variants.{Bus, Lost}
-use Rattle.document.specs.Counters.{Entry, entries, arrivalCounts}
+use Rattle.paper.specs.Counters.{arrivalCounts}
+use Rattle.document.specs.Counters.{Entry, entries}
 use Rattle.document.specs.Shelf as D
 use Rattle.document.specs.Arrival as P
 use Rattle.refining.proofs.Alike.{Sendable, AllSendable, UnitAlike, Known, Alike, onBus, offBus, elsewhere}

@@ -18,13 +18,14 @@ use Rattle.counters.specs.declared.Counters as C
 use Rattle.answer.specs.Answers.{refused}
 use Rattle.framing.specs.Frames as framing
 use Rattle.promise.proofs.Loads.{load-sound}
-use Rattle.document.specs.Events.{Event, arrive, frame, hear, take as takes, count}
+use Rattle.document.specs.Events.{Event, arrive, frame, hear, take-cell, count}
 use Rattle.document.specs.Shelf as D
 use Rattle.running.specs.Events.{World, happens}
 use Rattle.running.specs.Keeping.{soundIn, run}
 use Rattle.running.specs.Refusing.{known, fits}
 use Rattle.running.proofs.Refused.{refusal-changes-nothing}
-use Rattle.running.proofs.Tables.{refused-table-zeroes}
+use Rattle.running.specs.Tables.{Zeroed}
+use Rattle.running.proofs.Tables.{zeroed, refused-leaves}
 use Rattle.refining.specs.Refines.{gives, RefinesRefused}
 use Rattle.refining.proofs.Alike.{WorldAlike}
 use Rattle.refining.proofs.Refined.{gives-alike}
@@ -68,7 +69,7 @@ module _ (card : Card) (w : World) (none : w .shelf .count ≡ 0) where
   stays (arrive unit cell) = at-nobody (arrive unit cell) unit refl
   stays (frame buffer) = framed (soundIn card w) (eqb (length buffer) 57) (framing.sender (w .shelf)) (not-there (w .shelf) none (w .shelf .granted))
   stays (hear unit heard) = at-nobody (hear unit heard) unit refl
-  stays (takes unit buffer) = at-nobody (takes unit buffer) unit refl
+  stays (take-cell unit buffer) = at-nobody (take-cell unit buffer) unit refl
   stays (count unit) = at-nobody (count unit) unit refl
 
 -- so it is over every sequence of events
@@ -107,12 +108,12 @@ bare-alike card memory store rows sound =
 pub refines-refused : RefinesRefused
 unfolding bare
 refines-refused card text memory store rows number line r es =
-    let k = refused-table-zeroes card text memory store rows number line r in
+    let k = refused-leaves card text memory store rows number line r in
     let sound = ap (λ w. soundOf card (w .shelf) (length store) (length rows)) (sym k) ∙ load-sound card text memory (length store) (length rows) in
     let s = stays-all card (bare memory store rows) refl es in
     record {
       events = ap (λ w. gives card w es) k ∙ gives-alike card (bare memory store rows) (D.opened []) (bare-alike card memory store rows sound) es;
-      zeroed = ap (λ w. run card w es .memory) k ∙ s .memory;
+      zeroed = subst (Zeroed memory) (sym (ap (λ w. run card w es .memory) k ∙ s .memory)) (zeroed memory);
       store-kept = ap (λ w. run card w es .store) k ∙ s .store;
       rows-kept = ap (λ w. run card w es .rows) k ∙ s .rows;
     }

@@ -23,6 +23,7 @@ use Rattle.outlet.specs.Outlets.{RingFits}
 use Rattle.store.specs.Places.{inletSlot, cellAt, inletCells}
 use Rattle.store.specs.Rings.{popped}
 use Rattle.store.proofs.Queues.{length-cells, inlet-popped}
+use Rattle.arbiter.specs.Arbitration.{asksNow}
 use Rattle.shelf.specs.Shelves as S
 use Rattle.shelf.specs.declared.Found as F
 use Rattle.shelf.specs.declared.Found.the-variants as found
@@ -48,6 +49,7 @@ use Rattle.document.specs.Hearing as paper
 use Rattle.document.specs.Frame as page
 use Rattle.running.proofs.Copies.{copied, store-kept}
 use Rattle.running.proofs.Sent.{bus-kept, count-kept, many-kept}
+use Rattle.running.proofs.Sent.{heard-units, heard-each, sets-at}
 use Rattle.refining.proofs.Alike.{UnitAlike, Known, Alike, Sendable, AllSendable, onBus}
 use Rattle.refining.proofs.Finds.{length-map, declared-is, find-alike}
 use Rattle.refining.proofs.Changes.{changed}
@@ -64,7 +66,7 @@ asks-alike g now (u ∷ us) [] l same = absurd (omega arith)
 asks-alike g now (u ∷ us) (d ∷ ds) l same =
     let one = same 0 (omega arith) in
     (λ z. requests.askingOf g (set now (one .0 z .number) (asking (one .0 z .priority) (one .1 z) (eqb (one .0 z .number) g))) us)
-    ∙ asks-alike g (set now (D.numberOf d) (page.asksNow g d)) us ds (omega arith) (λ k h. same (suc k) (omega arith))
+    ∙ asks-alike g (set now (D.numberOf d) (asksNow g (D.numberOf d) (d .settings .priority) (length (d .inlet)))) us ds (omega arith) (λ k h. same (suc k) (omega arith))
 
 module _ (card : Card) (shelf : Shelf) (memory store : List ℕ) (d : D.Shelf) (a : Alike card shelf memory store d) where
   -- what the declared units ask now
@@ -177,24 +179,7 @@ module _ (card : Card) (memory : List ℕ) (lines : List Line) where
         let now = hearing.storeOf u h place store bytes in
         more (kept-beside us now then place (copy u) (hears d) (omega arith) (copy-beside store place u d x)) (both-heard us now then)
 
--- 3. what has been heard: the units and the counters that rise, place by place
-module _ (h : H.Heard) where
-  -- every unit becomes its copy
-  heard-units : (place : ℕ) (us : List U.Unit) (l : Listened) → sending.heardFrom h place us l .shelf .units ≡ sets (l .shelf .units) place (map (λ u. hearing.copyOf u h .unit) us)
-  unfolding sending.heardFrom
-  heard-units place [] l = refl
-  heard-units place (u ∷ us) l = heard-units (suc place) us (sending.after place (hearing.copyOf u h) l)
-
-  -- every row rises by its fate
-  heard-each : (place : ℕ) (us : List U.Unit) (l : Listened) → sending.heardFrom h place us l .each ≡ sets (l .each) place (map (λ u. hearingRises (hearing.copyOf u h .fate)) us)
-  unfolding sending.heardFrom
-  heard-each place [] l = refl
-  heard-each place (u ∷ us) l = heard-each (suc place) us (sending.after place (hearing.copyOf u h) l)
-
--- a place of a run of stores
-sets-at : {X : Type 0} (vs l : List X) (k : ℕ) (x : X) → length vs ≤ length l → k < length vs → getD (sets l 0 vs) k x ≡ getD vs k x
-sets-at vs l k x fits few = ap (λ m. getD m k x) (sets-eq vs l 0 (omega arith)) ∙ List·getD-append vs (drop (0 + length vs) l) x k few
-
+-- 3. what has been heard
 -- one of three, from the left or from the right
 either : (a b c : Bool) → ((a || b) || c) ≡ (a || (b || c))
 either true b c = refl

@@ -16,7 +16,7 @@ use Rattle.routing.specs.declared.Target as T
 use Rattle.routing.specs.declared.Target.the-variants as target
 use Rattle.routing.specs.declared.Address as Ad
 use Rattle.routing.specs.declared.Address.the-variants.{Bad, To}
-use Rattle.routing.proofs.Laws.{Sayable}
+use Rattle.routing.specs.Routing.{Sayable}
 use Rattle.card.specs.declared.Card.{Card}
 use Rattle.bus.specs.Frame.{heard, payload, parity, delivered}
 use Rattle.bus.specs.declared.Heard as H
@@ -46,7 +46,8 @@ use Rattle.hearing.specs.Hearings as hearing
 use Rattle.hearing.specs.declared.Plan as P
 use Rattle.hearing.specs.declared.Plan.the-variants.{Queue, Lost}
 use Rattle.hearing.proofs.Plans.{before-parity}
-use Rattle.document.specs.Counters.{entries, hearingCounts}
+use Rattle.paper.specs.Counters.{hearingCounts}
+use Rattle.document.specs.Counters.{entries}
 use Rattle.document.specs.Shelf as D
 use Rattle.document.specs.Hearing as paper
 use Rattle.refining.proofs.Alike.{UnitAlike, Known, Alike, offBus, elsewhere}

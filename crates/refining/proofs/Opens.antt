@@ -33,9 +33,8 @@ use Rattle.told.proofs.Shelved.{Stands, shelved, declared-more, room-for-one}
 use Rattle.table.specs.Load.{load, loaded as loadedMemory}
 use Rattle.promise.specs.Served.{lookedUp}
 use Rattle.promise.specs.Refusals.{Accepts}
-use Rattle.promise.proofs.Runs.{good-in-range, good-ranged}
 use Rattle.promise.proofs.ByLines.{lookup-lines}
-use Rattle.promise.proofs.Refusals.{accepted}
+use Rattle.promise.proofs.Refusals.{accepts-good, accepts-in-range, accepts-ranged, accepts-units, accepted}
 use Rattle.promise.proofs.Loads.{loaded-sound}
 use Rattle.loading.specs.Loads.{loadDone}
 use Rattle.answer.specs.declared.Rises.{Rises}
@@ -43,11 +42,12 @@ use Rattle.counters.specs.Counting as C·
 use Rattle.counters.specs.declared.Counters as C
 use Rattle.counters.proofs.Settling.{settled-row, settled-ahead, length-settled}
 use Rattle.admit.specs.Admission.{unitAt}
-use Rattle.document.specs.Counters.{placeOf, times}
+use Rattle.paper.specs.Counters.{placeOf}
+use Rattle.document.specs.Counters.{times}
 use Rattle.document.specs.Shelf as D
 use Rattle.running.specs.Keeping.{loaded}
 use Rattle.refining.proofs.Alike.{AllSendable, onBus, offBus, Known, UnitAlike, RowAlike, Alike, WorldAlike}
-use Rattle.refining.proofs.Rows.{placed}
+use Rattle.paper.proofs.Counters.{placed}
 
 -- A. what no line but `bus` changes
 abbrev idle : Shelf → Shelf
@@ -190,10 +190,10 @@ module _ (card : Card) (memory : List ℕ) (told : List Line) (g : Good card (us
 -- D. a good load
 module _ (card : Card) (text memory store : List ℕ) (rows : List C.Counters) (told : List Line) (a : Accepts card text memory (length store) (length rows) told) where
   abbrev good : Good card (usable memory) told
-  good = a .fine .good
+  good = accepts-good card text memory (length store) (length rows) told a
 
   ranges : AllRanged told
-  ranges = good-ranged card (usable memory) text told (a .fine)
+  ranges = accepts-ranged card text memory (length store) (length rows) told a
 
   -- its shelf is that of the lines
   same-shelf : load card text memory (length store) (length rows) .shelf ≡ shelfOf told
@@ -238,7 +238,7 @@ module _ (card : Card) (text memory store : List ℕ) (rows : List C.Counters) (
         counted = opened-count;
         units = opened-unit;
         known = opened-known;
-        ranged = good-in-range card (usable memory) text told (a .fine);
+        ranged = accepts-in-range card text memory (length store) (length rows) told a;
         bus = ap (λ x. x .bus) e;
         arbiter = ap (λ x. x .arbiter) e;
         granted = ap (λ x. x .granted) e;
@@ -258,7 +258,7 @@ module _ (card : Card) (text memory store : List ℕ) (rows : List C.Counters) (
   opened-row : (i : ℕ) → i < length (D.unitsOf told) → RowAlike (C·.settled rows rises) (D.opened told) i
   unfolding C·.rowAfter times
   opened-row i h c =
-      ap (λ x. C·.value x (placeOf c)) (settled-row rows rises (rises .to) i (omega arith) (omega (arith, to-count)) (omega (arith, a .rows-enough, opened-count)))
+      ap (λ x. C·.value x (placeOf c)) (settled-row rows rises (rises .to) i (omega arith) (omega (arith, to-count)) (omega (arith, a .rows-enough, accepts-units card text memory (length store) (length rows) told a, opened-count)))
       ∙ getD-replicate 13 (placeOf c) 0 0 (placed c)
 
   -- the real shelf after a good load is the document's
@@ -275,5 +275,5 @@ module _ (card : Card) (text memory store : List ℕ) (rows : List C.Counters) (
       }
 
   -- the other rows are those that were lent
-  pub opened-rows : (i : ℕ) → length (D.unitsOf told) ≤ i → getD (loaded card text memory store rows .rows) i C·.zero ≡ getD rows i C·.zero
+  pub opened-rows : (i : ℕ) → length (D.unitsOf told) ≤ i → getD (loaded card text memory store rows .rows) i C·.zeros ≡ getD rows i C·.zeros
   opened-rows i h = settled-ahead rows rises (rises .to) i (omega (arith, to-count))

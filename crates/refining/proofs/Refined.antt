@@ -9,24 +9,29 @@ use Rattle.card.specs.declared.Card.{Card}
 use Rattle.card.specs.declared.Card.the-variants.{Narrow, Wide}
 use Rattle.record.specs.Record.{most, usable}
 use Rattle.line.specs.declared.Line.{Line}
-use Rattle.counters.specs.Counting.{zero}
+use Rattle.counters.specs.Counting.{zeros}
 use Rattle.counters.specs.declared.Counters as C
-use Rattle.told.specs.Told.{shelfOf}
 use Rattle.told.specs.Lines.{Good}
-use Rattle.answer.specs.declared.Answer.the-variants.{Loaded, Unloaded}
+use Rattle.table.specs.declared.Outcome.the-variants.{Loaded, Refused}
+use Rattle.table.specs.Load.{load}
 use Rattle.loading.specs.Loads.{answerOf}
 use Rattle.promise.specs.Refusals.{Accepts}
-use Rattle.promise.proofs.Refusals.{accepted}
+use Rattle.promise.specs.Says.{unitLines}
+use Rattle.promise.proofs.Faults.{good-iff}
+use Rattle.promise.proofs.Refusals.{accepts-good, accepted}
 use Rattle.promise.specs.Narrow.{FirstWide}
 use Rattle.promise.proofs.Cards.{wide-or-not, narrow-accepts, narrow-refuses-iff}
-use Rattle.document.specs.Events.{Event, arrive, frame, hear, take, count}
+use Rattle.document.specs.Events.{Event, arrive, frame, hear, take-cell, count}
 use Rattle.document.specs.Counters.{counterOf}
 use Rattle.document.specs.Shelf as D
 use Rattle.document.specs.Steps as document
 use Rattle.document.proofs.Fixed.{givenOf, given-stays}
 use Rattle.running.specs.Events.{World, happens}
 use Rattle.running.specs.Keeping.{run, loaded}
-use Rattle.running.specs.Tables.{answerTo}
+use Rattle.paper.specs.Counters.{rowAt}
+use Rattle.paper.proofs.Counters.{value-is}
+use Rattle.paper.specs.Answers.{IsRefused}
+use Rattle.running.proofs.Tables.{table-refused, refused-is}
 use Rattle.running.proofs.Kept.{soundness-kept}
 use Rattle.refining.specs.Refines.{gives, Refines, CountersAreHistory}
 use Rattle.refining.specs.Cards.{Equal, TooWide, SameCard}
@@ -38,7 +43,7 @@ step-alike : (card : Card) (w : World) (d : D.Shelf) → WorldAlike card w d →
 step-alike card w d a (arrive unit c) = arrive-step card w d a unit c
 step-alike card w d a (frame buffer) = frame-step card w d a buffer
 step-alike card w d a (hear unit f) = hear-step card w d a unit f
-step-alike card w d a (take unit buffer) = take-step card w d a unit buffer
+step-alike card w d a (take-cell unit buffer) = take-step card w d a unit buffer
 step-alike card w d a (count unit) = count-step card w d a unit
 
 -- after an event both are alike again
@@ -67,7 +72,7 @@ refines card text memory store rows told good es =
 -- what is left after the events: rows alike, rows beyond as they were, and the units are the same ones
 pub record Left (card : Card) (w : World) (d : D.Shelf) (w′ : World) (d′ : D.Shelf) : Type 0 where
   pub alike : WorldAlike card w′ d′
-  pub beyond : (j : ℕ) → length (d .units) ≤ j → getD (w′ .rows) j zero ≡ getD (w .rows) j zero
+  pub beyond : (j : ℕ) → length (d .units) ≤ j → getD (w′ .rows) j zeros ≡ getD (w .rows) j zeros
   pub many : length (d′ .units) ≡ length (d .units)
 
 pub run-alike : (card : Card) (w : World) (d : D.Shelf) → WorldAlike card w d → (es : List Event) → Left card w d (run card w es) (document.becomes d es)
@@ -92,7 +97,7 @@ pub counters-are-history : CountersAreHistory
 counters-are-history card text memory store rows told good es =
     let left = run-alike card (loaded card text memory store rows) (D.opened told) (opened-alike card text memory store rows told good) es in
     record {
-      equal = λ i h c. left .alike .rows i (subst (λ n. i < n) (sym (left .many)) h) c ∙ ap (λ n. counterOf (document.becomes (D.opened told) es .history) n c) (number-stays (D.opened told) es i);
+      equal = λ i h c. value-is (rowAt (run card (loaded card text memory store rows) es .rows) i) c ∙ left .alike .rows i (subst (λ n. i < n) (sym (left .many)) h) c ∙ ap (λ n. counterOf (document.becomes (D.opened told) es .history) n c) (number-stays (D.opened told) es i);
       untouched = λ i h. left .beyond i h ∙ opened-rows card text memory store rows told good i h;
     }
 
@@ -105,31 +110,38 @@ module _ (text memory memory′ store store′ : List ℕ) (rows rows′ : List 
   moved card a =
       record {
         short = a .short;
-        fine = record { all = a .fine .all; good = subst (λ room. Good card room told) same-room (a .fine .good) };
-        store-enough = subst (λ n. 8192 * shelfOf told .count ≤ n) (equal .stores) (a .store-enough);
-        rows-enough = subst (λ n. shelfOf told .count ≤ n) (equal .records) (a .rows-enough);
+        fine = record {
+          some = a .fine .some;
+          all = a .fine .all;
+          ranged = a .fine .ranged;
+          faultless = good-iff card memory′ told .0 (subst (λ room. Good card room told) same-room (accepts-good card text memory (length store) (length rows) told a));
+        };
+        store-enough = subst (λ n. 8192 * unitLines told ≤ n) (equal .stores) (a .store-enough);
+        rows-enough = subst (λ n. unitLines told ≤ n) (equal .records) (a .rows-enough);
       }
 
--- answers are told apart
-loaded-unloaded : {used number line : ℕ} → Loaded used ≡ Unloaded number line → ⊥
-loaded-unloaded e = let z : _≡_ {A = ℕ} 0 1 = cc in omega arith
+-- outcomes are told apart
+loaded-refused : {used number line : ℕ} → Loaded used ≡ Refused number line → ⊥
+loaded-refused e = let z : _≡_ {A = ℕ} 0 1 = cc in omega arith
 
-unloaded-number : {k n k′ n′ : ℕ} → Unloaded k n ≡ Unloaded k′ n′ → k ≡ k′
-unloaded-number e = cc
+refused-number : {k n k′ n′ : ℕ} → Refused k n ≡ Refused k′ n′ → k ≡ k′
+refused-number e = cc
 
-unloaded-line : {k n k′ n′ : ℕ} → Unloaded k n ≡ Unloaded k′ n′ → n ≡ n′
-unloaded-line e = cc
+refused-line : {k n k′ n′ : ℕ} → Refused k n ≡ Refused k′ n′ → n ≡ n′
+refused-line e = cc
 
 pub too-wide : TooWide
-unfolding answerOf
 too-wide text memory memory′ store store′ rows rows′ equal told a number line =
     let b = moved text memory memory′ store store′ rows rows′ equal told Wide a in
-    let wide : (n : ℕ) → FirstWide told n → answerTo Narrow text memory′ (length store′) (length rows′) ≡ Unloaded 5 n
-    = λ n w. ap answerOf (narrow-refuses-iff text memory′ (length store′) (length rows′) told b n .0 w) in (
-      λ e.
-          ⊎-elim (λ n. absurd (loaded-unloaded (sym (ap (λ x. answerOf (x .outcome)) (accepted Narrow text memory′ (length store′) (length rows′) told (narrow-accepts text memory′ (length store′) (length rows′) told b n) .0)) ∙ e)))
-          (λ w. let z = sym (wide (w .0) (w .1)) ∙ e in (sym (unloaded-number z), subst (FirstWide told) (unloaded-line z) (w .1))) (wide-or-not told),
-      λ w. wide line (w .1) ∙ ap (λ n. Unloaded n line) (sym (w .0)),
+    let outcome = load Narrow text memory′ (length store′) (length rows′) .outcome in
+    let wide : (n : ℕ) → FirstWide told n → outcome ≡ Refused 5 n = λ n w. narrow-refuses-iff text memory′ (length store′) (length rows′) told b n .0 w in (
+      λ h.
+          let e = refused-is outcome number line h in
+          ⊎-elim (λ n. absurd (loaded-refused (sym (ap (λ x. x .outcome) (accepted Narrow text memory′ (length store′) (length rows′) told (narrow-accepts text memory′ (length store′) (length rows′) told b n) .0)) ∙ e)))
+          (λ w. let z = sym (wide (w .0) (w .1)) ∙ e in (sym (refused-number z), subst (FirstWide told) (refused-line z) (w .1))) (wide-or-not told),
+      λ w.
+          let e = wide line (w .1) ∙ ap (λ n. Refused n line) (sym (w .0)) in
+          subst (λ o. IsRefused (answerOf o) number line) (sym e) (table-refused number line (omega (arith, w .0))),
     )
 
 pub same-card : SameCard

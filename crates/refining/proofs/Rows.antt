@@ -19,12 +19,15 @@ use Rattle.answer.specs.declared.Hearing.the-variants as hearing
 use Rattle.bus.specs.declared.Heard as B
 use Rattle.bus.specs.declared.Heard.the-variants as frame
 use Rattle.line.specs.declared.Line.{Line}
-use Rattle.counters.specs.Counting.{value, zero, raised, rowAfter, settled}
+use Rattle.counters.specs.Counting.{value, zeros, raised, rowAfter, settled}
 use Rattle.counters.specs.declared.Counters as C
 use Rattle.counters.proofs.Settling.{raised-value, settled-row, settled-ahead, settled-behind}
 use Rattle.framing.specs.Sending.{sentRises}
 use Rattle.told.proofs.Grown.{decide}
-use Rattle.document.specs.Counters.{Counter, arrived, hec, ignored, misrouted, inletfull, sent, unheard, damaged, queued, full, clp, wide, taken, placeOf, Entry, entries, matches, times, counterOf, arrivalCounts, hearingCounts, sentCounts, occurs}
+use Rattle.paper.proofs.Counters.{placed, tallies, Agree, agree, agree-hearing}
+use Rattle.running.proofs.Sent.{agree-sent}
+use Rattle.paper.specs.Counters.{Counter, arrived, hec, ignored, misrouted, inletfull, sent, unheard, damaged, queued, full, clp, wide, taken, placeOf, arrivalCounts, hearingCounts, sentCounts, occurs}
+use Rattle.document.specs.Counters.{Entry, entries, matches, times, counterOf}
 use Rattle.document.specs.Shelf as D
 use Rattle.document.specs.Hearing.{hearingOf, keeping, hearingUnit}
 use Rattle.document.specs.Frame.{asHeard, allHear, someAddressed, heardEntries}
@@ -55,22 +58,6 @@ times-other v [] u c d = refl
 times-other v (k ∷ cs) u c d = rw (ne-eqb v u d) (times-other v cs u c d)
 
 -- B. a row
--- there are thirteen
-pub placed : (c : Counter) → placeOf c < 13
-placed arrived = omega arith
-placed hec = omega arith
-placed ignored = omega arith
-placed misrouted = omega arith
-placed inletfull = omega arith
-placed sent = omega arith
-placed unheard = omega arith
-placed damaged = omega arith
-placed queued = omega arith
-placed full = omega arith
-placed clp = omega arith
-placed wide = omega arith
-placed taken = omega arith
-
 -- the set n has, of each counter, as many as there happened at a unit
 abbrev pub Raises : ℕ → List Entry → ℕ → Type 0
 Raises n es u = (c : Counter) → n / 2 ^ placeOf c % 2 ≡ times es u c
@@ -83,74 +70,9 @@ raised-times x n u es history r a c =
     ∙ ap (λ k. k % 2 ^ 32) (add-comm (times history u c) (times es u c) ∙ sym (times-append es history u c))
 
 -- C. the words that the shelf counts by, and the lists of the document
--- a test: the places before m
-unfoldable tallies : ℕ → List Counter → ℕ → Bool
-tallies n cs none = true
-tallies n cs (suc k) = eqb (n / 2 ^ k % 2) (occurs cs k) && tallies n cs k
-
--- a test of two tests
-both : (a b : Bool) → (a && b) ≡ true → (a ≡ true) × (b ≡ true)
-both true b e = (refl, e)
-both false b e = absurd (false≢true e)
-
--- what it says of each of them
-tallied : (n : ℕ) (cs : List Counter) (m k : ℕ) → tallies n cs m ≡ true → k < m → n / 2 ^ k % 2 ≡ occurs cs k
-unfolding tallies
-tallied n cs none k e h = absurd (omega arith)
-tallied n cs (suc m) k e h =
-    let b = both (eqb (n / 2 ^ m % 2) (occurs cs m)) (tallies n cs m) e in
-    decide (eqb k m) (λ t. rw (eqb-true k m t) (eqb-true (n / 2 ^ m % 2) (occurs cs m) (b .0)))
-    (λ f. tallied n cs m k (b .1) (let d = eqb-false k m f in omega (arith, d)))
-
--- the set n has just the counters of a list
-abbrev pub Agree : ℕ → List Counter → Type 0
-Agree n cs = (c : Counter) → n / 2 ^ placeOf c % 2 ≡ occurs cs (placeOf c)
-
 -- a row that is a unit's history, and what happened there counted
 pub raised-alike : (x : C.Counters) (n u : ℕ) (cs : List Counter) (history : List Entry) → Agree n cs → ((c : Counter) → value x (placeOf c) ≡ counterOf history u c) → (c : Counter) → value (raised x n) (placeOf c) ≡ counterOf (entries u cs ++ history) u c
 raised-alike x n u cs history a = raised-times x n u (entries u cs) history (λ c. a c ∙ sym (times-here u cs c))
-
--- the test of all thirteen says it of each counter
-agree : (n : ℕ) (cs : List Counter) → tallies n cs 13 ≡ true → Agree n cs
-agree n cs e c = tallied n cs 13 (placeOf c) e (placed c)
-
--- an arrival, a hearing, a take
-pub agree-arrival : (fate : A.Arrival) → Agree (arrivalRises fate) (arrivalCounts fate)
-unfolding arrivalRises arrivalCounts tallies occurs
-agree-arrival arrival.Hec = agree 3 (arrived ∷ hec ∷ []) refl
-agree-arrival arrival.Ignored = agree 5 (arrived ∷ ignored ∷ []) refl
-agree-arrival arrival.Misrouted = agree 9 (arrived ∷ misrouted ∷ []) refl
-agree-arrival arrival.Inletfull = agree 17 (arrived ∷ inletfull ∷ []) refl
-agree-arrival arrival.Queued = agree 1 (arrived ∷ []) refl
-
-pub agree-hearing : (fate : H.Hearing) → Agree (hearingRises fate) (hearingCounts fate)
-unfolding hearingRises hearingCounts tallies occurs
-agree-hearing hearing.Damaged = agree 128 (damaged ∷ []) refl
-agree-hearing hearing.Other = agree 0 [] refl
-agree-hearing hearing.Wide = agree 2048 (wide ∷ []) refl
-agree-hearing hearing.Full = agree 512 (full ∷ []) refl
-agree-hearing hearing.Clp = agree 1024 (clp ∷ []) refl
-agree-hearing hearing.Queued = agree 256 (queued ∷ []) refl
-
-pub agree-taken : Agree #taken (taken ∷ [])
-unfolding tallies occurs
-agree-taken = agree #taken (taken ∷ []) refl
-
--- a sender hears its own cell
-pub agree-sent : (fate : H.Hearing) (b : Bool) → Agree (bitOr (hearingRises fate) (sentRises b)) (sentCounts b ++ hearingCounts fate)
-unfolding hearingRises hearingCounts sentRises sentCounts tallies occurs
-agree-sent hearing.Damaged true = agree (128 + 32) (sent ∷ damaged ∷ []) refl
-agree-sent hearing.Damaged false = agree (128 + 96) (sent ∷ unheard ∷ damaged ∷ []) refl
-agree-sent hearing.Other true = agree 32 (sent ∷ []) refl
-agree-sent hearing.Other false = agree 96 (sent ∷ unheard ∷ []) refl
-agree-sent hearing.Wide true = agree (2048 + 32) (sent ∷ wide ∷ []) refl
-agree-sent hearing.Wide false = agree (2048 + 96) (sent ∷ unheard ∷ wide ∷ []) refl
-agree-sent hearing.Full true = agree (512 + 32) (sent ∷ full ∷ []) refl
-agree-sent hearing.Full false = agree (512 + 96) (sent ∷ unheard ∷ full ∷ []) refl
-agree-sent hearing.Clp true = agree (1024 + 32) (sent ∷ clp ∷ []) refl
-agree-sent hearing.Clp false = agree (1024 + 96) (sent ∷ unheard ∷ clp ∷ []) refl
-agree-sent hearing.Queued true = agree (256 + 32) (sent ∷ queued ∷ []) refl
-agree-sent hearing.Queued false = agree (256 + 96) (sent ∷ unheard ∷ queued ∷ []) refl
 
 -- D. the rows of all units
 -- no number is there twice
@@ -169,12 +91,12 @@ same-numbers us place u e i =
 
 -- a row that rose by what happened at its unit, and a row that is as it was where nothing happened
 module _ (rows rows′ : List C.Counters) (d d′ : D.Shelf) (i : ℕ) (es : List Entry) (told : d′ .history ≡ es ++ d .history) (number : D.numberOf (D.unitAt d′ i) ≡ D.numberOf (D.unitAt d i)) (alike : RowAlike rows d i) where
-  pub row-rose : (n : ℕ) → getD rows′ i zero ≡ raised (getD rows i zero) n → Raises n es (D.numberOf (D.unitAt d i)) → RowAlike rows′ d′ i
+  pub row-rose : (n : ℕ) → getD rows′ i zeros ≡ raised (getD rows i zeros) n → Raises n es (D.numberOf (D.unitAt d i)) → RowAlike rows′ d′ i
   row-rose n e r c =
-      ap (λ x. value x (placeOf c)) e ∙ raised-times (getD rows i zero) n (D.numberOf (D.unitAt d i)) es (d .history) r alike c
+      ap (λ x. value x (placeOf c)) e ∙ raised-times (getD rows i zeros) n (D.numberOf (D.unitAt d i)) es (d .history) r alike c
       ∙ ap₂ (λ h u. counterOf h u c) (sym told) (sym number)
 
-  pub row-stayed : getD rows′ i zero ≡ getD rows i zero → ((c : Counter) → times es (D.numberOf (D.unitAt d i)) c ≡ 0) → RowAlike rows′ d′ i
+  pub row-stayed : getD rows′ i zeros ≡ getD rows i zeros → ((c : Counter) → times es (D.numberOf (D.unitAt d i)) c ≡ 0) → RowAlike rows′ d′ i
   row-stayed e r c =
       let u = D.numberOf (D.unitAt d i) in
       let same : times (d .history) u c ≡ times (es ++ d .history) u c = omega (arith, r c, times-append es (d .history) u c) in
@@ -192,7 +114,7 @@ module _ (rows : List C.Counters) (d : D.Shelf) (once : Different (d .units)) (e
       let p = eqb-true i place t in
       row-rose rows (settled rows r) d (D.after d place u (entries at cs)) i (entries at cs) refl (same-numbers (d .units) place u e i) (alike i k) n
       (settled-row rows r (place + 1) i (omega arith) (omega arith) (omega arith)
-      ∙ ap (raised (getD rows i zero)) (ap (λ j. getD (r .each) j 0) p ∙ getD-set-same (replicate 32 0) place n 0 (let l = length-replicate {A = ℕ} 32 0 in omega arith)))
+      ∙ ap (raised (getD rows i zeros)) (ap (λ j. getD (r .each) j 0) p ∙ getD-set-same (replicate 32 0) place n 0 (let l = length-replicate {A = ℕ} 32 0 in omega arith)))
       (λ c. a c ∙ sym (times-here at cs c) ∙ ap (λ j. times (entries at cs) (D.numberOf (D.unitAt d j)) c) (sym p)))
       (λ f.
       let p = eqb-false i place f in
@@ -201,7 +123,7 @@ module _ (rows : List C.Counters) (d : D.Shelf) (once : Different (d .units)) (e
       (λ c. times-other at cs (D.numberOf (D.unitAt d i)) c (λ q. different-apart (d .units) once i place k h p (sym q))))
 
 -- the other rows are as they were
-pub row-beyond : (rows : List C.Counters) (place n count : ℕ) → place < count → (i : ℕ) → count ≤ i → getD (settled rows (row place n)) i zero ≡ getD rows i zero
+pub row-beyond : (rows : List C.Counters) (place n count : ℕ) → place < count → (i : ℕ) → count ≤ i → getD (settled rows (row place n)) i zeros ≡ getD rows i zeros
 row-beyond rows place n count h i k = settled-ahead rows (row place n) (place + 1) i (omega arith)
 
 -- E. a frame
@@ -273,7 +195,7 @@ frameRises count each = record { from = 0; to = count; anew = false; each = each
 
 module _ (rows : List C.Counters) (d : D.Shelf) (count : ℕ) (many : count ≡ length (d .units)) (enough : count ≤ length rows) (alike : (i : ℕ) → i < length (d .units) → RowAlike rows d i) where
   -- each declared row rises by its own set
-  rose : (each : List ℕ) (i : ℕ) → i < count → getD (settled rows (frameRises count each)) i zero ≡ raised (getD rows i zero) (getD each i 0)
+  rose : (each : List ℕ) (i : ℕ) → i < count → getD (settled rows (frameRises count each)) i zeros ≡ raised (getD rows i zeros) (getD each i 0)
   unfolding rowAfter
   rose each i h = settled-row rows (frameRises count each) count i (omega arith) h (omega arith)
 
@@ -345,5 +267,5 @@ module _ (rows : List C.Counters) (d : D.Shelf) (count : ℕ) (many : count ≡ 
         subst (λ n. Raises n (sentEntries ++ heardEntries (d .lines) without r) (D.numberOf (D.unitAt d i))) (sym (others i (omega arith) p)) (raises-hearer i h p)))
 
 -- rows beyond the declared units are as they were
-pub frame-beyond : (rows : List C.Counters) (count : ℕ) (each : List ℕ) (i : ℕ) → count ≤ i → getD (settled rows (frameRises count each)) i zero ≡ getD rows i zero
+pub frame-beyond : (rows : List C.Counters) (count : ℕ) (each : List ℕ) (i : ℕ) → count ≤ i → getD (settled rows (frameRises count each)) i zeros ≡ getD rows i zeros
 frame-beyond rows count each i h = settled-ahead rows (frameRises count each) count i h

@@ -24,7 +24,7 @@ use Rattle.bus.specs.Frame.{heard, payload}
 use Rattle.hearing.specs.Hearings as hearing
 use Rattle.document.specs.Hearing as Q
 use Rattle.answer.specs.declared.Answer.the-variants as answer
-use Rattle.counters.specs.Counting.{settledTo, settled, value, zero}
+use Rattle.counters.specs.Counting.{settledTo, settled, value, zeros}
 use Rattle.counters.proofs.Settling.{settled-ahead}
 use Rattle.counters.specs.declared.Counters as C
 use Rattle.admit.specs.Admission.{atUnit, admitted, decided, toldApart, unitAt, Housed}
@@ -35,8 +35,9 @@ use Rattle.arriving.specs.Arriving as arriving
 use Rattle.taking.specs.Takes as taking
 use Rattle.entry.specs.Counts.{countOf, counted}
 use Rattle.entry.specs.declared.Counted.the-variants as Counted
-use Rattle.document.specs.Events.{arrive, frame, hear, take, count, answers, counts}
-use Rattle.document.specs.Counters.{Counter, placeOf, counterOf, countersOf, arrivalCounts, hearingCounts}
+use Rattle.document.specs.Events.{arrive, frame, hear, take-cell, count, answers, counts}
+use Rattle.paper.specs.Counters.{Counter, placeOf, arrivalCounts, hearingCounts}
+use Rattle.document.specs.Counters.{counterOf, countersOf}
 use Rattle.document.specs.Shelf as D
 use Rattle.document.specs.Arrival as P
 use Rattle.document.specs.Frame as page
@@ -51,7 +52,8 @@ use Rattle.framing.specs.Sending.{sentRises}
 use Rattle.refining.proofs.Finds.{length-map, find-alike, found-below, declared-is}
 use Rattle.refining.proofs.Hears.{hear-alike}
 use Rattle.refining.proofs.Frames.{risesFrom, risesBy, risesIn, frame-rises, frame-alike}
-use Rattle.refining.proofs.Rows.{Different, row-alike, agree-arrival, agree-hearing, heard-settings, frameRises, idle-rows, sent-rows, frame-beyond}
+use Rattle.paper.proofs.Counters.{agree-arrival, agree-hearing}
+use Rattle.refining.proofs.Rows.{Different, row-alike, heard-settings, frameRises, idle-rows, sent-rows, frame-beyond}
 use Rattle.refining.proofs.Arrives.{arrive-alike}
 use Rattle.refining.proofs.Takes.{take-alike}
 
@@ -62,7 +64,7 @@ pub record StepAlike (card : Card) (w : World) (d : D.Shelf) (o : Outcome) (s : 
   pub many : length (s .shelf .units) ≡ length (d .units)
   pub shelf : Alike card (o .world .shelf) (o .world .memory) (o .world .store) (s .shelf)
   pub rows : (j : ℕ) → j < length (d .units) → RowAlike (o .world .rows) (s .shelf) j
-  pub beyond : (j : ℕ) → length (d .units) ≤ j → getD (o .world .rows) j zero ≡ getD (w .rows) j zero
+  pub beyond : (j : ℕ) → length (d .units) ≤ j → getD (o .world .rows) j zeros ≡ getD (w .rows) j zeros
 
 -- which counters rise at a unit that hears, and at the sender
 module _ (r : D.Routed) (rest : List D.Routed) (d : D.Shelf) (place : ℕ) where
@@ -146,7 +148,7 @@ module _ (card : Card) (w : World) (d : D.Shelf) (a : WorldAlike card w d) where
         rows = subst (λ z. (j : ℕ) → j < length (d .units) → RowAlike (settled (w .rows) z) (P.arrived d i c) j) (sym rises)
             (row-alike (w .rows) d once enough (a .rows) i (arrivalRises (P.arrivalOf (d .lines) e c)) new (arrivalCounts (P.arrivalOf (d .lines) e c)) h (below-32 i h) refl (agree-arrival (P.arrivalOf (d .lines) e c)));
         beyond = λ j k.
-            ap (λ z. getD (settled (w .rows) z) j zero) rises ∙ settled-ahead (w .rows) (row i (arrivalRises (P.arrivalOf (d .lines) e c))) (i + 1) j (omega (arith, h, k));
+            ap (λ z. getD (settled (w .rows) z) j zeros) rises ∙ settled-ahead (w .rows) (row i (arrivalRises (P.arrivalOf (d .lines) e c))) (i + 1) j (omega (arith, h, k));
       })
 
   -- a frame handed in
@@ -173,7 +175,7 @@ module _ (card : Card) (w : World) (d : D.Shelf) (a : WorldAlike card w d) where
         rows = subst (λ z. (j : ℕ) → j < length (d .units) → RowAlike (settled (w .rows) z) (Q.handedIn d i f) j) (sym rises)
             (row-alike (w .rows) d once enough (a .rows) i (hearingRises fate) new (hearingCounts fate) h (below-32 i h)
             (ap (λ s. s .number) (heard-settings (d .lines) e (heard f) (payload f))) (agree-hearing fate));
-        beyond = λ j k. ap (λ z. getD (settled (w .rows) z) j zero) rises ∙ settled-ahead (w .rows) (row i (hearingRises fate)) (i + 1) j (omega (arith, h, k));
+        beyond = λ j k. ap (λ z. getD (settled (w .rows) z) j zeros) rises ∙ settled-ahead (w .rows) (row i (hearingRises fate)) (i + 1) j (omega (arith, h, k));
       })
 
   -- a take leaves as many units, and the rows beyond them
@@ -187,7 +189,7 @@ module _ (card : Card) (w : World) (d : D.Shelf) (a : WorldAlike card w d) where
   took-many (leaves.Queue q) i buffer = took-from (D.queueAt (D.unitAt d i) q) i q buffer
   took-many leaves.Empty i buffer = refl
 
-  took-beyond : (l : L.Leaving) (i j : ℕ) → i < j → getD (settled (w .rows) (taking.doneBy l (w .shelf) i .rises)) j zero ≡ getD (w .rows) j zero
+  took-beyond : (l : L.Leaving) (i j : ℕ) → i < j → getD (settled (w .rows) (taking.doneBy l (w .shelf) i .rises)) j zeros ≡ getD (w .rows) j zeros
   unfolding taking.doneBy settledTo
   took-beyond (leaves.Queue q) i j h = settled-ahead (w .rows) (row i #taken) (i + 1) j (omega arith)
   took-beyond leaves.Empty i j h = refl
@@ -196,19 +198,19 @@ module _ (card : Card) (w : World) (d : D.Shelf) (a : WorldAlike card w d) where
   counters-are : (row : C.Counters) (unit : ℕ) → ((c : Counter) → value row (placeOf c) ≡ counterOf (d .history) unit c) → row ≡ countersOf (d .history) unit
   counters-are row unit e =
       λ t. record {
-        arrived = e Rattle.document.specs.Counters.arrived t;
-        hec = e Rattle.document.specs.Counters.hec t;
-        ignored = e Rattle.document.specs.Counters.ignored t;
-        misrouted = e Rattle.document.specs.Counters.misrouted t;
-        inletfull = e Rattle.document.specs.Counters.inletfull t;
-        sent = e Rattle.document.specs.Counters.sent t;
-        unheard = e Rattle.document.specs.Counters.unheard t;
-        damaged = e Rattle.document.specs.Counters.damaged t;
-        queued = e Rattle.document.specs.Counters.queued t;
-        full = e Rattle.document.specs.Counters.full t;
-        clp = e Rattle.document.specs.Counters.clp t;
-        wide = e Rattle.document.specs.Counters.wide t;
-        taken = e Rattle.document.specs.Counters.taken t;
+        arrived = e Rattle.paper.specs.Counters.arrived t;
+        hec = e Rattle.paper.specs.Counters.hec t;
+        ignored = e Rattle.paper.specs.Counters.ignored t;
+        misrouted = e Rattle.paper.specs.Counters.misrouted t;
+        inletfull = e Rattle.paper.specs.Counters.inletfull t;
+        sent = e Rattle.paper.specs.Counters.sent t;
+        unheard = e Rattle.paper.specs.Counters.unheard t;
+        damaged = e Rattle.paper.specs.Counters.damaged t;
+        queued = e Rattle.paper.specs.Counters.queued t;
+        full = e Rattle.paper.specs.Counters.full t;
+        clp = e Rattle.paper.specs.Counters.clp t;
+        wide = e Rattle.paper.specs.Counters.wide t;
+        taken = e Rattle.paper.specs.Counters.taken t;
       }
 
   pub count-step : (unit : ℕ) → StepAlike card w d (happens card w (count unit)) (document.happensTo d (count unit))
@@ -217,10 +219,10 @@ module _ (card : Card) (w : World) (d : D.Shelf) (a : WorldAlike card w d) where
       at-unit unit true []
       (λ adm. record { said = countSaid (countOf (toldApart adm) (w .rows)); world = w; bytes = [] })
       (λ place. document.step (counts (countersOf (d .history) (D.numberOf (D.unitAt d place)))) d [])
-      (λ number some. ap (λ b. record { said = countSaid (cond b (Counted.Counters (getD (w .rows) 0 zero)) (Counted.Refused number)); world = w; bytes = [] }) (ne-eqb number 0 (λ e. omega arith)))
+      (λ number some. ap (λ b. record { said = countSaid (cond b (Counted.Counters (getD (w .rows) 0 zeros)) (Counted.Refused number)); world = w; bytes = [] }) (ne-eqb number 0 (λ e. omega arith)))
       (λ i h r.
       record {
-        said = ap counts (counters-are (getD (w .rows) i zero) (D.numberOf (D.unitAt d i)) (a .rows i h));
+        said = ap counts (counters-are (getD (w .rows) i zeros) (D.numberOf (D.unitAt d i)) (a .rows i h));
         bytes = refl;
         many = refl;
         shelf = a .shelf;
@@ -229,7 +231,7 @@ module _ (card : Card) (w : World) (d : D.Shelf) (a : WorldAlike card w d) where
       })
 
   -- take
-  pub take-step : (unit : ℕ) (buffer : List ℕ) → StepAlike card w d (happens card w (take unit buffer)) (document.happensTo d (take unit buffer))
+  pub take-step : (unit : ℕ) (buffer : List ℕ) → StepAlike card w d (happens card w (take-cell unit buffer)) (document.happensTo d (take-cell unit buffer))
   unfolding happens document.happensTo decided settledTo
   take-step unit buffer =
       at-unit unit (eqb (length buffer) 53) buffer

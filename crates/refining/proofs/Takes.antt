@@ -29,7 +29,8 @@ use Rattle.answer.specs.Answers.{#taken}
 use Rattle.answer.specs.declared.Answer.the-variants.{Empty}
 use Rattle.admit.specs.Admission.{unitAt, withQueue}
 use Rattle.taking.specs.Takes as taking
-use Rattle.document.specs.Counters.{entries, taken}
+use Rattle.paper.specs.Counters.{taken}
+use Rattle.document.specs.Counters.{entries}
 use Rattle.document.specs.Shelf as D
 use Rattle.document.specs.Take as T
 use Rattle.counters.specs.Counting.{settledTo, settled}
@@ -37,7 +38,8 @@ use Rattle.counters.specs.declared.Counters as C
 use Rattle.refining.proofs.Alike.{UnitAlike, Alike, RowAlike, offBus}
 use Rattle.refining.proofs.Finds.{length-map}
 use Rattle.refining.proofs.Changes.{changed}
-use Rattle.refining.proofs.Rows.{Different, row-alike, agree-taken}
+use Rattle.paper.proofs.Counters.{agree-taken}
+use Rattle.refining.proofs.Rows.{Different, row-alike}
 
 -- what is held is what the document's queue holds
 module _ (store : List ℕ) (i : ℕ) (u : U.Unit) (d : D.Unit) (a : UnitAlike store i u d) where
@@ -117,6 +119,7 @@ module _ (store : List ℕ) (i : ℕ) (u : U.Unit) (d : D.Unit) (a : UnitAlike s
 
   -- what it hands out
   pub handed-alike : taking.handed u oldest ≡ T.handed d (offBus oldest)
+  unfolding taking.lineCell T.lineCell
   handed-alike =
       λ t. taking.lineCell (outgoing (a .settings t .link) (marks-alike store i u d a t) (four oldest 4)) (part oldest 8 48)
 

@@ -7,13 +7,13 @@ use lib.ListN.{length}
 use Rattle.card.specs.declared.Card.the-variants.{Narrow, Wide}
 use Rattle.line.specs.declared.Line.{Line}
 use Rattle.counters.specs.declared.Counters as C
-use Rattle.answer.specs.declared.Answer.the-variants.{Unloaded}
 use Rattle.promise.specs.Refusals.{Accepts}
 use Rattle.promise.specs.Narrow.{NoneWide, FirstWide}
 use Rattle.document.specs.Events.{Event}
 use Rattle.document.specs.Shelf.{opened}
 use Rattle.document.specs.Steps as document
 use Rattle.running.specs.Keeping.{loaded}
+use Rattle.paper.specs.Answers.{IsRefused}
 use Rattle.running.specs.Tables.{answerTo}
 use Rattle.refining.specs.Refines.{gives}
 
@@ -29,7 +29,7 @@ abbrev pub TooWide : Type 0
 TooWide =
     (text memory memory′ store store′ : List ℕ) (rows rows′ : List C.Counters) → Equal memory memory′ store store′ rows rows′ → (told : List Line) →
     Accepts Wide text memory (length store) (length rows) told → (number line : ℕ) →
-    (answerTo Narrow text memory′ (length store′) (length rows′) ≡ Unloaded number line) ↔ ((number ≡ 5) × FirstWide told line)
+    IsRefused (answerTo Narrow text memory′ (length store′) (length rows′)) number line ↔ ((number ≡ 5) × FirstWide told line)
 
 -- "Otherwise, over every sequence of events after loading .. it gives the same answers, cells and counters as the twelve-bit card, and both are those
 -- of demand 2.": load's answer too, whatever the two memories, stores and rows held before

@@ -4,17 +4,17 @@ use mathlib.Core.Path.{_≡_}
 use mathlib.Core.List.{List, [], _∷_}
 use lib.ListN.{length, getD}
 use Rattle.card.specs.declared.Card.{Card}
-use Rattle.record.specs.Record.{cleared}
 use Rattle.line.specs.declared.Line.{Line}
-use Rattle.counters.specs.Counting.{value, zero}
 use Rattle.counters.specs.declared.Counters as C
 use Rattle.promise.specs.Refusals.{Accepts, Refuses}
 use Rattle.document.specs.Events.{Event, Back}
-use Rattle.document.specs.Counters.{Counter, placeOf, counterOf}
+use Rattle.paper.specs.Counters.{Counter, valueOf, rowAt}
+use Rattle.document.specs.Counters.{counterOf}
 use Rattle.document.specs.Shelf.{opened, unitsOf, numberOf, blank}
 use Rattle.document.specs.Steps as document
 use Rattle.running.specs.Events.{World, happens}
 use Rattle.running.specs.Keeping.{run, loaded}
+use Rattle.running.specs.Tables.{Zeroed}
 
 -- what a sequence of events gives back on the shelf
 unfoldable pub gives : Card → World → List Event → List Back
@@ -34,7 +34,7 @@ Refines =
 -- refusal left them
 pub record Refused (card : Card) (text memory store : List ℕ) (rows : List C.Counters) (es : List Event) : Type 0 where
   pub events : gives card (loaded card text memory store rows) es ≡ document.gives (opened []) es
-  pub zeroed : run card (loaded card text memory store rows) es .memory ≡ cleared memory
+  pub zeroed : Zeroed memory (run card (loaded card text memory store rows) es .memory)
   pub store-kept : run card (loaded card text memory store rows) es .store ≡ store
   pub rows-kept : run card (loaded card text memory store rows) es .rows ≡ rows
 
@@ -46,10 +46,10 @@ RefinesRefused =
 -- "the counters equal that history, modulo 4,294,967,296": each counter of each declared unit, and "rows beyond the declared units are untouched"
 pub record Counted (card : Card) (text memory store : List ℕ) (rows : List C.Counters) (told : List Line) (es : List Event) : Type 0 where
   pub equal : (i : ℕ) → i < length (unitsOf told) → (c : Counter) →
-      value (getD (run card (loaded card text memory store rows) es .rows) i zero) (placeOf c)
+      valueOf (rowAt (run card (loaded card text memory store rows) es .rows) i) c
       ≡ counterOf (document.becomes (opened told) es .history) (numberOf (getD (unitsOf told) i blank)) c
   pub untouched : (i : ℕ) → length (unitsOf told) ≤ i →
-      getD (run card (loaded card text memory store rows) es .rows) i zero ≡ getD rows i zero
+      rowAt (run card (loaded card text memory store rows) es .rows) i ≡ rowAt rows i
 
 abbrev pub CountersAreHistory : Type 0
 CountersAreHistory =

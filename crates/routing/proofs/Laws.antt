@@ -7,7 +7,7 @@ use native.Mathlib.Omega.{arith}
 use borrow.Author.Tests.{eq-eqb, ne-eqb, le-leb}
 use Rattle.remainder.specs.Division.{residue}
 use Rattle.remainder.proofs.Laws.{passed, by-symbols, residue-lt}
-use Rattle.routing.specs.Routing.{divisor, check, upper, routing, kindIn, classIn, numberIn, said, address}
+use Rattle.routing.specs.Routing.{Sayable, divisor, check, upper, routing, kindIn, classIn, numberIn, said, address}
 use Rattle.routing.specs.declared.Target.{Target}
 use Rattle.routing.specs.declared.Target.the-variants.{Unit as U·, Session, All}
 use Rattle.routing.specs.declared.Address.the-variants.{Bad, To}
@@ -16,12 +16,6 @@ use Rattle.routing.specs.declared.Address.the-variants.{Bad, To}
 pub check-nibbles : (u : ℕ) → check u ≡ passed (residue divisor 4) 0 (u / 256 % 16 ∷ u / 16 % 16 ∷ u % 16 ∷ [])
 unfolding check
 check-nibbles u = by-symbols divisor 4 refl 2 u ∙ ap (λ n. passed (residue divisor 4) 0 (u / 256 % 16 ∷ u / 16 % 16 ∷ n % 16 ∷ [])) (div-one u)
-
--- the targets that a routing header can say
-abbrev pub Sayable : Target → Type 0
-Sayable (U· unit) = unit ≤ 31
-Sayable (Session session) = session < 256
-Sayable All = Unit {0}
 
 -- a routing header put together of kind k, class q, number n and check c, and taken apart
 module _ (k q n c : ℕ) (hk : k < 4) (hq : q < 4) (hn : n < 256) (hc : c < 16) where

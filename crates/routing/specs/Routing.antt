@@ -1,6 +1,6 @@
 -- The routing header. "Routing header, from the top bit: kind 2 bits (0 unicast, 1 multicast, 2 broadcast), class 2 (0 control data, 1 CBR,
 -- 2 VBR, 3 ABR), address 8 (unit, session, or 0 for broadcast), check 4." Assumes nothing.
-use Prim.Native.Nat.{ℕ, _+_, _*_, _/_, _%_, _^_}
+use Prim.Native.Nat.{ℕ, _+_, _*_, _/_, _%_, _^_, _≤_, _<_}
 use mathlib.Core.Bool.{Bool, true, false, cond}
 use mathlib.Core.List.{List, [], _∷_}
 use lib.Dec.{eqb, leb}
@@ -27,6 +27,12 @@ abbrev pub numberOf : Target → ℕ
 numberOf (Unit unit) = unit
 numberOf (Session session) = session
 numberOf All = 0
+
+-- the targets that a routing header can say: "unicast above 31 .. is `damaged`", "`m` and a session 0 to 255"
+abbrev pub Sayable : Target → Type 0
+Sayable (Unit unit) = unit ≤ 31
+Sayable (Session session) = session < 256
+Sayable All = Prim.Unit {0}
 
 -- the upper 12 bits, a class keeping its two; and the whole
 unfoldable pub upper : Target → ℕ → ℕ

@@ -10,19 +10,20 @@ use lib.ListN.{length, getD, set, replicate}
 use borrow.Author.Tests.{leb-true}
 use Rattle.card.specs.declared.Card.{Card}
 use Rattle.arbiter.specs.Arbitration.{due, asking, besides, renewedFrom}
-use Rattle.arbiter.proofs.Requests.{renewed-at}
+use Rattle.arbiter.proofs.Requests.{renewed-at, renewed-past}
 use Rattle.store.proofs.Slots.{by-lt}
 use Rattle.shelf.specs.Shelves.{declared, blank, numberOf}
 use Rattle.shelf.specs.declared.Unit as U
 use Rattle.shelf.specs.declared.Shelf.{Shelf}
 use Rattle.soundness.specs.State.{DeclaredIn, Sound}
-use Rattle.framing.specs.Requests.{asksNow, askingOf, askingNow, requests}
+use Rattle.arbiter.specs.Arbitration.{asksNow}
+use Rattle.framing.specs.Requests.{askingOf, askingNow, requests}
 use Rattle.running.proofs.Changed.{set-or}
 
 -- what a number asks now comes from one of the units, or from before
 from-unit : (granted n : ℕ) (now : List ℕ) (us : List U.Unit) →
     (getD (askingOf granted now us) n 0 ≡ getD now n 0)
-    ⊎ ((k : ℕ) × (k < length us) × (numberOf (getD us k blank) ≡ n) × (getD (askingOf granted now us) n 0 ≡ asksNow granted (getD us k blank)))
+    ⊎ ((k : ℕ) × (k < length us) × (numberOf (getD us k blank) ≡ n) × (getD (askingOf granted now us) n 0 ≡ asksNow granted (numberOf (getD us k blank)) ((getD us k blank) .settings .priority) ((getD us k blank) .inlet .count)))
 unfolding askingOf
 from-unit granted n now [] = inl refl
 from-unit granted n now (u ∷ us) =
@@ -31,21 +32,14 @@ from-unit granted n now (u ∷ us) =
     ⊎-elim
     (λ o. inr (0, omega arith, sym (o .0), e ∙ o .1))
     (λ o. inl (e ∙ o))
-    (set-or now (numberOf u) (asksNow granted u) 0 n))
+    (set-or now (numberOf u) (asksNow granted (numberOf u) (u .settings .priority) (u .inlet .count)) 0 n))
     (λ r. inr (suc (r .0), omega (arith, r .1), r .2, r .3))
-    (from-unit granted n (set now (numberOf u) (asksNow granted u)) us)
+    (from-unit granted n (set now (numberOf u) (asksNow granted (numberOf u) (u .settings .priority) (u .inlet .count))) us)
 
-none-yet : (k n : ℕ) → _≡_ {A = ℕ} (getD (replicate k 0) n 0) 0
+pub none-yet : (k n : ℕ) → _≡_ {A = ℕ} (getD (replicate k 0) n 0) 0
 none-yet zero n = refl
 none-yet (suc k) zero = refl
 none-yet (suc k) (suc n) = none-yet k n
-
--- past the requests that there are nobody asks
-past : (bus frame : ℕ) (now : List ℕ) (start : ℕ) (asks : List ℕ) (n : ℕ) → length asks ≤ n → getD (renewedFrom bus frame now start asks) n 0 ≡ 0
-unfolding renewedFrom
-past bus frame now start [] n h = refl
-past bus frame now start (a ∷ rest) zero h = absurd (omega arith)
-past bus frame now start (a ∷ rest) (suc n) h = past bus frame now (suc start) rest n (omega arith)
 
 -- a request is that of before, what is asked now, or none
 renewed-or : (bus frame : ℕ) (now asks : List ℕ) (n : ℕ) →
@@ -53,7 +47,7 @@ renewed-or : (bus frame : ℕ) (now asks : List ℕ) (n : ℕ) →
 renewed-or bus frame now asks n =
     by-lt n (length asks)
     (λ h. pick (due bus frame (0 + n)) (renewed-at bus frame now 0 asks n h))
-    (λ h. inl (past bus frame now 0 asks n h))
+    (λ h. inl (renewed-past bus frame now 0 asks n h))
   where
     z : 0 + n ≡ n
     z = omega arith
@@ -67,7 +61,7 @@ renewed-or bus frame now asks n =
 abbrev pub AsksFor : ℕ → ℕ → U.Unit → Type 0
 AsksFor ask granted u = (ask ≡ 0) ⊎ ((ask ≡ u .settings .priority) × (1 ≤ besides (u .inlet .count) (eqb (numberOf u) granted)))
 
-asks-for : (granted : ℕ) (u : U.Unit) → AsksFor (asksNow granted u) granted u
+asks-for : (granted : ℕ) (u : U.Unit) → AsksFor (asksNow granted (numberOf u) (u .settings .priority) (u .inlet .count)) granted u
 unfolding asking
 asks-for granted u = pick (leb 1 (besides (u .inlet .count) (eqb (numberOf u) granted))) refl
   where
@@ -95,7 +89,7 @@ module _ (card : Card) (shelf : Shelf) (bytes records : ℕ) (s : Sound card she
       (λ o. inl (e ∙ o ∙ none-yet 32 n))
       (λ o.
       let k = same-place (o .0) j (o .1) h (o .2) in
-      subst (λ a. AsksFor a (shelf .granted) u) (sym (e ∙ o .3 ∙ ap (λ m. asksNow (shelf .granted) (getD (declared shelf) m blank)) k)) (asks-for (shelf .granted) u))
+      subst (λ a. AsksFor a (shelf .granted) u) (sym (e ∙ o .3 ∙ ap (λ m. asksNow (shelf .granted) (numberOf (getD (declared shelf) m blank)) ((getD (declared shelf) m blank) .settings .priority) ((getD (declared shelf) m blank) .inlet .count)) k)) (asks-for (shelf .granted) u))
       (from-unit (shelf .granted) n (replicate 32 0) (declared shelf)))
       (λ e. subst (λ a. AsksFor a (shelf .granted) u) (sym e) (s .units j h .ask)))
       (renewed-or (shelf .bus) (shelf .frame) (askingNow shelf) (shelf .arbiter .asks) n)

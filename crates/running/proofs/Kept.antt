@@ -46,7 +46,7 @@ use Rattle.taking.specs.Takes as taking
 use Rattle.framing.specs.Frames as framing
 use Rattle.loading.specs.Loads.{loadDone}
 use Rattle.promise.proofs.Loads.{load-sound}
-use Rattle.document.specs.Events.{Event, arrive, frame, hear, take as takes, count, numberSaid}
+use Rattle.document.specs.Events.{Event, arrive, frame, hear, take-cell, count, numberSaid}
 use Rattle.running.specs.Events.{World, happens}
 use Rattle.running.specs.Keeping.{soundIn, SoundnessKept, run, loaded, NeverState}
 use Rattle.running.specs.Refusing.{known, fits}
@@ -172,7 +172,7 @@ soundness-kept card w (hear unit f) sound =
       heard-by card (w .shelf) (length (w .store)) (length (w .rows)) i here s housed (heard f),
       store-kept (unitAt (w .shelf) i) (heard f) i (w .store) (take 56 f) housed (let a = length-take 56 f in let b = eqb-true (length f) 57 fits in omega arith),
     ))
-soundness-kept card w (takes unit b) sound =
+soundness-kept card w (take-cell unit b) sound =
     let done = taking.takeDone card (w .shelf) (length (w .store)) (length (w .rows)) unit (length b) in
     let rows = settled (w .rows) (done .rises) in
     ap (λ x. soundOf card (done .reply .shelf) (length x) (length rows)) (sym (either-way (w .store) (admitted card (w .shelf) (length (w .store)) (length (w .rows)) unit (eqb (length b) 53))))

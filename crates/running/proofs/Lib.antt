@@ -6,4 +6,6 @@ pub mod Sent
 pub mod Framed
 pub mod Kept
 pub mod Contracts
+pub mod Laid
+pub mod Opened
 pub mod Tables

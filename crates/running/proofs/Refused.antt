@@ -32,7 +32,7 @@ use Rattle.entry.specs.Counts.{counted}
 use Rattle.entry.specs.declared.Counted.the-variants as Counted
 use Rattle.answer.specs.declared.Arrival.the-variants.{Inletfull, Queued}
 use Rattle.answer.specs.declared.Answer.the-variants as answer
-use Rattle.document.specs.Events.{Event, arrive, frame, hear, take, count, bytesOf, answers, numberSaid}
+use Rattle.document.specs.Events.{Event, arrive, frame, hear, take-cell, count, bytesOf, answers, numberSaid}
 use Rattle.running.specs.Events.{World, Outcome, ended, countSaid, happens}
 use Rattle.running.specs.Refusing.{known, fits, refusal, RefusedIff, RefusalChangesNothing}
 
@@ -151,7 +151,7 @@ module _ (card : Card) (w : World) where
   number-is (hear unit heard) =
       at-unit w (λ place. hearing.doneAt (w .shelf) place heard) (λ d. []) (λ d. []) [] (λ place. hear-none (w .shelf) place heard) (let-in unit (eqb (length heard) 57))
       ∙ by-order unit (eqb (length heard) 57)
-  number-is (take unit buffer) =
+  number-is (take-cell unit buffer) =
       at-unit w (taking.doneAt (w .shelf)) (λ d. []) (λ d. []) [] (λ place. take-none (leaving (unitAt (w .shelf) place .outlet)) (w .shelf) place) (let-in unit (eqb (length buffer) 53))
       ∙ by-order unit (eqb (length buffer) 53)
   number-is (count unit) = count-number (let-in unit true) _ ∙ by-order unit true
@@ -172,7 +172,7 @@ module _ (card : Card) (w : World) where
       (λ d. decided d (λ place. hearing.storeAt (w .shelf) place (w .store) heard) (λ number. w .store))
       (λ d. heard) heard (λ number. refl) (λ number. refl) (let-in unit r) (λ z. h (sym (by-order unit r) ∙ z))
       ∙ ap (λ n. asWas w n heard) (by-order unit r)
-  changes-nothing (take unit buffer) h =
+  changes-nothing (take-cell unit buffer) h =
       let r = eqb (length buffer) 53 in
       at-unit-kept w (taking.doneAt (w .shelf)) (λ d. w .store)
       (λ d. decided d (λ place. taking.bufferAt (w .shelf) place (w .store) buffer) (λ number. buffer))

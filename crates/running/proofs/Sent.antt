@@ -3,9 +3,12 @@ use Prim.Native.Nat.{ℕ, suc, _+_, _<_, _≤_}
 use native.Mathlib.Omega.{arith}
 use mathlib.Core.Path.{_≡_, refl, sym, ap, subst, _∙_}
 use mathlib.Core.Logic.{_⊎_, inl, inr, ⊎-elim}
-use mathlib.Core.List.{List, [], _∷_}
+use mathlib.Core.Bool.{Bool, true, false}
+use mathlib.Core.List.{List, [], _∷_, _++_, map}
+use lib.Bits.{bitOr}
 use lib.Dec.{eqb}
-use lib.ListN.{length, length-set, length-take, getD}
+use lib.ListN.{length, length-set, length-take, getD, drop, List·getD-append}
+use lib.Seq.{sets, sets-eq}
 use borrow.Author.Tests.{eq-eqb}
 use Rattle.arbiter.specs.Arbitration.{besides}
 use Rattle.bus.specs.declared.Heard as H
@@ -17,15 +20,36 @@ use Rattle.shelf.specs.Shelves.{declared, blank, numberOf}
 use Rattle.shelf.specs.declared.Unit as U
 use Rattle.shelf.specs.declared.Shelf.{Shelf}
 use Rattle.shelf.proofs.Finding.{declared-at}
+use Rattle.answer.specs.Answers.{hearingRises}
+use Rattle.answer.specs.declared.Hearing as A
+use Rattle.answer.specs.declared.Hearing.the-variants as fate·
+use Rattle.paper.specs.Counters.{sent, unheard, damaged, queued, full, clp, wide, hearingCounts, sentCounts, occurs}
+use Rattle.paper.proofs.Counters.{tallies, Agree, agree}
 use Rattle.admit.specs.Admission.{unitAt, withUnit, withInlet, Housed}
 use Rattle.hearing.specs.Hearings.{copyOf, storeOf}
-use Rattle.framing.specs.Sending.{silence, after, heardFrom, storeFrom, heardByAll}
+use Rattle.framing.specs.Sending.{silence, after, heardFrom, storeFrom, heardByAll, sentRises}
 use Rattle.framing.specs.declared.Listened.{Listened}
 use Rattle.running.proofs.Changed.{set-or}
 use Rattle.running.proofs.Copies.{Copied, copied, store-kept}
 
+-- a place of a run of stores
+pub sets-at : {X : Type 0} (vs l : List X) (k : ℕ) (x : X) → length vs ≤ length l → k < length vs → getD (sets l 0 vs) k x ≡ getD vs k x
+sets-at vs l k x fits few = ap (λ m. getD m k x) (sets-eq vs l 0 (omega arith)) ∙ List·getD-append vs (drop (0 + length vs) l) x k few
+
 -- these units hear a frame
 module _ (h : H.Heard) where
+  -- every unit becomes its copy
+  pub heard-units : (place : ℕ) (us : List U.Unit) (l : Listened) → heardFrom h place us l .shelf .units ≡ sets (l .shelf .units) place (map (λ u. copyOf u h .unit) us)
+  unfolding heardFrom
+  heard-units place [] l = refl
+  heard-units place (u ∷ us) l = heard-units (suc place) us (after place (copyOf u h) l)
+
+  -- every row rises by its fate
+  pub heard-each : (place : ℕ) (us : List U.Unit) (l : Listened) → heardFrom h place us l .each ≡ sets (l .each) place (map (λ u. hearingRises (copyOf u h .fate)) us)
+  unfolding heardFrom
+  heard-each place [] l = refl
+  heard-each place (u ∷ us) l = heard-each (suc place) us (after place (copyOf u h) l)
+
   pub bus-kept : (place : ℕ) (us : List U.Unit) (l : Listened) → heardFrom h place us l .shelf .bus ≡ l .shelf .bus
   unfolding heardFrom
   bus-kept place [] l = refl
@@ -129,3 +153,19 @@ module _ (shelf : Shelf) (place bytes : ℕ) (all : (j : ℕ) → j < length (de
       let it : getD (declared out) (r .0) blank ≡ unitAt out j = declared-at out (r .0) blank few ∙ ap (λ n. unitAt out n) same in
       subst (λ v. Went g (unitAt shelf j) v) (sym (r .3 ∙ ap (λ x. copyOf x h .unit) it)) (went-copy g (unitAt shelf j) (unitAt out j) (copyOf (unitAt out j) h .unit) a (copied (unitAt out j) h (a .limits) (a .queues))))
       (unit-or h 0 (declared out) (silence out) j)
+
+-- a sender hears its own cell
+pub agree-sent : (fate : A.Hearing) (b : Bool) → Agree (bitOr (hearingRises fate) (sentRises b)) (sentCounts b ++ hearingCounts fate)
+unfolding hearingRises hearingCounts sentRises sentCounts occurs tallies
+agree-sent fate·.Damaged true = agree (128 + 32) (sent ∷ damaged ∷ []) refl
+agree-sent fate·.Damaged false = agree (128 + 96) (sent ∷ unheard ∷ damaged ∷ []) refl
+agree-sent fate·.Other true = agree 32 (sent ∷ []) refl
+agree-sent fate·.Other false = agree 96 (sent ∷ unheard ∷ []) refl
+agree-sent fate·.Wide true = agree (2048 + 32) (sent ∷ wide ∷ []) refl
+agree-sent fate·.Wide false = agree (2048 + 96) (sent ∷ unheard ∷ wide ∷ []) refl
+agree-sent fate·.Full true = agree (512 + 32) (sent ∷ full ∷ []) refl
+agree-sent fate·.Full false = agree (512 + 96) (sent ∷ unheard ∷ full ∷ []) refl
+agree-sent fate·.Clp true = agree (1024 + 32) (sent ∷ clp ∷ []) refl
+agree-sent fate·.Clp false = agree (1024 + 96) (sent ∷ unheard ∷ clp ∷ []) refl
+agree-sent fate·.Queued true = agree (256 + 32) (sent ∷ queued ∷ []) refl
+agree-sent fate·.Queued false = agree (256 + 96) (sent ∷ unheard ∷ queued ∷ []) refl

@@ -16,15 +16,8 @@ use denote.Triple.Entry.{Args, Res}
 use denote.Triple.Clauses.{AtExit}
 use Rattle.card.specs.declared.Card.{Card}
 use Rattle.answer.specs.declared.Reply.{Reply}
-use Rattle.counters.specs.Counting.{settled}
 use Rattle.counters.specs.declared.Counters as C
-use Rattle.admit.specs.Admission.{counted}
-use Rattle.arriving.specs.Arriving.{arriveDone, arriveStore}
-use Rattle.framing.specs.Frames.{frameDone, frameStore, frameBuffer}
-use Rattle.hearing.specs.Hearings.{hearDone, hearStore}
-use Rattle.taking.specs.Takes.{takeDone, takeBuffer}
-use Rattle.loading.specs.Loads.{loadDone, loadMemory}
-use Rattle.entry.specs.Counts.{countOf}
+use Rattle.entry.specs.Outcomes.{arrives, frames, hears, takes, countsOf, loads, LeavesStore, LeavesAll, LeavesBytes, LeavesMemory}
 use Rattle.entry.specs.declared.Counted.{Counted}
 use Rattle.entry.proofs.arrive as entry-arrive
 use Rattle.entry.proofs.frame as entry-frame
@@ -32,7 +25,7 @@ use Rattle.entry.proofs.hear as entry-hear
 use Rattle.entry.proofs.take as entry-take
 use Rattle.entry.proofs.count as entry-count
 use Rattle.entry.proofs.load as entry-load
-use Rattle.document.specs.Events.{arrive, frame, hear, take, count, answers}
+use Rattle.document.specs.Events.{arrive, frame, hear, take-cell, count, answers}
 use Rattle.entry.proofs.arrive.Statement as code-arrive
 use Rattle.entry.proofs.frame.Statement as code-frame
 use Rattle.entry.proofs.hear.Statement as code-hear
@@ -44,34 +37,22 @@ use Rattle.running.specs.Keeping.{loaded}
 
 -- what is ensured of the reply, and of what was lent, as it is afterwards
 abbrev pub Arrives : Card → World → ℕ → List ℕ → Reply → List ℕ → List C.Counters → Type 0
-Arrives card w unit cell r store rows =
-    let d = arriveDone card (w .shelf) (w .memory) (length (w .store)) (length (w .rows)) unit cell in
-    (r ≡ d .reply) × ((store ≡ arriveStore card (w .shelf) (w .memory) (w .store) (length (w .rows)) unit cell) × (rows ≡ settled (w .rows) (d .rises)))
+Arrives card w unit cell r store rows = LeavesStore (arrives card (w .shelf) (w .memory) (w .store) (w .rows) (length (w .rows)) unit cell) r store rows
 
 abbrev pub Frames : Card → World → List ℕ → Reply → List ℕ → List C.Counters → List ℕ → Type 0
-Frames card w buffer r store rows bytes =
-    let d = frameDone card (w .shelf) (w .store) (length (w .rows)) (length buffer) in
-    (r ≡ d .reply)
-    × ((store ≡ frameStore card (w .shelf) (w .store) (length (w .rows)) (length buffer))
-    × ((bytes ≡ frameBuffer card (w .shelf) (w .store) (length (w .rows)) buffer) × (rows ≡ settled (w .rows) (d .rises))))
+Frames card w buffer r store rows bytes = LeavesAll (frames card (w .shelf) (w .store) (w .rows) (length (w .rows)) buffer) r store bytes rows
 
 abbrev pub Hears : Card → World → ℕ → List ℕ → Reply → List ℕ → List C.Counters → Type 0
-Hears card w unit heard r store rows =
-    let d = hearDone card (w .shelf) (length (w .store)) (length (w .rows)) unit heard in
-    (r ≡ d .reply) × ((store ≡ hearStore card (w .shelf) (w .store) (length (w .rows)) unit heard) × (rows ≡ settled (w .rows) (d .rises)))
+Hears card w unit heard r store rows = LeavesStore (hears card (w .shelf) (w .store) (w .rows) (length (w .rows)) unit heard) r store rows
 
 abbrev pub Takes : Card → World → ℕ → List ℕ → Reply → List C.Counters → List ℕ → Type 0
-Takes card w unit buffer r rows bytes =
-    let d = takeDone card (w .shelf) (length (w .store)) (length (w .rows)) unit (length buffer) in
-    (r ≡ d .reply) × ((bytes ≡ takeBuffer card (w .shelf) (w .store) (length (w .rows)) unit buffer) × (rows ≡ settled (w .rows) (d .rises)))
+Takes card w unit buffer r rows bytes = LeavesBytes (takes card (w .shelf) (w .store) (w .rows) (length (w .rows)) unit buffer) r bytes rows
 
 abbrev pub Counts : Card → World → ℕ → Counted → Type 0
-Counts card w unit r = r ≡ countOf (counted card (w .shelf) (length (w .store)) (length (w .rows)) unit) (w .rows)
+Counts card w unit r = r ≡ countsOf card (w .shelf) (w .store) (w .rows) (length (w .rows)) unit
 
 abbrev pub Loads : Card → List ℕ → List ℕ → List ℕ → List C.Counters → Reply → List ℕ → List C.Counters → Type 0
-Loads card text memory store rows r memory′ rows′ =
-    let d = loadDone card text memory (length store) (length rows) in
-    (r ≡ d .reply) × ((memory′ ≡ loadMemory card text memory (length store) (length rows)) × (rows′ ≡ settled rows (d .rises)))
+Loads card text memory store rows r memory′ rows′ = LeavesMemory (loads card text memory store rows (length rows)) r memory′ rows′
 
 -- The `ensures` of each function in crates/entry/src/lib.rt, as Rattle has it, of the arguments a, the result r and the arguments e as they are afterwards: it is the fact
 -- above. An argument is in the order of the function's parameters; the memory m is the world's where it is not lent
@@ -134,7 +115,7 @@ pub record Steps (card : Card) : Type 0 where
   pub hears : (w : World) (unit : ℕ) (heard : List ℕ) (r : Reply) (store : List ℕ) (rows : List C.Counters) →
       Hears card w unit heard r store rows → cameTo w r store rows heard ≡ happens card w (hear unit heard)
   pub takes : (w : World) (unit : ℕ) (buffer : List ℕ) (r : Reply) (rows : List C.Counters) (bytes : List ℕ) →
-      Takes card w unit buffer r rows bytes → cameTo w r (w .store) rows bytes ≡ happens card w (take unit buffer)
+      Takes card w unit buffer r rows bytes → cameTo w r (w .store) rows bytes ≡ happens card w (take-cell unit buffer)
   pub counts : (w : World) (unit : ℕ) (r : Counted) →
       Counts card w unit r → record { said = countSaid r; world = w; bytes = [] } ≡ happens card w (count unit)
   pub loads : (text memory store : List ℕ) (rows : List C.Counters) (r : Reply) (memory′ : List ℕ) (rows′ : List C.Counters) →

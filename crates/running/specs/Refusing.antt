@@ -10,7 +10,7 @@ use Rattle.shelf.specs.declared.Shelf.{Shelf}
 use Rattle.shelf.specs.declared.Found as F
 use Rattle.soundness.specs.State.{soundOf}
 use Rattle.answer.specs.declared.Answer.the-variants.{Refused}
-use Rattle.document.specs.Events.{Event, arrive, frame, hear, take, count, bytesOf, answers, numberSaid}
+use Rattle.document.specs.Events.{Event, arrive, frame, hear, take-cell, count, bytesOf, answers, numberSaid}
 use Rattle.running.specs.Events.{World, happens}
 
 -- "9 Unit: unit not declared"; a frame names none
@@ -18,7 +18,7 @@ unfoldable pub known : Shelf → Event → Bool
 known shelf (arrive unit cell) = isAt (findIn (declared shelf) unit)
 known shelf (frame buffer) = true
 known shelf (hear unit heard) = isAt (findIn (declared shelf) unit)
-known shelf (take unit buffer) = isAt (findIn (declared shelf) unit)
+known shelf (take-cell unit buffer) = isAt (findIn (declared shelf) unit)
 known shelf (count unit) = isAt (findIn (declared shelf) unit)
 
 -- "10 Length: cell slice or buffer not 53 bytes, frame not 57"
@@ -26,7 +26,7 @@ unfoldable pub fits : Event → Bool
 fits (arrive unit cell) = eqb (length cell) 53
 fits (frame buffer) = eqb (length buffer) 57
 fits (hear unit heard) = eqb (length heard) 57
-fits (take unit buffer) = eqb (length buffer) 53
+fits (take-cell unit buffer) = eqb (length buffer) 53
 fits (count unit) = true
 
 -- "Refusals 8 to 10, in that order"; 0 where none of them is given

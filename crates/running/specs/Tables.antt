@@ -1,27 +1,22 @@
 -- Loading a table: when it is refused, with what, and what it leaves; when it is good, and what that leaves. Assumes nothing.
-use Prim.Native.Nat.{ℕ, _+_, _*_, _<_, _≤_, min}
+use Prim.Native.Nat.{ℕ, _*_, _<_, _≤_}
 use mathlib.Core.Path.{_≡_}
 use mathlib.Core.Logic.{_↔_}
-use mathlib.Core.List.{List, _∷_, _++_}
-use mathlib.Core.Option.{some}
+use mathlib.Core.List.{List, [], _∷_, _++_}
 use lib.ListN.{length, getD, drop, replicate}
-use Rattle.octets.specs.Octets.{part}
 use Rattle.card.specs.declared.Card.{Card}
-use Rattle.record.specs.Record.{size, bytesOf, cleared}
-use Rattle.outlet.specs.Outlets.{queue}
-use Rattle.shelf.specs.Shelves.{fresh}
-use Rattle.shelf.specs.declared.Unit as U
 use Rattle.line.specs.declared.Line.{Line}
-use Rattle.told.specs.Told.{Opening, opens, total, recordOf, shelfOf}
-use Rattle.counters.specs.Counting.{zero}
 use Rattle.counters.specs.declared.Counters as C
 use Rattle.answer.specs.declared.Answer as A
-use Rattle.answer.specs.declared.Answer.the-variants.{Loaded, Unloaded}
 use Rattle.loading.specs.Loads.{loadDone}
-use Rattle.admit.specs.Admission.{unitAt}
+use Rattle.paper.specs.Answers.{IsOk, IsRefused}
+use Rattle.paper.specs.Counters.{zeroRow}
+use Rattle.promise.specs.Says.{recordsOf, unitLines}
 use Rattle.promise.specs.Refusals.{Accepts, Refuses}
 use Rattle.running.specs.Events.{World}
 use Rattle.running.specs.Keeping.{loaded}
+use Rattle.running.specs.Opened.{emptyBus, Opened}
+use Rattle.running.specs.Laid.{Laid}
 
 -- the answer that the contract of `entry::load` gives
 abbrev pub answerTo : Card → List ℕ → List ℕ → ℕ → ℕ → A.Answer
@@ -31,45 +26,39 @@ answerTo card text memory store rows = loadDone card text memory store rows .rep
 abbrev pub TableRefusedIff : Type 0
 TableRefusedIff =
     (card : Card) (text memory : List ℕ) (store rows number line : ℕ) →
-    (answerTo card text memory store rows ≡ Unloaded number line) ↔ Refuses card text memory store rows number line
+    IsRefused (answerTo card text memory store rows) number line ↔ Refuses card text memory store rows number line
 
--- a table with none of these faults is good, and no other is; "`table` gives `ok` and bytes used", 8 for each record
+-- a table with none of these faults is good, and no other is; its bytes used are 8 for each record
 abbrev pub TableLoadedIff : Type 0
 TableLoadedIff =
     (card : Card) (text memory : List ℕ) (store rows used : ℕ) →
-    (answerTo card text memory store rows ≡ Loaded used) ↔ ((told : List Line) × Accepts card text memory store rows told × (used ≡ size * total told))
+    IsOk (answerTo card text memory store rows) used ↔ ((told : List Line) × Accepts card text memory store rows told × (used ≡ 8 * recordsOf told))
 
--- "Refusals 1 to 7 zero the memory up to 262,144 bytes, touch neither store nor counter rows and give back a fresh 16 bus with no units"
+-- "Refusals 1 to 7 zero the memory up to 262,144 bytes": and no other byte
+pub record Zeroed (memory zeroed : List ℕ) : Type 0 where
+  pub zeros : (at : ℕ) → at < length memory → at < 262144 → getD zeroed at 0 ≡ 0
+  pub later : (at : ℕ) → 262144 ≤ at → getD zeroed at 0 ≡ getD memory at 0
+  pub long : length zeroed ≡ length memory
+
+-- "touch neither store nor counter rows and give back a fresh 16 bus with no units"
+pub record Emptied (memory store : List ℕ) (rows : List C.Counters) (w : World) : Type 0 where
+  pub shelf-empty : w .shelf ≡ emptyBus 16
+  pub memory-zeroed : Zeroed memory (w .memory)
+  pub store-kept : w .store ≡ store
+  pub rows-kept : w .rows ≡ rows
+
 abbrev pub RefusedTableZeroes : Type 0
 RefusedTableZeroes =
     (card : Card) (text memory store : List ℕ) (rows : List C.Counters) (number line : ℕ) → Refuses card text memory (length store) (length rows) number line →
-    loaded card text memory store rows ≡ record { shelf = fresh 16; memory = cleared memory; store = store; rows = rows }
-
--- 01's "Memory", byte by byte: what these lines, the latest first, leave of a memory
-pub record Laid (card : Card) (memory : List ℕ) (told : List Line) (laid : List ℕ) : Type 0 where
-  -- "each `unit` line takes (top VPI + 1) records and each `page` line (top VCI + 1) records, in line order, 8 bytes a record, from byte 0 without gaps": so record i of such a
-  -- line stands behind those of all the lines before it
-  pub records : (after : List Line) (l : Line) (before : List Line) → told ≡ after ++ (l ∷ before) → (o : Opening) → opens l ≡ some o → (i : ℕ) → i ≤ o .top →
-      part laid (8 * (total before + i)) 8 ≡ bytesOf card (recordOf told (o .whose) i)
-  -- "All other bytes are zero, so are all bytes past the last record up to 262,144 or the memory's end": those of a record are `record: bytesOf`
-  pub past : (at : ℕ) → 8 * total told ≤ at → at < min (length memory) 262144 → getD laid at 0 ≡ 0
-  -- "later bytes are untouched"
-  pub later : (at : ℕ) → 262144 ≤ at → getD laid at 0 ≡ getD memory at 0
-  pub long : length laid ≡ length memory
-
--- a unit without a cell
-pub record NoCell (u : U.Unit) : Type 0 where
-  pub inlet : u .inlet .count ≡ 0
-  pub outlet : (q : ℕ) → queue (u .outlet) q .count ≡ 0
+    Emptied memory store rows (loaded card text memory store rows)
 
 -- the world after a good load of these lines
 pub record Fresh (card : Card) (memory store : List ℕ) (rows : List C.Counters) (told : List Line) (w : World) : Type 0 where
-  pub shelf-told : w .shelf ≡ shelfOf told
+  pub shelf-opened : Opened told (w .shelf)
   pub memory-laid : Laid card memory told (w .memory)
   pub store-kept : w .store ≡ store
   -- "A good load zeroes its rows and starts with all queues empty."; "rows beyond the declared units are untouched"
-  pub rows-zeroed : w .rows ≡ replicate (shelfOf told .count) zero ++ drop (shelfOf told .count) rows
-  pub queues-empty : (i : ℕ) → NoCell (unitAt (w .shelf) i)
+  pub rows-zeroed : w .rows ≡ replicate (unitLines told) zeroRow ++ drop (unitLines told) rows
 
 -- what it answers is `TableLoadedIff`
 abbrev pub GoodLoad : Type 0

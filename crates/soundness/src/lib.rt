@@ -25,7 +25,7 @@ fn roomy(bus: u8, count: u8, store: usize, rows: usize) -> bool
     ensures { λ r. ⌜ r ≡ roomyIn bus count store rows ⌝ }
 {
     let units = count as usize;
-    ((bus == 16) | (bus == 32)) & (count <= 32) & (8192 * units <= store) & (units <= rows)
+    ((bus == 16) | (bus == 32)) & (count <= 32) & (store::PART * units <= store) & (units <= rows)
 }
 
 // Whether a unit's number, settings, counts and positions are such as they can be.

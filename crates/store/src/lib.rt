@@ -1,6 +1,7 @@
 // Where queued cells stand in the lent store: a unit's part, its slots, the rings of slots; and the steps of a ring.
 use outlet::Limits;
 use outlet::Mode;
+use outlet::Outlet;
 use outlet::Ring;
 ghost use mathlib.Core.Path.{_≡_};
 ghost use Prim.Native.Nat.{_+_, _-_, _<_, _≤_, min};
@@ -15,8 +16,12 @@ pub const CELL: usize = 56;
 // The bytes of a unit's part of the store.
 pub const PART: usize = 8192;
 
-// The first slot of the inlet.
-const INLET_START: u16 = 123;
+// The first slots of CBR and of ABR in mode four, and of the inlet.
+const CBR_START: u16 = Outlet::CONTROL as u16;
+
+const ABR_START: u16 = (Outlet::CONTROL + Outlet::SHARED) as u16;
+
+const INLET_START: u16 = Outlet::ONE as u16;
 
 // Where the part of the unit in a place starts.
 pub fn part_of(place: usize) -> usize
@@ -46,9 +51,9 @@ pub fn start(limits: Limits, queue: u8) -> u16
         },
         Mode::Four => match queue {
             0 => 0,
-            1 => 2,
-            2 => 2 + (limits.cbrlength as u16),
-            3 => 91,
+            1 => CBR_START,
+            2 => CBR_START + (limits.cbrlength as u16),
+            3 => ABR_START,
             _ => INLET_START,
         },
     }

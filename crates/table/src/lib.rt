@@ -15,6 +15,9 @@ ghost use Rattle.told.specs.Lines.{done};
 ghost use Rattle.told.specs.Enact.{Places};
 ghost use Rattle.table.specs.Load.{progressBy, memoryAfter, verdictIn, progressOf, toldIn, ranOf, refusal, load as loadingOf, loaded};
 
+// The longest text that is read.
+const LONGEST: usize = 65536;
+
 // A table is loaded and uses so many bytes, or is refused with this number at this line.
 pub enum Outcome {
     Loaded(u32),
@@ -97,11 +100,11 @@ fn begin() -> Progress
 }
 
 // How much of a memory a table may use.
-fn usable(length: usize) -> usize
-    ensures { λ r. ⌜ r ≡ min length 262144 ⌝ }
+fn usable(bytes: usize) -> usize
+    ensures { λ r. ⌜ r ≡ min bytes 262144 ⌝ }
 {
-    if length < record::MOST {
-        length
+    if bytes < record::MOST {
+        bytes
     } else {
         record::MOST
     }
@@ -153,7 +156,7 @@ pub fn load(card: Card, text: &[u8], memory: &mut [u8], store: usize, rows: usiz
     ensures { λ _. ⌜ now (memory .exit) ≡ loaded card (now (text .entry)) (now (memory .entry)) store rows ⌝ }
 {
     record::clear(memory);
-    if 65536 < text.len() {
+    if LONGEST < text.len() {
         return refused(1, 0);
     }
     let p = read_lines(card, text, memory);
@@ -164,7 +167,7 @@ pub fn load(card: Card, text: &[u8], memory: &mut [u8], store: usize, rows: usiz
     }
     let shelf = p.shelf;
     let units = shelf.count as usize;
-    if (store < 8192 * units) | (rows < units) {
+    if (store < store::PART * units) | (rows < units) {
         record::clear(memory);
         return refused(7, 0);
     }

@@ -53,10 +53,10 @@ bufferAt shelf place store buffer = bufferBy (leaving (unitAt shelf place .outle
 
 -- at the unit with a number, if it is let in
 abbrev pub letIn : Card → Shelf → ℕ → ℕ → ℕ → ℕ → D.Admitted
-letIn card shelf store rows unit length = admitted card shelf store rows unit (eqb length 53)
+letIn card shelf store rows unit lent = admitted card shelf store rows unit (eqb lent 53)
 
 abbrev pub takeDone : Card → Shelf → ℕ → ℕ → ℕ → ℕ → Done
-takeDone card shelf store rows unit length = decided (letIn card shelf store rows unit length) (doneAt shelf) (refused shelf)
+takeDone card shelf store rows unit lent = decided (letIn card shelf store rows unit lent) (doneAt shelf) (refused shelf)
 
 abbrev pub takeBuffer : Card → Shelf → List ℕ → ℕ → ℕ → List ℕ → List ℕ
 takeBuffer card shelf store rows unit buffer =

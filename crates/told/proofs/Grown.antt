@@ -17,15 +17,12 @@ use Rattle.shelf.specs.declared.Settings.{Settings}
 use Rattle.line.specs.declared.Line.{Line}
 use Rattle.line.specs.declared.Line.the-variants.{Bus, Unit as L·Unit, Vp, Drop, Page, Vc, Mc}
 use Rattle.verdict.specs.declared.Verdict.the-variants.{Fine}
+pub use Rattle.outlet.proofs.Truth.{decide}
 use Rattle.told.specs.Told.{Whose, ofUnit, ofPage, same, Opening, opens, Giving, gives, only, else, topBy, topOf, total, recordOf}
 use Rattle.told.specs.Lines.{judge, Good}
 use Rattle.told.proofs.Tabulate.{some-inj, none-some, only-true, either-right}
 use Rattle.told.proofs.Regions.{same-is, both-left, both-right, start, Once}
 use Rattle.told.proofs.Fits.{AtPath, fine-unit, fine-vp, fine-drop, fine-page, fine-vc}
-
-pub decide : {P : Type 0} (b : Bool) → (b ≡ true → P) → (b ≡ false → P) → P
-decide true y n = y refl
-decide false y n = n refl
 
 pub eqb-sym : (a b : ℕ) → eqb a b ≡ eqb b a
 eqb-sym a b = decide (eqb a b) (λ t. t ∙ sym (eq-eqb b a (sym (eqb-true a b t)))) (λ n. n ∙ sym (ne-eqb b a (λ e. eqb-false a b n (sym e))))

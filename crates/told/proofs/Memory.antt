@@ -12,7 +12,8 @@ use lib.Dec.{eqb}
 use lib.ListN.{length, getD, set, drop, replicate, replicate-append-replicate}
 use borrow.Author.Tests.{leb-true, eq-eqb}
 use Rattle.routing.specs.Routing.{routing}
-use Rattle.routing.proofs.Laws.{Sayable, routing-lt}
+use Rattle.routing.specs.Routing.{Sayable}
+use Rattle.routing.proofs.Laws.{routing-lt}
 use Rattle.card.specs.Cards.{holds, narrowHolds}
 use Rattle.card.specs.declared.Card.{Card}
 use Rattle.card.specs.declared.Card.the-variants.{Narrow, Wide}

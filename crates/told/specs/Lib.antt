@@ -1,3 +1,4 @@
 pub mod Told
 pub mod Lines
 pub mod Enact
+pub mod Served

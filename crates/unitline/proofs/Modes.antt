@@ -10,10 +10,10 @@ pub length-most : (mode : Mode) → mostLength mode ≤ 88
 length-most One = omega arith
 length-most Four = le-refl 88
 
-pub limit-most : (mode : Mode) (length : ℕ) → mostLimit mode length ≤ length
-limit-most One length = omega arith
-limit-most Four length = le-refl length
+pub limit-most : (mode : Mode) (cbrlength : ℕ) → mostLimit mode cbrlength ≤ cbrlength
+limit-most One cbrlength = omega arith
+limit-most Four cbrlength = le-refl cbrlength
 
-pub vbr-most : (mode : Mode) (length : ℕ) → mostVbr mode length ≤ 123
-vbr-most One length = le-refl 123
-vbr-most Four length = omega arith
+pub vbr-most : (mode : Mode) (cbrlength : ℕ) → mostVbr mode cbrlength ≤ 123
+vbr-most One cbrlength = le-refl 123
+vbr-most Four cbrlength = omega arith

@@ -44,12 +44,12 @@ mostLength One = 0
 mostLength Four = 88
 
 abbrev pub mostLimit : Mode → ℕ → ℕ
-mostLimit One length = 0
-mostLimit Four length = length
+mostLimit One cbrlength = 0
+mostLimit Four cbrlength = cbrlength
 
 abbrev pub mostVbr : Mode → ℕ → ℕ
-mostVbr One length = 123
-mostVbr Four length = 89 - length
+mostVbr One cbrlength = 123
+mostVbr Four cbrlength = 89 - cbrlength
 
 -- its limits after the CBR limit, and after the mode
 abbrev pub limitsAfter : List (List ℕ) → Mode → ℕ → ℕ → Back

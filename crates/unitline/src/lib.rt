@@ -2,6 +2,7 @@
 use header::Link;
 use outlet::Limits;
 use outlet::Mode;
+use outlet::Outlet;
 use ranged::Num;
 use ranged::Wrong;
 use shelf::Settings;
@@ -80,29 +81,30 @@ fn most_length(mode: Mode) -> u16
 {
     match mode {
         Mode::One => 0,
-        Mode::Four => 88,
+        Mode::Four => (Outlet::SHARED - 1) as u16,
     }
 }
 
-fn most_limit(mode: Mode, length: u16) -> u16
-    ensures { λ r. ⌜ r ≡ mostLimit mode length ⌝ }
+fn most_limit(mode: Mode, cbrlength: u16) -> u16
+    ensures { λ r. ⌜ r ≡ mostLimit mode cbrlength ⌝ }
 {
     match mode {
         Mode::One => 0,
-        Mode::Four => length,
+        Mode::Four => cbrlength,
     }
 }
 
-fn most_vbr(mode: Mode, length: u16) -> u16
-    ensures { λ r. ⌜ r ≡ mostVbr mode length ⌝ }
+fn most_vbr(mode: Mode, cbrlength: u16) -> u16
+    ensures { λ r. ⌜ r ≡ mostVbr mode cbrlength ⌝ }
 {
+    let shared = Outlet::SHARED as u16;
     match mode {
-        Mode::One => 123,
+        Mode::One => Outlet::ONE as u16,
         Mode::Four => {
-            if 89 < length {
+            if shared < cbrlength {
                 return 0;
             }
-            89 - length
+            shared - cbrlength
         }
     }
 }

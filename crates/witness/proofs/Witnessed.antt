@@ -1,13 +1,13 @@
 -- The witness, computed. Assumes nothing.
-use Prim.Native.Nat.{ℕ, _*_, _≤_, min}
+use Prim.Native.Nat.{ℕ, _≤_, min}
 use native.Mathlib.Omega.{arith}
 use mathlib.Core.Path.{_≡_, refl, sym, ap, subst, _∙_}
-use mathlib.Core.Logic.{⊎-elim}
-use mathlib.Core.Bool.{true, false, cond}
+use mathlib.Core.Logic.{inl, ⊎-elim}
+use mathlib.Core.Bool.{false, cond}
 use mathlib.Core.List.{List, [], _∷_, map}
-use lib.Dec.{ltb}
 use borrow.Author.Tests.{le-leb}
 use lib.ListN.{length, getD, take, drop, replicate, length-replicate}
+use Rattle.header.specs.declared.Link.the-variants.{Uni, Nni}
 use Rattle.card.specs.Cards.{holds as card-holds, narrowHolds}
 use Rattle.card.specs.declared.Card.{Card}
 use Rattle.card.specs.declared.Card.the-variants.{Narrow, Wide}
@@ -21,25 +21,25 @@ use Rattle.judge.specs.Judge.{judgeBus, judgeUnit, judgeVp, judgeDrop, judgePag
 use Rattle.told.specs.Told.{same as same-whose, opens, gives as gives-record, hearsBy, topOf, total, recordOf, hearsIn, declare, joinAt, shelfBy, shelfOf}
 use Rattle.told.specs.Lines.{judge, run, Good}
 use Rattle.table.specs.declared.Outcome.the-variants as outcome
-use Rattle.line.specs.declared.Line.{Line}
-use Rattle.line.specs.declared.Line.the-variants.{Bus, Unit as L·Unit, Vp, Drop, Page, Vc, Mc}
+use Rattle.line.specs.declared.Line.the-variants.{Bus}
 use Rattle.told.proofs.Grown.{decide}
-use Rattle.promise.specs.Narrow.{tooWide, FirstWide}
+use Rattle.promise.specs.Narrow.{FirstWide}
 use Rattle.promise.proofs.Cards.{narrow-refuses-iff}
 use Rattle.running.specs.Refusing.{known, fits, refusal}
 use Rattle.running.proofs.Refused.{refusal-changes-nothing}
-use Rattle.table.specs.Load.{readingsOf, isLong, ranOf, loadingOf, load}
+use Rattle.table.specs.Load.{readingsOf, ranOf, loadingOf, load}
 use Rattle.counters.specs.declared.Counters as C
-use Rattle.answer.specs.declared.Answer.the-variants.{Loaded, Unloaded, Refused}
+use Rattle.answer.specs.Answers.{numberOf, valuesOf}
+use Rattle.answer.specs.declared.Answer.the-variants.{Refused}
 use Rattle.loading.specs.Loads.{answerOf}
 use Rattle.outlet.specs.Outlets.{capacity, given, ringFits, queueFits, ringsFit}
 use Rattle.soundness.specs.State.{every, among, noneRepeated, roomy, settingsGiven, asksKnown, arbiterKnown, soundOf}
 use Rattle.soundness.proofs.Facts.{sound-iff}
-use Rattle.shelf.specs.Shelves.{declared, fresh, findIn, placeFrom}
-use Rattle.shelf.specs.declared.Shelf.{Shelf}
-use Rattle.shelf.specs.declared.Found.{Found}
-use Rattle.shelf.specs.declared.Found.the-variants.{At, Nothing}
-use Rattle.promise.specs.Refusals.{linesOf, readThen, Accepts}
+use Rattle.shelf.specs.Shelves.{fresh}
+use Rattle.wording.specs.Words.{numeralTo, numeral, fieldsOf, parted, wordsOf, textOf, AllInRange}
+use Rattle.promise.specs.Says.{recordsOf, unitLines}
+use Rattle.promise.specs.Refusals.{Long, Accepts}
+use Rattle.promise.proofs.Faults.{good-iff}
 use Rattle.promise.specs.Starred.{path}
 use Rattle.promise.proofs.Refusals.{accepted, refused, either-way}
 use Rattle.document.specs.Events.{Event, Said, answers}
@@ -47,16 +47,26 @@ use Rattle.document.specs.Shelf.{opened}
 use Rattle.document.specs.Examples as X
 use Rattle.document.specs.Cases.{table}
 use Rattle.document.proofs.Examples.{listing as document-listing}
-use Rattle.document.proofs.Cases.{arrivals-hold, heard-holds, discards-hold, frames-hold, refusals-hold}
+use Rattle.document.proofs.Cases.{arrivals-hold, heard-holds, discards-hold, abr-holds, frames-hold, refusals-hold}
 use Rattle.refining.proofs.Refined.{refines}
-use Rattle.running.specs.Tables.{answerTo}
-use Rattle.witness.specs.Witness.{listing, ListingPrints, text, saidTo, Runs, AllRun, Refusals, Spoiled, spoiled, BeyondLoaded}
+use Rattle.paper.specs.Answers.{IsRefused}
+use Rattle.running.proofs.Opened.{told-idle}
+use Rattle.running.proofs.Tables.{table-refused, table-refused-iff, table-loaded-iff}
+use Rattle.witness.specs.Witness.{listing, ListingPrints, text, saidTo, Runs, AllRun, Refusals, Spoiled, spoiled, BeyondLoaded, bus-text, BusAlone}
 
 -- A. 01's listing
--- its text is read as its lines
-listing-read : linesOf listing ≡ readThen X.table []
-unfolding linesOf readThen listing X.table split same-word digit digits plain decimalOf value ranged aimOf busLine settingsOn settingsOf limitsIn limitsOf unitLine keyOf wayOf vpLine dropLine pageLine vcOn vcLine mcLine lineOf wordOf spoken readingOf readingsOf
-listing-read = refl
+-- its text is that of its lines, in their ranges
+listing-text : listing ≡ textOf X.table
+unfolding listing X.table textOf wordsOf parted fieldsOf numeral numeralTo
+listing-text = refl
+
+listing-ranged : AllInRange X.table
+unfolding X.table
+listing-ranged = (omega arith, (omega arith, (omega arith, (omega arith, (inl refl, tt)))))
+
+listing-some : X.table ≡ [] → ⊥
+unfolding X.table
+listing-some e = let z : _≡_ {A = ℕ} 0 1 = cc in omega arith
 
 -- each is good after those before it, on either card, in any room for 328 bytes
 listing-good : (card : Card) (room : ℕ) → 328 ≤ room → Good card room X.table
@@ -64,34 +74,74 @@ unfolding X.table judge judgeBus judgeUnit judgeVp judgeDrop judgePage judgeVc j
 listing-good Narrow room h = (refl, (rw (le-leb 328 room h), (rw (le-leb 56 room (omega arith)), (rw (le-leb 48 room (omega arith)), (refl, tt)))))
 listing-good Wide room h = (refl, (rw (le-leb 328 room h), (rw (le-leb 56 room (omega arith)), (rw (le-leb 48 room (omega arith)), (refl, tt)))))
 
-listing-units : shelfOf X.table .count ≡ 2
-unfolding X.table opens total declare joinAt shelfBy shelfOf findIn placeFrom
+listing-units : unitLines X.table ≡ 2
+unfolding X.table unitLines
 listing-units = refl
 
-listing-total : total X.table ≡ 41
-unfolding X.table opens total
-listing-total = refl
+listing-records : recordsOf X.table ≡ 41
+unfolding X.table recordsOf
+listing-records = refl
 
 pub listing-prints : ListingPrints
-unfolding answerOf listing
+unfolding listing
 listing-prints card memory store rows m s r =
     let a : Accepts card listing memory (length store) (length rows) X.table =
     record {
       short = (let l : length listing ≡ 99 = refl in omega arith);
-      fine = record { all = listing-read; good = listing-good card (usable memory) (omega arith) };
+      fine = record {
+        some = listing-some;
+        all = listing-text;
+        ranged = listing-ranged;
+        faultless = good-iff card memory X.table .0 (listing-good card (usable memory) (omega arith));
+      };
       store-enough = omega (arith, listing-units);
       rows-enough = omega (arith, listing-units);
     } in
     record {
-      load = ap (λ x. answerOf (x .outcome)) (accepted card listing memory (length store) (length rows) X.table a .0) ∙ ap (λ n. Loaded (8 * n)) listing-total;
+      load = table-loaded-iff card listing memory (length store) (length rows) 328 .1 (X.table, a, omega (arith, listing-records));
       print = refines card listing memory store rows X.table a X.events ∙ document-listing;
     }
 
+-- a table of the `bus` line alone
+bus-said : bus-text ≡ textOf (Bus 16 ∷ [])
+unfolding textOf wordsOf parted fieldsOf numeral numeralTo
+bus-said = refl
+
+bus-good : (card : Card) (room : ℕ) → Good card room (Bus 16 ∷ [])
+unfolding judge judgeBus card-holds narrowHolds
+bus-good Narrow room = (refl, tt)
+bus-good Wide room = (refl, tt)
+
+bus-some : Bus 16 ∷ [] ≡ [] → ⊥
+bus-some e = let z : _≡_ {A = ℕ} 0 1 = cc in omega arith
+
+pub bus-alone : BusAlone
+unfolding unitLines recordsOf
+bus-alone card memory store rows =
+    table-loaded-iff card bus-text memory store rows 0 .1 (
+      Bus 16 ∷ [],
+      record {
+        short = omega arith;
+        fine = record { some = bus-some; all = bus-said; ranged = (inl refl, tt); faultless = good-iff card memory (Bus 16 ∷ []) .0 (bus-good card (usable memory)) };
+        store-enough = omega arith;
+        rows-enough = omega arith;
+      },
+      refl,
+    )
+
 -- B. a table for every fate
--- the text is read as the table's lines
-read : linesOf text ≡ readThen table []
-unfolding linesOf readThen text table split same-word digit digits plain decimalOf value ranged aimOf busLine settingsOn settingsOf limitsIn limitsOf unitLine keyOf wayOf vpLine dropLine pageLine vcOn vcLine mcLine lineOf wordOf spoken readingOf readingsOf
-read = refl
+-- the text is that of the table's lines, in their ranges
+text-is : text ≡ textOf table
+unfolding text table textOf wordsOf parted fieldsOf numeral numeralTo
+text-is = refl
+
+ranges : AllInRange table
+unfolding table
+ranges = (omega arith, (omega arith, (omega arith, (omega arith, (omega arith, (omega arith, (omega arith, (omega arith, (omega arith, (omega arith, (omega arith, (omega arith, (inl refl, tt)))))))))))))
+
+some : table ≡ [] → ⊥
+unfolding table
+some e = let z : _≡_ {A = ℕ} 0 1 = cc in omega arith
 
 -- each is good after those before it, in a memory of 2,736 bytes
 good : Good Wide 2736 table
@@ -99,8 +149,8 @@ unfolding table judge judgeBus judgeUnit judgeVp judgeDrop judgePage judgeVc jud
 good = (refl, (refl, (refl, (refl, (refl, (refl, (refl, (refl, (refl, (refl, (refl, (refl, (refl, tt)))))))))))))
 
 -- and there is room for all of them
-units : shelfOf table .count ≡ 3
-unfolding table opens total declare joinAt shelfBy shelfOf findIn placeFrom
+units : unitLines table ≡ 3
+unfolding table unitLines
 units = refl
 
 accepts : (memory : List ℕ) → length memory ≡ 2736 → Accepts Wide text memory 24576 3 table
@@ -108,7 +158,12 @@ unfolding text
 accepts memory m =
     record {
       short = (let l : length text ≡ 211 = refl in omega arith);
-      fine = record { all = read; good = subst (λ n. Good Wide n table) (sym (ap (λ n. min n most) m)) good };
+      fine = record {
+        some = some;
+        all = text-is;
+        ranged = ranges;
+        faultless = good-iff Wide memory table .0 (subst (λ n. Good Wide n table) (sym (ap (λ n. min n most) m)) good);
+      };
       store-enough = omega (arith, units);
       rows-enough = omega (arith, units);
     }
@@ -120,18 +175,19 @@ module _ (memory store : List ℕ) (rows : List C.Counters) (m : length memory �
   says : (es : List Event) (said : List Said) → map (λ b. b .said) (Rattle.document.specs.Steps.gives (opened table) es) ≡ said → saidTo memory store rows es ≡ said
   says es said e = ap (map (λ b. b .said)) (refines Wide text memory store rows table accepted-here es) ∙ e
 
-  total-is : total table ≡ 342
-  unfolding table opens total
-  total-is = refl
+  records-are : recordsOf table ≡ 342
+  unfolding table recordsOf
+  records-are = refl
 
   all-runs : Runs memory store rows
-  unfolding Rattle.document.specs.Cases.says answerOf
+  unfolding Rattle.document.specs.Cases.says
   all-runs =
       record {
-        load = ap (λ x. answerOf (x .outcome)) (accepted Wide text memory (length store) (length rows) table accepted-here .0) ∙ ap (λ n. Loaded (8 * n)) total-is;
+        load = table-loaded-iff Wide text memory (length store) (length rows) 2736 .1 (table, accepted-here, omega (arith, records-are));
         arrive = says _ _ arrivals-hold;
         hear = says _ _ heard-holds;
         discard = says _ _ discards-hold;
+        take = says _ _ abr-holds;
         send = says _ _ frames-hold;
         refuse = says _ _ refusals-hold;
       }
@@ -139,23 +195,23 @@ module _ (memory store : List ℕ) (rows : List C.Counters) (m : length memory �
 pub all-run : AllRun
 all-run = all-runs
 
-long-text : (t : List ℕ) → isLong t ≡ true → answerTo Wide t [] 0 0 ≡ Unloaded 1 0
-unfolding load answerOf
-long-text t e = rw e refl
-
-long : isLong (replicate 65537 0) ≡ true
-long = ap (ltb 65536) (length-replicate {A = ℕ} 65537 0)
+-- C. each refusal
+long : Long (replicate 65537 0) 1 0
+long = let n = length-replicate {A = ℕ} 65537 0 in record { long = omega arith; number-is = refl; line-is = refl }
 
 -- the fourth line asks for an NNI link, and none before it is too wide
+uni : Uni ≡ Nni → ⊥
+uni e = let z : _≡_ {A = ℕ} 0 1 = cc in omega arith
+
 first-wide : FirstWide table 4
-unfolding table tooWide narrowHolds
+unfolding table
 first-wide =
     record {
       before = drop 10 table;
       it = getD table 9 (Bus 16);
       after = take 9 table;
       all = refl;
-      none-before = (refl, (refl, (refl, tt)));
+      none-before = (uni, (uni, (λ e. omega arith, tt)));
       wide = refl;
       counted = refl;
     }
@@ -165,16 +221,16 @@ narrow-wide =
     narrow-refuses-iff text (replicate 2736 0) 24576 3 table (accepts (replicate 2736 0) (length-replicate {A = ℕ} 2736 0)) 4 .0 first-wide
 
 pub refusals : Refusals
-unfolding text path answerOf split same-word digit digits plain decimalOf value ranged aimOf busLine settingsOn settingsOf limitsIn limitsOf unitLine keyOf wayOf vpLine dropLine pageLine vcOn vcLine mcLine lineOf wordOf spoken readingOf readingsOf judge judgeBus judgeUnit judgeVp judgeDrop judgePage judgeVc judgeMc card-holds narrowHolds same-whose opens gives-record hearsBy topOf total recordOf hearsIn declare joinAt shelfBy shelfOf run ranOf loadingOf load
+unfolding text path answerOf numberOf valuesOf split same-word digit digits plain decimalOf value ranged aimOf busLine settingsOn settingsOf limitsIn limitsOf unitLine keyOf wayOf vpLine dropLine pageLine vcOn vcLine mcLine lineOf wordOf spoken readingOf readingsOf judge judgeBus judgeUnit judgeVp judgeDrop judgePage judgeVc judgeMc card-holds narrowHolds same-whose opens gives-record hearsBy topOf total recordOf hearsIn declare joinAt shelfBy shelfOf run ranOf loadingOf load
 refusals =
     record {
-      long = long-text (replicate 65537 0) long;
-      form = refl;
-      order = refl;
-      twice = refl;
-      wide = ap answerOf narrow-wide;
-      room = refl;
-      store = refl;
+      long = table-refused-iff Wide (replicate 65537 0) [] 0 0 1 0 .1 (inl long);
+      form = (omega arith, refl, refl);
+      order = (omega arith, refl, refl);
+      twice = (omega arith, refl, refl);
+      wide = subst (λ o. IsRefused (answerOf o) 5 4) (sym narrow-wide) (table-refused 5 4 (omega arith));
+      room = (omega arith, refl, refl);
+      store = (omega arith, refl, refl);
     }
 
 -- no bus has 17 units
@@ -190,26 +246,10 @@ spoiled-state card e =
     ap (λ o. o .said) (refusal-changes-nothing card spoiled e (λ z. omega (arith, z, eight))) ∙ ap (λ n. answers (Refused n)) eight
 
 -- a shelf that was loaded has no frame behind it
-joined-frame : (shelf : Shelf) (f : Found) (session : ℕ) → joinAt shelf f session .frame ≡ shelf .frame
-unfolding joinAt
-joined-frame shelf (At i) session = refl
-joined-frame shelf Nothing session = refl
-
-shelf-frame : (told : List Line) → shelfOf told .frame ≡ 0
-unfolding shelfOf shelfBy declare
-shelf-frame [] = refl
-shelf-frame (Bus bus ∷ told) = refl
-shelf-frame (L·Unit settings limits ∷ told) = shelf-frame told
-shelf-frame (Vp u v target class outvpi ∷ told) = shelf-frame told
-shelf-frame (Drop u v ∷ told) = shelf-frame told
-shelf-frame (Page u v top ∷ told) = shelf-frame told
-shelf-frame (Vc u v w target class outvpi outvci ∷ told) = shelf-frame told
-shelf-frame (Mc u session ∷ told) = joined-frame (shelfOf told) (findIn (declared (shelfOf told)) u) session ∙ shelf-frame told
-
 loaded-frame : (card : Card) (text memory : List ℕ) (store rows : ℕ) → load card text memory store rows .shelf .frame ≡ 0
 loaded-frame card text memory store rows =
     ⊎-elim
-    (λ a. ap (λ x. x .shelf .frame) (accepted card text memory store rows (a .0) (a .1) .0) ∙ shelf-frame (a .0))
+    (λ a. ap (λ x. x .shelf .frame) (accepted card text memory store rows (a .0) (a .1) .0) ∙ ap (λ x. x .frame) (told-idle (a .0)))
     (λ r. ap (λ x. x .shelf .frame) (refused card text memory store rows (r .0) (r .1) (r .2) .0))
     (either-way card text memory store rows)
 

@@ -14,13 +14,14 @@ use Rattle.shelf.specs.declared.Shelf.{Shelf}
 use Rattle.soundness.specs.State.{soundOf}
 use Rattle.table.specs.Load.{load}
 use Rattle.counters.specs.declared.Counters as C
-use Rattle.answer.specs.declared.Answer.the-variants.{Loaded, Unloaded, Refused}
+use Rattle.answer.specs.declared.Answer.the-variants.{Refused}
 use Rattle.promise.specs.Starred.{path}
 use Rattle.document.specs.Events.{Event, Said, answers}
 use Rattle.document.specs.Examples.{events, printed}
-use Rattle.document.specs.Cases.{arrivals, arrivals-say, refusals, refusals-say, frames, frames-say, heard, heard-say, discards, discards-say}
+use Rattle.document.specs.Cases.{arrivals, arrivals-say, refusals, refusals-say, frames, frames-say, heard, heard-say, discards, discards-say, abr, abr-say}
 use Rattle.running.specs.Events.{World, happens}
 use Rattle.running.specs.Keeping.{loaded}
+use Rattle.paper.specs.Answers.{IsOk, IsRefused}
 use Rattle.running.specs.Tables.{answerTo}
 use Rattle.refining.specs.Refines.{gives}
 
@@ -37,7 +38,7 @@ listing =
 -- "This table and these events .. print": on both cards, which have no line that is too wide here, and whatever a memory for its 41 records, a store for its two units and two rows, or more
 -- of each, held before. So a cell is routed, sent, heard and taken, with its bytes; then the queue is empty, and both are counted
 pub record Listing (card : Card) (memory store : List ℕ) (rows : List C.Counters) : Type 0 where
-  pub load : answerTo card listing memory (length store) (length rows) ≡ Loaded 328
+  pub load : IsOk (answerTo card listing memory (length store) (length rows)) 328
   pub print : gives card (loaded card listing memory store rows) events ≡ printed
 
 abbrev pub ListingPrints : Type 0
@@ -66,18 +67,26 @@ text =
 abbrev pub saidTo : List ℕ → List ℕ → List C.Counters → List Event → List Said
 saidTo memory store rows es = map (λ b. b .said) (gives Wide (loaded Wide text memory store rows) es)
 
--- every fate of an arrival (`arrivals`), every fate of a copy (`heard`, `discards`), Unit and Length (`refusals`), sent, heard and unheard cells (`frames`): whatever a
+-- every fate of an arrival (`arrivals`), every fate of a copy (`heard`, `discards`), an ABR cell taken (`abr`), Unit and Length (`refusals`), sent, heard and unheard cells (`frames`): whatever a
 -- memory for its 342 records, a store for its three units and three rows held before
 pub record Runs (memory store : List ℕ) (rows : List C.Counters) : Type 0 where
-  pub load : answerTo Wide text memory (length store) (length rows) ≡ Loaded 2736
+  pub load : IsOk (answerTo Wide text memory (length store) (length rows)) 2736
   pub arrive : saidTo memory store rows arrivals ≡ arrivals-say
   pub hear : saidTo memory store rows heard ≡ heard-say
   pub discard : saidTo memory store rows discards ≡ discards-say
+  pub take : saidTo memory store rows abr ≡ abr-say
   pub send : saidTo memory store rows frames ≡ frames-say
   pub refuse : saidTo memory store rows refusals ≡ refusals-say
 
 abbrev pub AllRun : Type 0
 AllRun = (memory store : List ℕ) (rows : List C.Counters) → length memory ≡ 2736 → length store ≡ 24576 → length rows ≡ 3 → Runs memory store rows
+
+-- "A table of the `bus` line alone is good.": on either card, whatever room there is; it uses no byte of the memory
+abbrev pub bus-text : List ℕ
+bus-text = 98 ∷ 117 ∷ 115 ∷ 9 ∷ 49 ∷ 54 ∷ 10 ∷ []
+
+abbrev pub BusAlone : Type 0
+BusAlone = (card : Card) (memory : List ℕ) (store rows : ℕ) → IsOk (answerTo card bus-text memory store rows) 0
 
 -- each refusal of a table: Long; Form of the empty text; Order of a table that begins with an `mc` line; Twice; Wide on the narrow card, at the fourth line of the table above; Room;
 -- Store. `path` is bus 16 / unit 0 .. / vp 0 0 b 0 with these digits
@@ -85,13 +94,13 @@ abbrev pub five : List ℕ
 five = path (53 ∷ [])
 
 pub record Refusals : Type 0 where
-  pub long : answerTo Wide (replicate 65537 0) [] 0 0 ≡ Unloaded 1 0
-  pub form : answerTo Wide [] [] 0 0 ≡ Unloaded 2 1
-  pub order : answerTo Wide (109 ∷ 99 ∷ 9 ∷ 48 ∷ 9 ∷ 48 ∷ 10 ∷ []) [] 0 0 ≡ Unloaded 3 1
-  pub twice : answerTo Wide (five ++ (118 ∷ 112 ∷ 9 ∷ 48 ∷ 9 ∷ 48 ∷ 9 ∷ 98 ∷ 9 ∷ 48 ∷ 9 ∷ 53 ∷ 10 ∷ [])) (replicate 8 0) 8192 1 ≡ Unloaded 4 4
-  pub wide : answerTo Narrow text (replicate 2736 0) 24576 3 ≡ Unloaded 5 4
-  pub room : answerTo Wide five [] 8192 1 ≡ Unloaded 6 2
-  pub store : answerTo Wide five (replicate 8 0) 0 1 ≡ Unloaded 7 0
+  pub long : IsRefused (answerTo Wide (replicate 65537 0) [] 0 0) 1 0
+  pub form : IsRefused (answerTo Wide [] [] 0 0) 2 1
+  pub order : IsRefused (answerTo Wide (109 ∷ 99 ∷ 9 ∷ 48 ∷ 9 ∷ 48 ∷ 10 ∷ []) [] 0 0) 3 1
+  pub twice : IsRefused (answerTo Wide (five ++ (118 ∷ 112 ∷ 9 ∷ 48 ∷ 9 ∷ 48 ∷ 9 ∷ 98 ∷ 9 ∷ 48 ∷ 9 ∷ 53 ∷ 10 ∷ [])) (replicate 8 0) 8192 1) 4 4
+  pub wide : IsRefused (answerTo Narrow text (replicate 2736 0) 24576 3) 5 4
+  pub room : IsRefused (answerTo Wide five [] 8192 1) 6 2
+  pub store : IsRefused (answerTo Wide five (replicate 8 0) 0 1) 7 0
 
 -- State: a bus of 17
 abbrev pub spoiled : World

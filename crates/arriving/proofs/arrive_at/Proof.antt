@@ -5,6 +5,7 @@ use mathlib.Core.Path.{_≡_, sym, ap, subst, _∙_}
 use Rattle.octets.specs.Octets.{splice}
 use Rattle.outlet.specs.Outlets.{RingFits}
 use Rattle.store.specs.Places.{slotAt, inletSlot, putAt}
+use native.Mathlib.Omega.{arith}
 use lib.ListN.{length}
 use Rattle.outlet.proofs.Laws.{length-mapped}
 use Rattle.admit.specs.Admission.{unitAt}
@@ -27,14 +28,14 @@ element-copy-out-unit c = search needs
 way-of-requires : tie.Need-way-of-requires
 way-of-requires c κs = search needs
 
+fate-by-requires : tie.Need-fate-by-requires
+fate-by-requires c κs = search needs
+
 enum-known-way : tie.Need-enum-known-way
 enum-known-way c = search needs
 
 enum-told : tie.Need-enum-told
 enum-told c = search needs
-
-lost-requires : tie.Need-lost-requires
-lost-requires c κs = search needs
 
 arrived-requires : tie.Need-arrived-requires
 arrived-requires c κs = search needs
@@ -46,10 +47,10 @@ returns c =
     let u = copied (a .t2) (a .place) (long (c .before .before .before .before .before .before .before .before .before)) (h .below) in
     let w = (c .before .before .before .before .way-of .ensures ∙ ap (λ x. wayOf (a .card) x (a .memory .now) (a .cell .now)) u) in (
       c .arrived .ensures
-          ∙ ap (arrived (a .t2) (a .place)) (c .before .lost .ensures)
-          ∙ lost-done (a .t2) (a .place) _ u (a .store .now) (a .cell .now) _ _ (c .before .before .enum-told .given .1)
+          ∙ ap (arrived (a .t2) (a .place)) (c .before .before .before .fate-by .ensures)
+          ∙ lost-done (a .t2) (a .place) _ u (a .store .now) (a .cell .now) _ _ (c .before .enum-told .given .1)
           ∙ ap (λ x. doneBy x (a .t2) (a .place)) w,
-      lost-store (a .t2) (a .place) _ u (a .store .now) (a .cell .now) _ _ (c .before .before .enum-told .given .1)
+      lost-store (a .t2) (a .place) _ u (a .store .now) (a .cell .now) _ _ (c .before .enum-told .given .1)
           ∙ ap (λ x. storeBy x (unitAt (a .t2) (a .place)) (a .place) (a .store .now) (a .cell .now)) w,
     )
 
@@ -58,10 +59,10 @@ arrived-requires-2 c κs = search needs
 
 returns-2 : tie.Need-returns-2
 returns-2 c =
-    let a = c .before .before .before .before .before .before .before .before .before .before .before .before .args in
-    let h = c .before .before .before .before .before .before .before .before .before .before .before .before .pre .1 in
-    let u = copied (a .t2) (a .place) (long (c .before .before .before .before .before .before .before .before .before .before .before .before)) (h .below) in
-    let w = (c .before .before .before .before .before .before .before .way-of .ensures ∙ ap (λ x. wayOf (a .card) x (a .memory .now) (a .cell .now)) u) in (
+    let a = c .before .before .before .before .before .before .before .before .before .before .before .before .before .args in
+    let h = c .before .before .before .before .before .before .before .before .before .before .before .before .before .pre .1 in
+    let u = copied (a .t2) (a .place) (long (c .before .before .before .before .before .before .before .before .before .before .before .before .before)) (h .below) in
+    let w = (c .before .before .before .before .before .before .before .before .way-of .ensures ∙ ap (λ x. wayOf (a .card) x (a .memory .now) (a .cell .now)) u) in (
       c .arrived2 .ensures
           ∙ full-done (a .t2) (a .place) _ u (a .store .now) (a .cell .now) _ _ _ (c .before .before .before .before .before .way .given .1) (c .before .if1 .taken)
           ∙ ap (λ x. doneBy x (a .t2) (a .place)) w,
@@ -95,9 +96,9 @@ slice-aggregate-put-cell c = search needs
 
 put-cell-requires : tie.Need-put-cell-requires
 put-cell-requires c κs =
-    let a = c .before .before .before .before .before .before .before .before .before .before .before .before .before .before .before .before .before .before .before .args in
-    let h = c .before .before .before .before .before .before .before .before .before .before .before .before .before .before .before .before .before .before .before .pre .1 in
-    let u = copied (a .t2) (a .place) (long (c .before .before .before .before .before .before .before .before .before .before .before .before .before .before .before .before .before .before .before)) (h .below) in (
+    let a = c .before .before .before .before .before .before .before .before .before .before .before .before .before .before .before .before .before .before .before .before .args in
+    let h = c .before .before .before .before .before .before .before .before .before .before .before .before .before .before .before .before .before .before .before .before .pre .1 in
+    let u = copied (a .t2) (a .place) (long (c .before .before .before .before .before .before .before .before .before .before .before .before .before .before .before .before .before .before .before .before)) (h .below) in (
       search needs,
       subst (λ n. n + 56 ≤ length (a .store .now)) (sym (c .before .inlet-at .ensures ∙ ap (λ p. slotAt (a .place) (inletSlot p)) (c .before .before .before .tail .ensures))) (inlet-inside (a .place) (length (a .store .now)) _ (h .inside) (subst (λ x. RingFits (x .inlet) 4) (sym u) (h .inlet)) (c .before .before .before .before .before .before .before .before .if1 .left)),
     )
@@ -106,13 +107,13 @@ pushed-requires : tie.Need-pushed-requires
 pushed-requires c κs = search needs
 
 mul-unit-2 : tie.Need-mul-unit-2
-mul-unit-2 c = search needs
+mul-unit-2 c = let below = c .before .before .before .before .before .before .before .before .before .before .before .before .before .before .before .before .before .before .before .before .before .before .before .before .pre .1 .below in omega arith
 
 element-set-from-unit : tie.Need-element-set-from-unit
-element-set-from-unit c = search needs
+element-set-from-unit c = let below = c .before .before .before .before .before .before .before .before .before .before .before .before .before .before .before .before .before .before .before .before .before .before .before .before .pre .1 .below in omega arith
 
 arrived-requires-3 : tie.Need-arrived-requires-3
-arrived-requires-3 c κs = search needs
+arrived-requires-3 c κs = c .before .before .before .before .before .before .before .before .before .before .before .before .before .before .before .before .before .before .before .before .before .before .before .before .pre .1 .below
 
 same-length : tie.Need-same-length
 same-length c = search needs
@@ -120,11 +121,11 @@ same-length c = search needs
 returns-3 : tie.Need-returns-3
 unfolding putAt
 returns-3 c =
-    let a = c .before .before .before .before .before .before .before .before .before .before .before .before .before .before .before .before .before .before .before .before .before .before .before .before .args in
-    let h = c .before .before .before .before .before .before .before .before .before .before .before .before .before .before .before .before .before .before .before .before .before .before .before .before .pre .1 in
-    let u = copied (a .t2) (a .place) (long (c .before .before .before .before .before .before .before .before .before .before .before .before .before .before .before .before .before .before .before .before .before .before .before .before)) (h .below) in
-    let w = (c .before .before .before .before .before .before .before .before .before .before .before .before .before .before .before .before .before .before .before .way-of .ensures ∙ ap (λ x. wayOf (a .card) x (a .memory .now) (a .cell .now)) u) in (
-      c .arrived3 .ensures
+    let a = c .before .before .before .before .before .before .before .before .before .before .before .before .before .before .before .before .before .before .before .before .before .before .before .before .before .args in
+    let h = c .before .before .before .before .before .before .before .before .before .before .before .before .before .before .before .before .before .before .before .before .before .before .before .before .before .pre .1 in
+    let u = copied (a .t2) (a .place) (long (c .before .before .before .before .before .before .before .before .before .before .before .before .before .before .before .before .before .before .before .before .before .before .before .before .before)) (h .below) in
+    let w = (c .before .before .before .before .before .before .before .before .before .before .before .before .before .before .before .before .before .before .before .before .way-of .ensures ∙ ap (λ x. wayOf (a .card) x (a .memory .now) (a .cell .now)) u) in (
+      c .arrived3 .ensures ∙ ap (arrived _ (a .place)) (c .before .before .before .before .before .before .before .before .before .before .before .before .before .before .before .before .before .before .before .fate-by .ensures)
           ∙ queued-done (a .t2) (a .place) _ u (a .store .now) (a .cell .now) _ _ _ (c .before .before .before .before .before .before .before .before .before .before .before .before .before .before .before .before .before .way .given .1) _ (c .before .pushed .ensures) (c .before .before .before .before .before .before .before .before .before .before .before .before .before .if1 .left) ∙ ap (λ x. doneBy x (a .t2) (a .place)) w,
       c .before .before .before .before .put-cell .ensures ∙ (λ i. splice (a .store .now) ((c .before .before .before .before .before .before .inlet-at .ensures ∙ ap (λ p. slotAt (a .place) (inletSlot p)) (c .before .before .before .before .before .before .before .before .tail .ensures)) i) (c .before .before .before .before .before .before .before .before .before .before .compose .ensures i))
           ∙ queued-store (a .t2) (a .place) _ u (a .store .now) (a .cell .now) _ _ _ (c .before .before .before .before .before .before .before .before .before .before .before .before .before .before .before .before .before .way .given .1) (c .before .before .before .before .before .before .before .before .before .before .before .before .before .if1 .left) ∙ ap (λ x. storeBy x (unitAt (a .t2) (a .place)) (a .place) (a .store .now) (a .cell .now)) w,
@@ -137,9 +138,9 @@ arrive-at-spec =
     mul-unit
     element-copy-out-unit
     way-of-requires
+    fate-by-requires
     enum-known-way
     enum-told
-    lost-requires
     arrived-requires
     returns
     arrived-requires-2

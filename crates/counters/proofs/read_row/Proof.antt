@@ -42,8 +42,8 @@ use Rattle.counters.proofs.Calls.{Of, calls-plain}
 use Rattle.counters.proofs.Row as R
 use Rattle.counters.proofs.Counters as T
 use Rattle.counters.proofs.Counters.Laws as T′
-use Rattle.counters.specs.Counting.{zero}
-use Rattle.counters.proofs.Counters.zero as zeros
+use Rattle.counters.specs.Counting.{zeros}
+use Rattle.counters.proofs.Counters.zero as zeros-fn
 use Rattle.counters.proofs.Counters.zero.Symbol as zeros-def
 use Rattle.counters.proofs.Counters.zero.Symbol.{name as #zeros}
 use Rattle.counters.proofs.Counters.zero.Met as zeros-thm
@@ -64,7 +64,7 @@ slice = sliceTy (tyRef (named 0) imm (pointee (T.the-row .written)))
 
 module _ {M : Type 1} (𝓤 : URA M) (H : Heap 𝓤) (A : Atoms 𝓤) (mem : Memory → SProp 𝓤) (run : Routine → Fun 𝓤) where
   abbrev Zeros : Contract 𝓤
-  Zeros = Of 𝓤 H A zeros.ended (zeros.clauses 𝓤 H A mem run)
+  Zeros = Of 𝓤 H A zeros-fn.ended (zeros-fn.clauses 𝓤 H A mem run)
 
 module _ {M : Type 1} (𝓤 : URA M) (H : Heap 𝓤) (A : Atoms 𝓤) (W : Given 𝓤 H A) (mem : Memory → SProp 𝓤) (run : Routine → Fun 𝓤) (κ : Lft) (q : Share) (b o : ℕ) (γ : GName) (ys : List Counters) (room : Room T.the-row (length ys)) (i : ℕ) (i-fits : i < 2 ^ 64) where
   abbrev s : Val
@@ -80,7 +80,7 @@ module _ {M : Type 1} (𝓤 : URA M) (H : Heap 𝓤) (A : Atoms 𝓤) (W : Given
   vals = (s ∷ [], (vint w64 i ∷ [], tt))
 
   abbrev c : Counters
-  c = getD ys i zero
+  c = getD ys i zeros
 
   abbrev bound : walkOf 𝓤 H A read-row.ended stayed (read-row.clauses 𝓤 H A mem run) .Ghost
   bound = (((κ, tt), (q, tt), tt, a, vals), tt)
@@ -129,11 +129,11 @@ module _ {M : Type 1} (𝓤 : URA M) (H : Heap 𝓤) (A : Atoms 𝓤) (W : Given
           assigns ! (bin ! (load ! (from ! (fld ! refl (stop !))) (look-in ! 14 (sub ! 0 refl (whole !)))) (load ! (from ! (stop !)) (look ! 6 refl)) tt) (from ! (stop !)) (init ! 4 refl (tt, tt)) $
           rewrite ! 4 (λ (p : ℕ). ‵ (fat fullShare tyPtr l₆ 0 (vptr b p))) (sym (place-is 52 o i)) refl $
           move ! (1 ∷ []) $ fsplit ! $ fsplit ! $ move ! (1 ∷ []) $ fsplit ! $ move ! (4 ∷ []) $ split ! $ move ! (3 ∷ 0 ∷ []) $
-          looks-slice ! tt T.the-row R.Ok (shows 𝓤 H A T.the-row) R.vals R.tells (LL.copy T.the-type T′.the-copy 𝓤 H A W) ys b o (λ q′. elem-out ! T.the-row R.Ok (shows 𝓤 H A T.the-row) R.vals R.tells q′ ys i zero b o less (λ c-ok.
+          looks-slice ! tt T.the-row R.Ok (shows 𝓤 H A T.the-row) R.vals R.tells (LL.copy T.the-type T′.the-copy 𝓤 H A W) ys b o (λ q′. elem-out ! T.the-row R.Ok (shows 𝓤 H A T.the-row) R.vals R.tells q′ ys i zeros b o less (λ c-ok.
           -- [rows[i]; what it owns; the others; what shuts; the borrow; true; res; rows' fact; i's; _7 @9; _6 @11; …; _0 @23]
           assigns ! (of-opd ! (load ! (from ! (hop ! (look ! 11 refl) (stop !))) (look-raw ! 0 refl))) (from ! (stop !)) (init ! 9 refl (R.typed 𝓤 H A W c _ c-ok)) $
           assigns ! (of-opd ! (load ! (from ! (stop !)) (look ! 9 refl))) (from ! (stop !)) (init ! 23 refl (R.typed 𝓤 H A W c _ c-ok)) $
-          elem-back ! T.the-row q′ ys i zero (R.vals c) b o less $ shuts-slice ! tt T.the-row q′ ys b o $
+          elem-back ! T.the-row q′ ys i zeros (R.vals c) b o less $ shuts-slice ! tt T.the-row q′ ys b o $
           -- [the token; the borrow; true; res; rows' fact; i's; _7 @6; …; _0 @20]
           returns-within ! Post refl (look ! 20 refl) $ forget ! 6 refl $ forget ! 8 refl $ forget ! 10 refl $ forget ! 12 refl $ forget ! 14 refl $ forget ! 16 refl $ forget ! 18 refl $ forget ! 20 refl $
           move ! (20 ∷ 21 ∷ []) $ free1 ! $ move ! (18 ∷ 19 ∷ []) $ free1 ! $ move ! (16 ∷ 17 ∷ []) $ free1 ! $ move ! (14 ∷ 15 ∷ []) $ free1 ! $ move ! (12 ∷ 13 ∷ []) $ free1 ! $ move ! (10 ∷ 11 ∷ []) $ free1 ! $ move ! (8 ∷ 9 ∷ []) $ free1 ! $ move ! (6 ∷ 7 ∷ []) $ free1 ! $ free0 ! $
@@ -141,11 +141,11 @@ module _ {M : Type 1} (𝓤 : URA M) (H : Heap 𝓤) (A : Atoms 𝓤) (W : Given
           (λ over. skips ! $ exec ! C Λ En body.t-4 (atRet En Post) $
           move ! (0 ∷ []) $ split ! $
           -- [the token; true; what the parameters own; _7 @3; …; _0 @17]
-          calls-plain ! (fmOf 𝓤 H (W .laws) 𝓣) zeros.ended (zeros.clauses 𝓤 H A mem run) known-zeros to-zeros goes-zeros (λ r. r ≡ zero) (λ r e. id⊢ 𝓤 _) (no-more !) (λ v r e r-ok.
+          calls-plain ! (fmOf 𝓤 H (W .laws) 𝓣) zeros-fn.ended (zeros-fn.clauses 𝓤 H A mem run) known-zeros to-zeros goes-zeros (λ r. r ≡ zeros) (λ r e. id⊢ 𝓤 _) (no-more !) (λ v r e r-ok.
           land ! (from ! (stop !)) (init ! 17 refl (R.typed 𝓤 H A W r v r-ok)) $
           returns ! (look ! 17 refl) $ forget ! 9 refl $ forget ! 11 refl $ forget ! 13 refl $ forget ! 15 refl $ forget ! 17 refl $
           move ! (17 ∷ 18 ∷ []) $ free1 ! $ move ! (15 ∷ 16 ∷ []) $ free1 ! $ move ! (13 ∷ 14 ∷ []) $ free1 ! $ move ! (11 ∷ 12 ∷ []) $ free1 ! $ move ! (9 ∷ 10 ∷ []) $ free1 ! $ move ! (7 ∷ 8 ∷ []) $ free1 ! $ move ! (5 ∷ 6 ∷ []) $ free1 ! $ move ! (3 ∷ 4 ∷ []) $ free1 ! $ free0 ! $
-          keep ! (0 ∷ []) $ by ! (exits v r (e ∙ sym (List·getD-eq-default ys zero (nltb→le i (length ys) over))) r-ok)))
+          keep ! (0 ∷ []) $ by ! (exits v r (e ∙ sym (List·getD-eq-default ys zeros (nltb→le i (length ys) over))) r-ok)))
 
     walk : ent 𝓤 (onEntry 𝓤 H A read-row.signature (κ, tt) (q, tt) a vals) (WpFn 𝓤 H (𝓣 .C) (𝓣 .Λ) code.function (s ∷ vint w64 i ∷ []) Post)
     walk =

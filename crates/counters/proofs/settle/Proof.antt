@@ -48,7 +48,7 @@ use denote.Exit.{yes}
 use denote.Signature.{plain}
 use Rattle.counters.specs.declared.Counters.{Counters}
 use Rattle.answer.specs.declared.Rises.{Rises}
-use Rattle.counters.specs.Counting.{zero, rowAfter, riseAt, rowBy, settledTo}
+use Rattle.counters.specs.Counting.{zeros, rowAfter, riseAt, rowBy, settledTo}
 use Rattle.counters.proofs.Calls.{Of, calls-plain}
 use Rattle.counters.proofs.Row as R
 use Rattle.counters.proofs.Settling.{settled-none, settled-next, length-settled, settled-ahead, settled-end, row-by, untouched}
@@ -180,7 +180,7 @@ module _ {M : Type 1} (𝓤 : URA M) (H : Heap 𝓤) (A : Atoms 𝓤) (W : Given
 
   module _ (i : ℕ) (less : i < n) where
     abbrev c : Counters
-    c = getD (zs i) i zero
+    c = getD (zs i) i zeros
 
     abbrev c′ : Counters
     c′ = rowAfter c (d) i
@@ -259,7 +259,7 @@ module _ {M : Type 1} (𝓤 : URA M) (H : Heap 𝓤) (A : Atoms 𝓤) (W : Given
           assigns ! (bin ! (load ! (from ! (stop !)) (look ! 22 refl)) (lit ! tt) (record { fits = at-fits (i .0) less })) (from ! (stop !)) (init ! 14 refl (tt, record { fits = at-fits (i .0) less })) $
           assigns ! (bin ! (load ! (from ! (fld ! refl (stop !))) (look-in ! 28 (sub ! 0 refl (whole !)))) (load ! (from ! (stop !)) (look ! 14 refl)) tt) (from ! (stop !)) (init ! 12 refl (tt, tt)) $
           rewrite ! 12 (λ (p : ℕ). ‵ (fat fullShare tyPtr l₉ 0 (vptr b p))) (sym (place-is 52 o (i .0))) refl $
-          elem-out ! T.the-row R.Ok (shows 𝓤 H A T.the-row) R.vals R.tells fullShare (zs (i .0)) (i .0) zero b o (within (i .0) less) (λ c-ok.
+          elem-out ! T.the-row R.Ok (shows 𝓤 H A T.the-row) R.vals R.tells fullShare (zs (i .0)) (i .0) zeros b o (within (i .0) less) (λ c-ok.
           -- [rows[i]; what it owns; the others; the open borrow; obs; auth; _13 @6; _12 @8; _11 @10; _10 @12; _9 @14; _8 @16; _7 @18; _6 @20; _5 @22; _4 @24; _3 @26; _2 @28; _1 @30; _0 @32]
           assigns ! (of-opd ! (load ! (from ! (hop ! (look ! 14 refl) (stop !))) (look-raw ! 0 refl))) (from ! (stop !)) (init ! 12 refl (R.typed 𝓤 H A W (c (i .0) less) _ c-ok)) $
           assigns ! (of-opd ! (load ! (from ! (stop !)) (look ! 12 refl))) (from ! (stop !)) (init ! 22 refl (R.typed 𝓤 H A W (c (i .0) less) _ c-ok)) $

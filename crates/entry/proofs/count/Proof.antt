@@ -6,7 +6,7 @@ use lib.ListN.{getD}
 use denote.Struct.Laws as LL
 use denote.Enum.Laws as EL
 use Rattle.counters.specs.declared.Counters.{Counters}
-use Rattle.counters.specs.Counting.{zero}
+use Rattle.counters.specs.Counting.{zeros}
 use Rattle.admit.specs.declared.Place.{Place}
 use Rattle.admit.specs.Admission.{counted as placeOf}
 use Rattle.entry.specs.Counts.{counted}
@@ -70,7 +70,7 @@ module _ {M : Type 1} (𝓤 : URA M) (H : Heap 𝓤) (A : Atoms 𝓤) (W : Given
   p = placeOf (card .x) (shelf .x) (length (store .at)) n (unit .x)
 
   abbrev c : Counters
-  c = getD (rows .at) (p .at) zero
+  c = getD (rows .at) (p .at) zeros
 
   -- the arguments; what `placed` is called with; what `read_row` is called with
   abbrev xs : List Arg

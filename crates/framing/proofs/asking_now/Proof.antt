@@ -9,7 +9,8 @@ use borrow.Author.Needs.{needs}
 use Rattle.shelf.specs.Shelves.{declared, numberOf}
 use Rattle.outlet.proofs.Laws.{length-mapped}
 use Rattle.admit.proofs.Laws.{nowhere}
-use Rattle.framing.specs.Requests.{asksNow, askingOf, askingNow}
+use Rattle.arbiter.specs.Arbitration.{asksNow}
+use Rattle.framing.specs.Requests.{askingOf, askingNow}
 use Rattle.framing.proofs.Turns.{none-left, asked, asks-none}
 use Rattle.framing.proofs.asking_now.Statement.{statement}
 use Rattle.framing.proofs.asking_now.Tie as tie
@@ -50,13 +51,13 @@ array-write-now c = search needs
 met : (c : tie.Joined1 Inv-loop μ-loop) →
     let b = c .before .before .before .before in
     let u = getD (b .before .before .args .t1 .units) (b .loop .i) nowhere in
-    c .if1 .now ≡ set (b .loop .now) (numberOf u) (asksNow (b .before .before .args .t1 .granted) u)
+    c .if1 .now ≡ set (b .loop .now) (numberOf u) (asksNow (b .before .before .args .t1 .granted) (numberOf u) (u .settings .priority) (u .inlet .count))
 met c =
     let b = c .before .before .before .before in
     let u = getD (b .before .before .args .t1 .units) (b .loop .i) nowhere in
     ⊎-elim
     (λ w. w .2 ∙ ap (set (b .loop .now) (numberOf u)) (w .1 .ensures))
-    (λ w. let l = b .loop .inv .1 .0 in let h = w .0 .left in w .1 ∙ sym (set-out (b .loop .now) (numberOf u) (asksNow (b .before .before .args .t1 .granted) u) (omega arith)))
+    (λ w. let l = b .loop .inv .1 .0 in let h = w .0 .left in w .1 ∙ sym (set-out (b .loop .now) (numberOf u) (asksNow (b .before .before .args .t1 .granted) (numberOf u) (u .settings .priority) (u .inlet .count)) (omega arith)))
     (c .if1 .came)
 
 add-i : tie.Need-add-i Inv-loop μ-loop

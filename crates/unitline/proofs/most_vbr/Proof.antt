@@ -4,8 +4,14 @@ use borrow.Author.Needs.{needs}
 use Rattle.unitline.proofs.most_vbr.Statement.{statement}
 use Rattle.unitline.proofs.most_vbr.Tie as tie
 
+cast-shared : tie.Need-cast-shared
+cast-shared c = search needs
+
 enum-told : tie.Need-enum-told
 enum-told c = search needs
+
+cast-result : tie.Need-cast-result
+cast-result c = search needs
 
 enum-told-2 : tie.Need-enum-told-2
 enum-told-2 c = search needs
@@ -20,4 +26,4 @@ returns-3 : tie.Need-returns-3
 returns-3 c = rw (c .before .enum-told2 .given .1)
 
 pub most-vbr-spec : {M : Type 1} → statement M
-most-vbr-spec = tie.close (tie.spec enum-told enum-told-2 returns returns-2 returns-3)
+most-vbr-spec = tie.close (tie.spec cast-shared enum-told cast-result enum-told-2 returns returns-2 returns-3)

@@ -1,0 +1,146 @@
+-- What `queueing` and `shelf` say of a copy is what the paper says. Assumes nothing.
+use Prim.Native.Nat.{ℕ, zero, suc, _+_, _*_, _/_, _%_, _^_, _<_, _≤_}
+use native.Mathlib.Nat.{mod-lt}
+use native.Mathlib.Omega.{arith}
+use mathlib.Core.Path.{_≡_, refl, sym, ap, subst, _∙_}
+use mathlib.Core.Logic.{_≢_, _↔_, inl, inr, ⊎-elim}
+use mathlib.Core.Bool.{Bool, true, false, cond, false≢true}
+use mathlib.Core.List.{List, [], _∷_}
+use lib.Dec.{eqb}
+use lib.ListN.{length, getD}
+use borrow.Author.Tests.{eqb-true, eq-eqb}
+use Rattle.header.specs.Fields.{fields}
+use Rattle.header.specs.declared.Link.the-variants.{Uni, Nni}
+use Rattle.outlet.specs.Outlets as outlet
+use Rattle.outlet.specs.declared.Mode.{Mode}
+use Rattle.outlet.specs.declared.Mode.the-variants.{One, Four}
+use Rattle.outlet.specs.declared.Limits.{Limits}
+use Rattle.queueing.specs.Hearing as queueing
+use Rattle.queueing.specs.declared.Fate.{Fate}
+use Rattle.queueing.specs.declared.Fate.the-variants as fate
+use Rattle.shelf.specs.Sessions.{hears}
+use Rattle.shelf.specs.declared.Unit as U
+use Rattle.paper.specs.Cells.{two, four, vpi, clp, class}
+use Rattle.paper.specs.Outlets.{queuesIn, queues, numberFor, nowhere, queueAt, held, AtLimit}
+use Rattle.answer.specs.Answers.{queuedOne, isAddressed}
+use Rattle.answer.specs.declared.Hearing as H
+use Rattle.answer.specs.declared.Hearing.the-variants as hearing
+use Rattle.paper.specs.Hearing.{Hears, queueOf, TooWide, Discards, queuedIn, Quiet}
+use Rattle.paper.proofs.Cells.{four-is}
+use Rattle.store.proofs.Slots.{by-lt}
+use Rattle.paper.proofs.Outlets.{number-is, capacity-is, limit-iff}
+
+-- a session
+pub hears-iff : (sessions : List ℕ) (s : ℕ) → (hears sessions s ≡ true) ↔ Hears sessions s
+unfolding hears
+hears-iff sessions s = (eqb-true (getD sessions (s / 64) 0 / 2 ^ (s % 64) % 2) 1, eq-eqb (getD sessions (s / 64) 0 / 2 ^ (s % 64) % 2) 1)
+
+-- the queue of a class is one of this mode
+number-in : (mode : Mode) (l c v class : ℕ) → class < 4 → numberFor mode class < length (queuesIn mode l c v)
+number-in One l c v class h = omega arith
+number-in Four l c v class h = h
+
+module _ (u : U.Unit) (f : List ℕ) where
+  abbrev q : ℕ
+  q = queueOf u f
+
+  small : class (two f 0) < 4
+  small = mod-lt (two f 0 / 4096) (omega arith)
+
+  pub queue-is : queueing.queueOf (u .outlet .limits) (class (two f 0)) ≡ q
+  queue-is = number-is (u .outlet .limits) (class (two f 0)) small
+
+  pub queue-in : q < length (queues (u .outlet .limits))
+  queue-in = number-in (u .outlet .limits .mode) (u .outlet .limits .cbrlength) (u .outlet .limits .cbrlimit) (u .outlet .limits .vbrlimit) (class (two f 0)) small
+
+  abbrev room : ℕ
+  room = queueAt (u .outlet) q .capacity
+
+  abbrev Limited : Type 0
+  Limited = AtLimit (queueAt (u .outlet) q .limit) (held (u .outlet) q)
+
+  -- what the paper says of each of the four fates of a copy that is addressed to the unit
+  abbrev pub CopyIs : Fate → Type 0
+  CopyIs fate.Wide = TooWide u f
+  CopyIs fate.Full = (TooWide u f → ⊥) × (room ≤ held (u .outlet) q)
+  CopyIs fate.Clp = (TooWide u f → ⊥) × (held (u .outlet) q < room) × Discards u f
+  CopyIs fate.Queued = (TooWide u f → ⊥) × (held (u .outlet) q < room) × (Discards u f → ⊥)
+
+  -- the same as the code's room has it, with its capacity and its limit
+  abbrev Code : ℕ → Fate → Type 0
+  Code p x = queueing.FateIn (u .outlet) p (four f 4) x
+
+  wide-is : queueing.TooWide (u .settings .link) (four f 4) ≡ TooWide u f
+  unfolding fields
+  wide-is = refl
+
+  clp-is : queueing.busClp (four f 4) ≡ clp (four f 4)
+  unfolding fields
+  clp-is = refl
+
+  room-is : outlet.capacity (u .outlet .limits) q ≡ room
+  room-is = capacity-is (u .outlet .limits) q
+
+  limited : held (u .outlet) q < room → (queueing.limit (u .outlet .limits) q ≤ held (u .outlet) q) ↔ Limited
+  limited h = limit-iff (u .outlet .limits) q (held (u .outlet) q) queue-in (subst (λ n. held (u .outlet) q < n) (sym room-is) h)
+
+  at-to : (x : Fate) → (TooWide u f → ⊥) → Code q x → CopyIs x
+  unfolding fields
+  at-to fate.Wide n c = absurd c
+  at-to fate.Full n c = (n, subst (λ k. k ≤ held (u .outlet) q) room-is c)
+  at-to fate.Clp n c =
+      let h = subst (λ k. held (u .outlet) q < k) room-is (c .0) in
+      (n, h, (c .1, limited h .0 (c .2)))
+  at-to fate.Queued n c =
+      let h = subst (λ k. held (u .outlet) q < k) room-is (c .0) in
+      (n, h, λ d. let less = c .1 (d .0) in let more = limited h .1 (d .1) in omega arith)
+
+  abbrev Was : Fate → Type 0
+  Was x = queueing.FateOf (u .outlet) (u .settings .link) (class (two f 0)) (four f 4) x
+
+  moved : (x : Fate) → Code (queueing.queueOf (u .outlet .limits) (class (two f 0))) x → Code q x
+  moved x c = subst (λ p. Code p x) queue-is c
+
+  moved-back : (x : Fate) → Code q x → Code (queueing.queueOf (u .outlet .limits) (class (two f 0))) x
+  moved-back x c = subst (λ p. Code p x) (sym queue-is) c
+
+  pub copy-to : (x : Fate) → Was x → CopyIs x
+  unfolding fields
+  copy-to fate.Wide c = c
+  copy-to fate.Full c = at-to fate.Full (c .0) (moved fate.Full (c .1))
+  copy-to fate.Clp c = at-to fate.Clp (c .0) (moved fate.Clp (c .1))
+  copy-to fate.Queued c = at-to fate.Queued (c .0) (moved fate.Queued (c .1))
+
+  pub copy-from : (x : Fate) → CopyIs x → Was x
+  unfolding fields
+  copy-from fate.Wide c = c
+  copy-from fate.Full c = (c .0, moved-back fate.Full (subst (λ k. k ≤ held (u .outlet) q) (sym room-is) (c .1)))
+  copy-from fate.Clp c = (c .0, moved-back fate.Clp (subst (λ k. held (u .outlet) q < k) (sym room-is) (c .1), c .2 .0, limited (c .1) .1 (c .2 .1)))
+  copy-from fate.Queued c = (
+    c .0,
+    moved-back fate.Queued
+        (subst (λ k. held (u .outlet) q < k) (sym room-is) (c .1), λ one. by-lt (held (u .outlet) q) (queueing.limit (u .outlet .limits) q) (λ h. h) (λ h. absurd (c .2 (one, limited (c .1) .0 h)))),
+  )
+
+-- the copies queued, and whether a unit is addressed, of each fate
+pub queued-more : (x : H.Hearing) (fates : List H.Hearing) → queuedIn (x ∷ fates) ≡ queuedOne x + queuedIn fates
+unfolding queuedIn queuedOne
+queued-more hearing.Damaged fates = omega arith
+queued-more hearing.Other fates = omega arith
+queued-more hearing.Wide fates = omega arith
+queued-more hearing.Full fates = omega arith
+queued-more hearing.Clp fates = omega arith
+queued-more hearing.Queued fates = omega arith
+
+pub quiet-to : (x : H.Hearing) → isAddressed x ≡ false → Quiet x
+unfolding isAddressed
+quiet-to hearing.Damaged e = inl refl
+quiet-to hearing.Other e = inr refl
+quiet-to hearing.Wide e = absurd (false≢true (sym e))
+quiet-to hearing.Full e = absurd (false≢true (sym e))
+quiet-to hearing.Clp e = absurd (false≢true (sym e))
+quiet-to hearing.Queued e = absurd (false≢true (sym e))
+
+pub quiet-from : (x : H.Hearing) → Quiet x → isAddressed x ≡ false
+unfolding isAddressed
+quiet-from x q = ⊎-elim (λ e. ap isAddressed e) (λ e. ap isAddressed e) q

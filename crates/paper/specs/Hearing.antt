@@ -1,0 +1,64 @@
+-- What a unit makes of a frame of 57 bytes: 01's Hearing, in its own numbers. Assumes nothing.
+use Prim.Native.Nat.{ℕ, suc, _/_, _%_, _^_, _≤_, _<_}
+use mathlib.Core.Path.{_≡_}
+use mathlib.Core.Logic.{_⊎_}
+use mathlib.Core.List.{List, [], _∷_}
+use lib.ListN.{getD}
+use Rattle.header.specs.declared.Link.the-variants.{Uni, Nni}
+use Rattle.shelf.specs.declared.Unit as U
+use Rattle.answer.specs.declared.Hearing as H
+use Rattle.answer.specs.declared.Hearing.the-variants as hearing
+use Rattle.paper.specs.Cells.{two, four, vpi, clp, kind, class, address, Damaged}
+use Rattle.paper.specs.Outlets.{numberFor, queueAt, held, AtLimit}
+
+-- "`mc` unit, session: the unit hears that session": session s is bit s % 64 of number s / 64
+abbrev pub Hears : List ℕ → ℕ → Type 0
+Hears sessions s = getD sessions (s / 64) 0 / 2 ^ (s % 64) % 2 ≡ 1
+
+-- "address 8 (unit, session, or 0 for broadcast)"; "All declared units hear a broadcast, the sender too."
+pub data Addressed (u : U.Unit) (routing : ℕ) : Type 0 where
+  by-unit : kind routing ≡ 0 → address routing ≡ u .settings .number → Addressed u routing
+  by-session : kind routing ≡ 1 → Hears (u .sessions) (address routing) → Addressed u routing
+  by-broadcast : kind routing ≡ 2 → Addressed u routing
+
+-- the queue that a frame's cell is meant for
+abbrev pub queueOf : U.Unit → List ℕ → ℕ
+queueOf u f = numberFor (u .outlet .limits .mode) (class (two f 0))
+
+-- "VPI above 255 at a UNI unit": "The cell header on the bus always has a twelve-bit VPI."
+abbrev pub TooWide : U.Unit → List ℕ → Type 0
+TooWide u f = (u .settings .link ≡ Uni) × (255 < vpi Nni (four f 4))
+
+-- a sound frame that is addressed to the unit and not too wide for it
+pub record Comes (u : U.Unit) (f : List ℕ) : Type 0 where
+  pub sound : Damaged f → ⊥
+  pub addressed : Addressed u (two f 0)
+  pub narrow : TooWide u f → ⊥
+
+-- "CLP 1 and the queue at its limit or above"
+abbrev pub Discards : U.Unit → List ℕ → Type 0
+Discards u f = (clp (four f 4) ≡ 1) × AtLimit (queueAt (u .outlet) (queueOf u f) .limit) (held (u .outlet) (queueOf u f))
+
+-- "Bad parity .. is `damaged`. Not addressed: `other`, uncounted. .. Then: VPI above 255 at a UNI unit, `wide`; queue at capacity, `full`; CLP 1 and the queue at its limit or above, `clp`; else
+-- `queued`."
+abbrev pub HearingIs : U.Unit → List ℕ → H.Hearing → Type 0
+HearingIs u f hearing.Damaged = Damaged f
+HearingIs u f hearing.Other = (Damaged f → ⊥) × (Addressed u (two f 0) → ⊥)
+HearingIs u f hearing.Wide = (Damaged f → ⊥) × Addressed u (two f 0) × TooWide u f
+HearingIs u f hearing.Full = Comes u f × (queueAt (u .outlet) (queueOf u f) .capacity ≤ held (u .outlet) (queueOf u f))
+HearingIs u f hearing.Clp = Comes u f × (held (u .outlet) (queueOf u f) < queueAt (u .outlet) (queueOf u f) .capacity) × Discards u f
+HearingIs u f hearing.Queued = Comes u f × (held (u .outlet) (queueOf u f) < queueAt (u .outlet) (queueOf u f) .capacity) × (Discards u f → ⊥)
+
+-- "copies queued": how many of these fates are `queued`
+unfoldable pub queuedIn : List H.Hearing → ℕ
+queuedIn [] = 0
+queuedIn (hearing.Damaged ∷ fates) = queuedIn fates
+queuedIn (hearing.Other ∷ fates) = queuedIn fates
+queuedIn (hearing.Wide ∷ fates) = queuedIn fates
+queuedIn (hearing.Full ∷ fates) = queuedIn fates
+queuedIn (hearing.Clp ∷ fates) = queuedIn fates
+queuedIn (hearing.Queued ∷ fates) = suc (queuedIn fates)
+
+-- the fates of a unit that is not addressed: "a damaged frame addresses none"
+abbrev pub Quiet : H.Hearing → Type 0
+Quiet fate = (fate ≡ hearing.Damaged) ⊎ (fate ≡ hearing.Other)

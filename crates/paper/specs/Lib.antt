@@ -1,0 +1,9 @@
+pub mod Cells
+pub mod Outlets
+pub mod Counters
+pub mod State
+pub mod Arrival
+pub mod Grants
+pub mod Hearing
+pub mod Take
+pub mod Answers

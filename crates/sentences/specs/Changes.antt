@@ -1,0 +1,45 @@
+-- A state with one thing changed, and the premise of every sentence. Assumes nothing.
+use Prim.Native.Nat.{ℕ, _+_}
+use mathlib.Core.List.{List, _++_}
+use lib.ListN.{length, set, take, drop}
+use Rattle.card.specs.declared.Card.{Card}
+use Rattle.outlet.specs.declared.Ring.{Ring}
+use Rattle.shelf.specs.declared.Unit as U
+use Rattle.shelf.specs.declared.Shelf.{Shelf}
+use Rattle.paper.specs.State.{Sound, Whole}
+use Rattle.running.specs.Events.{World}
+
+-- the shelf with another unit in a place
+abbrev pub withUnit : Shelf → ℕ → U.Unit → Shelf
+withUnit shelf place u =
+    record {
+      bus = shelf .bus;
+      count = shelf .count;
+      units = set (shelf .units) place u;
+      arbiter = shelf .arbiter;
+      granted = shelf .granted;
+      frame = shelf .frame;
+    }
+
+-- a unit with another ring for its inlet, or for a queue of its outlet
+abbrev pub withInlet : U.Unit → Ring → U.Unit
+withInlet u ring = record { settings = u .settings; outlet = u .outlet; inlet = ring; place = u .place; sessions = u .sessions }
+
+abbrev pub withQueue : U.Unit → ℕ → Ring → U.Unit
+withQueue u q ring =
+    record {
+      settings = u .settings;
+      outlet = record { limits = u .outlet .limits; queues = set (u .outlet .queues) q ring };
+      inlet = u .inlet;
+      place = u .place;
+      sessions = u .sessions;
+    }
+
+-- a store with the 56 bytes of a cell from a byte on
+abbrev pub withCell : List ℕ → ℕ → List ℕ → List ℕ
+withCell store at cell = take at store ++ cell ++ drop (at + 56) store
+
+-- a world that no event refuses as State
+pub record Runs (card : Card) (w : World) : Type 0 where
+  pub whole : Whole (w .shelf)
+  pub sound : Sound card (w .shelf) (length (w .store)) (length (w .rows))

@@ -1,0 +1,5 @@
+pub mod Numerals
+pub mod Fields
+pub mod Ranges
+pub mod Readings
+pub mod Texts
