@@ -12,7 +12,7 @@ use Rattle.outlet.specs.declared.Mode.the-variants.{One}
 use Rattle.card.specs.declared.Card.{Card}
 use Rattle.shelf.specs.Shelves.{declared, blank, findIn}
 use Rattle.shelf.specs.declared.Unit as U
-use Rattle.shelf.specs.declared.Shelf.{Shelf}
+use Rattle.shelf.specs.Shelf.{Shelf}
 use Rattle.shelf.specs.declared.Found as F
 use Rattle.shelf.specs.declared.Found.the-variants as found
 use Rattle.shelf.proofs.Finding.{declared-at, find-at}

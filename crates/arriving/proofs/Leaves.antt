@@ -18,10 +18,10 @@ use Rattle.store.specs.Places.{Inside, slotAt, inletSlot, putAt}
 use Rattle.store.proofs.Rounds.{back-lt}
 use Rattle.store.proofs.Slots.{slot-inside}
 use Rattle.shelf.specs.declared.Unit as U
-use Rattle.shelf.specs.declared.Shelf.{Shelf}
+use Rattle.shelf.specs.Shelf.{Shelf}
 use Rattle.answer.specs.declared.Arrival as A
 use Rattle.answer.specs.declared.Arrival.the-variants.{Hec, Inletfull, Queued}
-use Rattle.answer.specs.declared.Done.{Done}
+use Rattle.answer.specs.Done.{Done}
 use Rattle.admit.specs.Admission.{unitAt, withUnit, withInlet, Housed}
 use Rattle.arriving.specs.Arriving.{wayBy, wayOf, fateBy, arrived, inletFull, doneBy, storeBy}
 use Rattle.arriving.specs.declared.Way.{Way}

@@ -14,11 +14,11 @@ use Rattle.bus.specs.Frame.{cell}
 use Rattle.store.specs.Rings.{tail, pushed}
 use Rattle.store.specs.Places.{inletSlot, putAt}
 use Rattle.shelf.specs.declared.Unit as U
-use Rattle.shelf.specs.declared.Shelf.{Shelf}
+use Rattle.shelf.specs.Shelf.{Shelf}
 use Rattle.answer.specs.declared.Arrival as A
 use Rattle.answer.specs.declared.Arrival.the-variants.{Hec, Ignored, Misrouted, Inletfull, Queued}
 use Rattle.answer.specs.declared.Answer.the-variants.{Arrived}
-use Rattle.answer.specs.declared.Done.{Done}
+use Rattle.answer.specs.Done.{Done}
 use Rattle.answer.specs.Answers.{arrivalRises, row, ends, refused}
 use Rattle.admit.specs.declared.Admitted as D
 use Rattle.admit.specs.Admission.{admitted, decided, unitAt, withUnit, withInlet}

@@ -28,9 +28,9 @@ use denote.Slice.{sliceTy, sliceVal, MutSlice, ShrSlice, Room}
 use denote.Struct.Laws as LL
 use denote.Enum.Laws as EL
 use Rattle.card.specs.declared.Card.{Card}
-use Rattle.shelf.specs.declared.Shelf.{Shelf}
-use Rattle.answer.specs.declared.Done.{Done}
-use Rattle.answer.specs.declared.Reply.{Reply}
+use Rattle.shelf.specs.Shelf.{Shelf}
+use Rattle.answer.specs.Done.{Done}
+use Rattle.answer.specs.Done.{Reply}
 use Rattle.answer.specs.declared.Rises.{Rises}
 use Rattle.counters.proofs.Counters as T
 use Rattle.counters.proofs.Row as R

@@ -31,8 +31,8 @@ use denote.Triple.Statement.{Contract, Triple}
 use denote.Triple.Walked.{says}
 use Rattle.counters.specs.declared.Counters.{Counters}
 use Rattle.counters.specs.Counting.{settled}
-use Rattle.answer.specs.declared.Done.{Done}
-use Rattle.answer.specs.declared.Reply.{Reply}
+use Rattle.answer.specs.Done.{Done}
+use Rattle.answer.specs.Done.{Reply}
 use Rattle.answer.specs.declared.Rises.{Rises}
 use Rattle.counters.proofs.Calls.{Of, calls-of, calls-plain}
 use Rattle.entry.proofs.Arguments.{Cell, names}

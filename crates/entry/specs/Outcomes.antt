@@ -5,9 +5,9 @@ use mathlib.Core.Path.{_≡_}
 use mathlib.Core.List.{List}
 use lib.ListN.{length}
 use Rattle.card.specs.declared.Card.{Card}
-use Rattle.shelf.specs.declared.Shelf.{Shelf}
-use Rattle.answer.specs.declared.Reply.{Reply}
-use Rattle.answer.specs.declared.Done.{Done}
+use Rattle.shelf.specs.Shelf.{Shelf}
+use Rattle.answer.specs.Done.{Reply}
+use Rattle.answer.specs.Done.{Done}
 use Rattle.counters.specs.Counting.{settled}
 use Rattle.counters.specs.declared.Counters as C
 use Rattle.admit.specs.Admission.{counted}

@@ -22,9 +22,9 @@ use Rattle.store.proofs.Rounds.{popped-fits}
 use Rattle.store.proofs.Slots.{slot-inside}
 use Rattle.shelf.specs.Shelves.{declared, blank}
 use Rattle.shelf.specs.declared.Unit as U
-use Rattle.shelf.specs.declared.Shelf.{Shelf}
+use Rattle.shelf.specs.Shelf.{Shelf}
 use Rattle.answer.specs.declared.Answer.the-variants.{Framed}
-use Rattle.answer.specs.declared.Done.{Done}
+use Rattle.answer.specs.Done.{Done}
 use Rattle.answer.specs.Answers.{ends}
 use Rattle.admit.specs.Admission.{unitAt, withUnit, withInlet, Housed}
 use Rattle.framing.specs.Sending.{sentRises, heardByAll, heardStore, countSent, sentFrame, cellOut, sentBy, sentStore, AllHoused}

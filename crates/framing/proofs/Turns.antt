@@ -11,7 +11,7 @@ use Rattle.bus.specs.declared.Heard as H
 use Rattle.store.specs.Places.{Cell}
 use Rattle.shelf.specs.Shelves.{declared, numberOf}
 use Rattle.shelf.specs.declared.Unit as U
-use Rattle.shelf.specs.declared.Shelf.{Shelf}
+use Rattle.shelf.specs.Shelf.{Shelf}
 use Rattle.shelf.proofs.Finding.{declared-length, declared-at}
 use Rattle.answer.specs.Answers.{hearingRises}
 use Rattle.admit.specs.Admission.{withUnit}

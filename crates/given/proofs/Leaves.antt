@@ -12,7 +12,7 @@ use Rattle.octets.proofs.Parts.{getD-any}
 use Rattle.shelf.specs.Shelves.{blank, declared, findIn}
 use Rattle.shelf.specs.Sessions.{withSession}
 use Rattle.shelf.specs.declared.Unit as U
-use Rattle.shelf.specs.declared.Shelf.{Shelf}
+use Rattle.shelf.specs.Shelf.{Shelf}
 use Rattle.shelf.specs.declared.Found.the-variants.{At}
 use Rattle.verdict.specs.declared.Owner.{Owner}
 use Rattle.verdict.specs.Verdicts.{pageIn}

@@ -20,11 +20,11 @@ use Rattle.store.specs.Places.{Cell, slotAt, outletSlot, putAt}
 use Rattle.shelf.specs.Sessions.{hears}
 use Rattle.shelf.specs.Shelves.{numberOf}
 use Rattle.shelf.specs.declared.Unit as U
-use Rattle.shelf.specs.declared.Shelf.{Shelf}
+use Rattle.shelf.specs.Shelf.{Shelf}
 use Rattle.answer.specs.declared.Hearing as A
 use Rattle.answer.specs.declared.Hearing.the-variants.{Damaged, Other, Wide, Full, Clp, Queued}
 use Rattle.answer.specs.declared.Answer.the-variants.{Heard}
-use Rattle.answer.specs.declared.Done.{Done}
+use Rattle.answer.specs.Done.{Done}
 use Rattle.answer.specs.Answers.{hearingRises, row, ends, refused}
 use Rattle.admit.specs.declared.Admitted as D
 use Rattle.admit.specs.Admission.{admitted, decided, unitAt, withUnit, withQueue}

@@ -14,7 +14,7 @@ use Rattle.outlet.specs.declared.Ring.{Ring}
 use Rattle.outlet.specs.Outlets.{empty}
 use Rattle.shelf.specs.declared.Settings.{Settings}
 use Rattle.shelf.specs.declared.Unit as U
-use Rattle.shelf.specs.declared.Shelf.{Shelf}
+use Rattle.shelf.specs.Shelf.{Shelf}
 
 -- "0 uni, 1 nni"; "0 one, 1 four"; "0 or 1"
 abbrev pub linkNumber : Link → ℕ

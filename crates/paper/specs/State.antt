@@ -4,14 +4,14 @@ use mathlib.Core.Path.{_≡_}
 use mathlib.Core.Logic.{_⊎_}
 use mathlib.Core.Bool.{false}
 use mathlib.Core.List.{List, [], _∷_}
-use lib.ListN.{length, getD, take}
+use lib.ListN.{length, getD, take, replicate}
 use Rattle.header.specs.declared.Link.the-variants.{Uni, Nni}
 use Rattle.card.specs.declared.Card.{Card}
 use Rattle.card.specs.declared.Card.the-variants.{Wide}
 use Rattle.outlet.specs.declared.Mode.the-variants.{One}
 use Rattle.outlet.specs.declared.Ring.{Ring}
 use Rattle.shelf.specs.declared.Unit as U
-use Rattle.shelf.specs.declared.Shelf.{Shelf}
+use Rattle.shelf.specs.Shelf.{Shelf}
 use Rattle.paper.specs.Outlets.{Given, queueAt, ringAt}
 
 -- the declared units, in `unit` line order, and the one in a place
@@ -31,7 +31,7 @@ blank =
       };
       inlet = none;
       place = 0;
-      sessions = 0 ∷ 0 ∷ 0 ∷ 0 ∷ [];
+      sessions = replicate 32 0;
     }
 
 abbrev pub unitAt : Shelf → ℕ → U.Unit

@@ -13,7 +13,7 @@ use Rattle.record.specs.Record.{size, usable, cleared}
 use Rattle.line.specs.Lines.{readingOf}
 use Rattle.line.specs.declared.Line.{Line}
 use Rattle.line.specs.declared.Reading.{Reading}
-use Rattle.shelf.specs.declared.Shelf.{Shelf}
+use Rattle.shelf.specs.Shelf.{Shelf}
 use Rattle.verdict.specs.declared.Verdict.{Verdict}
 use Rattle.verdict.specs.declared.Verdict.the-variants.{Fine, Form, Order, Twice, Wide, Room}
 use Rattle.verdict.specs.Verdicts.{numberOf}

@@ -11,7 +11,7 @@ use Rattle.record.specs.Record.{cleared}
 use Rattle.shelf.specs.Shelves.{declared, findIn, placeFrom, fresh, isAt}
 use Rattle.shelf.specs.declared.Found.{Found}
 use Rattle.shelf.specs.declared.Found.the-variants.{At, Nothing}
-use Rattle.shelf.specs.declared.Shelf.{Shelf}
+use Rattle.shelf.specs.Shelf.{Shelf}
 use Rattle.soundness.specs.State.{soundOf}
 use Rattle.counters.specs.Counting.{settled, settledTo}
 use Rattle.counters.specs.declared.Counters as C

@@ -28,7 +28,7 @@ use Rattle.shelf.specs.Shelves as S
 use Rattle.shelf.specs.declared.Found as F
 use Rattle.shelf.specs.declared.Found.the-variants as found
 use Rattle.shelf.specs.declared.Unit as U
-use Rattle.shelf.specs.declared.Shelf.{Shelf}
+use Rattle.shelf.specs.Shelf.{Shelf}
 use Rattle.shelf.proofs.Finding.{find-at}
 use Rattle.line.specs.declared.Line.{Line}
 use Rattle.soundness.specs.State.{soundOf}

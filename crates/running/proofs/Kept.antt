@@ -24,14 +24,14 @@ use Rattle.store.specs.Rings.{tail, pushed, popped}
 use Rattle.store.proofs.Rounds.{pushed-fits, popped-fits}
 use Rattle.shelf.specs.Shelves.{declared}
 use Rattle.shelf.specs.declared.Unit as U
-use Rattle.shelf.specs.declared.Shelf.{Shelf}
+use Rattle.shelf.specs.Shelf.{Shelf}
 use Rattle.shelf.proofs.Finding.{find-at}
 use Rattle.soundness.specs.State.{Sound, soundOf}
 use Rattle.soundness.proofs.Facts.{sound-iff}
 use Rattle.counters.specs.Counting.{settled, settledTo}
 use Rattle.counters.proofs.Settling.{length-settled}
 use Rattle.answer.specs.Answers.{refused}
-use Rattle.answer.specs.declared.Done.{Done}
+use Rattle.answer.specs.Done.{Done}
 use Rattle.answer.specs.declared.Arrival.the-variants.{Inletfull, Queued}
 use Rattle.admit.specs.Admission.{admitted, decided, unitAt, withUnit, withQueue, Housed}
 use Rattle.admit.specs.declared.Admitted as A

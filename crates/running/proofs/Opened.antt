@@ -16,7 +16,7 @@ use Rattle.shelf.specs.Shelves.{unit, blank, declared, findIn, numberOf}
 use Rattle.shelf.specs.Sessions.{hears}
 use Rattle.shelf.specs.declared.Settings.{Settings}
 use Rattle.shelf.specs.declared.Unit as U
-use Rattle.shelf.specs.declared.Shelf.{Shelf}
+use Rattle.shelf.specs.Shelf.{Shelf}
 use Rattle.shelf.specs.declared.Found.{Found}
 use Rattle.shelf.specs.declared.Found.the-variants.{At, Nothing}
 use Rattle.shelf.proofs.Finding.{find-at, declared-at}
@@ -56,7 +56,7 @@ told-idle (Mc u session ∷ told) = joined-idle (shelfOf told) (findIn (declared
 
 -- B. the units, but for the sessions that they hear
 abbrev plain : U.Unit → U.Unit
-plain u = record { settings = u .settings; outlet = u .outlet; inlet = u .inlet; place = u .place; sessions = replicate 4 0 }
+plain u = record { settings = u .settings; outlet = u .outlet; inlet = u .inlet; place = u .place; sessions = replicate 32 0 }
 
 plain-set : (us : List U.Unit) (i j : ℕ) (u : U.Unit) → plain u ≡ plain (getD us i blank) → plain (getD (set us i u) j blank) ≡ plain (getD us j blank)
 plain-set [] i j u e = refl
@@ -144,9 +144,9 @@ nothing-at : {i : ℕ} → Nothing ≡ At i → ⊥
 nothing-at e = let z : _≡_ {A = ℕ} 0 1 = cc in omega arith
 
 -- "the unit hears that session": its bit is 1
-hears-iff : (sessions : List ℕ) (s : ℕ) → (getD sessions (s / 64) 0 / 2 ^ (s % 64) % 2 ≡ 1) ↔ (hears sessions s ≡ true)
+hears-iff : (sessions : List ℕ) (s : ℕ) → (getD sessions (s / 8) 0 / 2 ^ (s % 8) % 2 ≡ 1) ↔ (hears sessions s ≡ true)
 unfolding hears
-hears-iff sessions s = (eq-eqb (getD sessions (s / 64) 0 / 2 ^ (s % 64) % 2) 1, eqb-true (getD sessions (s / 64) 0 / 2 ^ (s % 64) % 2) 1)
+hears-iff sessions s = (eq-eqb (getD sessions (s / 8) 0 / 2 ^ (s % 8) % 2) 1, eqb-true (getD sessions (s / 8) 0 / 2 ^ (s % 8) % 2) 1)
 
 module _ (card : Card) (room store rows : ℕ) (told : List Line) (good : Good card room told) (ranged : AllRanged told) (sound : soundOf card (shelfOf told) store rows ≡ true) where
   w : Shelved told

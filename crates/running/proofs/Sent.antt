@@ -18,7 +18,7 @@ use Rattle.store.specs.Rings.{popped}
 use Rattle.store.proofs.Rounds.{popped-fits}
 use Rattle.shelf.specs.Shelves.{declared, blank, numberOf}
 use Rattle.shelf.specs.declared.Unit as U
-use Rattle.shelf.specs.declared.Shelf.{Shelf}
+use Rattle.shelf.specs.Shelf.{Shelf}
 use Rattle.shelf.proofs.Finding.{declared-at}
 use Rattle.answer.specs.Answers.{hearingRises}
 use Rattle.answer.specs.declared.Hearing as A

@@ -15,7 +15,7 @@ use denote.Ref.{now}
 use denote.Triple.Entry.{Args, Res}
 use denote.Triple.Clauses.{AtExit}
 use Rattle.card.specs.declared.Card.{Card}
-use Rattle.answer.specs.declared.Reply.{Reply}
+use Rattle.answer.specs.Done.{Reply}
 use Rattle.counters.specs.declared.Counters as C
 use Rattle.entry.specs.Outcomes.{arrives, frames, hears, takes, countsOf, loads, LeavesStore, LeavesAll, LeavesBytes, LeavesMemory}
 use Rattle.entry.specs.declared.Counted.{Counted}

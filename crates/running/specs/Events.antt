@@ -3,9 +3,9 @@ use Prim.Native.Nat.{ℕ}
 use mathlib.Core.List.{List, []}
 use lib.ListN.{length}
 use Rattle.card.specs.declared.Card.{Card}
-use Rattle.shelf.specs.declared.Shelf.{Shelf}
+use Rattle.shelf.specs.Shelf.{Shelf}
 use Rattle.answer.specs.declared.Answer.the-variants as answer
-use Rattle.answer.specs.declared.Done.{Done}
+use Rattle.answer.specs.Done.{Done}
 use Rattle.counters.specs.declared.Counters as C
 use Rattle.document.specs.Events.{Event, arrive, frame, hear, take-cell, count, Said, answers, counts}
 use Rattle.entry.specs.Outcomes.{Left, left, arrives, frames, hears, takes, countsOf}

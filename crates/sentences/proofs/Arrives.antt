@@ -16,11 +16,11 @@ use Rattle.lookup.specs.Lookup as lookup
 use Rattle.store.specs.Places as places
 use Rattle.store.specs.Rings as rings
 use Rattle.shelf.specs.declared.Unit as U
-use Rattle.shelf.specs.declared.Shelf.{Shelf}
+use Rattle.shelf.specs.Shelf.{Shelf}
 use Rattle.shelf.specs.declared.Found.the-variants as found
 use Rattle.soundness.specs.State.{soundOf}
 use Rattle.answer.specs.Answers.{arrivalRises}
-use Rattle.answer.specs.declared.Done.{Done}
+use Rattle.answer.specs.Done.{Done}
 use Rattle.answer.specs.declared.Answer.the-variants.{Arrived}
 use Rattle.answer.specs.declared.Arrival as A
 use Rattle.answer.specs.declared.Arrival.the-variants as arrival

@@ -22,7 +22,7 @@ use Rattle.shelf.specs.Shelves as shelves
 use Rattle.shelf.specs.declared.Found.{Found}
 use Rattle.shelf.specs.declared.Found.the-variants.{At, Nothing}
 use Rattle.shelf.specs.declared.Unit as U
-use Rattle.shelf.specs.declared.Shelf.{Shelf}
+use Rattle.shelf.specs.Shelf.{Shelf}
 use Rattle.shelf.proofs.Finding.{find-nothing, declared-at}
 use Rattle.soundness.specs.State.{soundOf}
 use Rattle.answer.specs.Answers.{hearingRises}

@@ -24,7 +24,7 @@ use Rattle.store.specs.Places as places
 use Rattle.store.specs.Rings as rings
 use Rattle.shelf.specs.Shelves.{numberOf}
 use Rattle.shelf.specs.declared.Unit as U
-use Rattle.shelf.specs.declared.Shelf.{Shelf}
+use Rattle.shelf.specs.Shelf.{Shelf}
 use Rattle.answer.specs.declared.Hearing as H
 use Rattle.answer.specs.declared.Hearing.the-variants as fate·
 use Rattle.hearing.specs.Hearings as hearing

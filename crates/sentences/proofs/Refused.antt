@@ -8,7 +8,7 @@ use lib.Dec.{eqb}
 use lib.ListN.{length}
 use borrow.Author.Tests.{eqb-true, eq-eqb}
 use Rattle.card.specs.declared.Card.{Card}
-use Rattle.shelf.specs.declared.Shelf.{Shelf}
+use Rattle.shelf.specs.Shelf.{Shelf}
 use Rattle.soundness.specs.State.{soundOf}
 use Rattle.answer.specs.declared.Answer.the-variants as answer
 use Rattle.document.specs.Events.{Event, arrive, frame, hear, take-cell, count, bytesOf, answers, numberSaid}

@@ -15,7 +15,7 @@ use Rattle.queueing.specs.declared.Leaving.{Leaving}
 use Rattle.store.specs.Places as places
 use Rattle.store.specs.Rings as rings
 use Rattle.shelf.specs.declared.Unit as U
-use Rattle.shelf.specs.declared.Shelf.{Shelf}
+use Rattle.shelf.specs.Shelf.{Shelf}
 use Rattle.answer.specs.Answers.{#taken}
 use Rattle.counters.specs.Counting.{settledTo}
 use Rattle.admit.specs.Admission as admit

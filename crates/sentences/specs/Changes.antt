@@ -5,7 +5,7 @@ use lib.ListN.{length, set, take, drop}
 use Rattle.card.specs.declared.Card.{Card}
 use Rattle.outlet.specs.declared.Ring.{Ring}
 use Rattle.shelf.specs.declared.Unit as U
-use Rattle.shelf.specs.declared.Shelf.{Shelf}
+use Rattle.shelf.specs.Shelf.{Shelf}
 use Rattle.paper.specs.State.{Sound, Whole}
 use Rattle.running.specs.Events.{World}
 

@@ -8,7 +8,7 @@ use lib.Dec.{eqb}
 use lib.ListN.{length, getD, take, drop}
 use Rattle.card.specs.declared.Card.{Card}
 use Rattle.shelf.specs.declared.Unit as U
-use Rattle.shelf.specs.declared.Shelf.{Shelf}
+use Rattle.shelf.specs.Shelf.{Shelf}
 use Rattle.answer.specs.declared.Answer as N
 use Rattle.answer.specs.declared.Hearing as H
 use Rattle.answer.specs.declared.Hearing.the-variants as hearing

@@ -6,7 +6,7 @@ use mathlib.Core.List.{List, []}
 use mathlib.Core.Option.{Option, none, some}
 use lib.ListN.{length}
 use Rattle.card.specs.declared.Card.{Card}
-use Rattle.shelf.specs.declared.Shelf.{Shelf}
+use Rattle.shelf.specs.Shelf.{Shelf}
 use Rattle.paper.specs.State.{Sound, Declared}
 use Rattle.answer.specs.declared.Answer.the-variants as answer
 use Rattle.document.specs.Events.{Event, arrive, frame, hear, take-cell, count, bytesOf, answers, numberSaid}

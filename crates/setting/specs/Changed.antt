@@ -16,7 +16,7 @@ use Rattle.outlet.specs.Outlets.{empty}
 use Rattle.arbiter.specs.declared.Arbiter.{Arbiter}
 use Rattle.shelf.specs.declared.Settings.{Settings}
 use Rattle.shelf.specs.declared.Unit as U
-use Rattle.shelf.specs.declared.Shelf.{Shelf}
+use Rattle.shelf.specs.Shelf.{Shelf}
 use Rattle.shelf.specs.Shelves.{blank}
 
 -- the new value if the field is this one, else the old one

@@ -21,7 +21,7 @@ use Rattle.outlet.proofs.Laws.{given-iff, fits-iff, rings-iff}
 use Rattle.arbiter.specs.Arbitration.{nobody, besides}
 use Rattle.shelf.specs.Shelves.{declared, blank, fresh, numberOf, numbers, findIn}
 use Rattle.shelf.specs.declared.Unit as U
-use Rattle.shelf.specs.declared.Shelf.{Shelf}
+use Rattle.shelf.specs.Shelf.{Shelf}
 use Rattle.shelf.specs.declared.Found.the-variants.{At}
 use Rattle.shelf.proofs.Finding.{find-at}
 use Rattle.soundness.specs.State.{every, among, noneRepeated, settingsGiven, belowBus, couldBeGiven, withinCapacity, grantHasCell, requestHasCell, nobodyOr, asksKnown, arbiterKnown, soundOf, UnitSound, DeclaredIn, Sound}

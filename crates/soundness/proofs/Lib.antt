@@ -1,4 +1,6 @@
 pub mod Turns
 pub mod Pass
+pub mod Judged
+pub mod Sounding
 pub mod Facts
 pub mod Witness

@@ -14,7 +14,7 @@ use Rattle.outlet.proofs.Truth.{same, and-iff, or-iff, eq-iff, le-iff}
 use Rattle.card.specs.declared.Card.{Card}
 use Rattle.shelf.specs.Shelves.{declared, numberOf, numbers}
 use Rattle.shelf.specs.declared.Unit as U
-use Rattle.shelf.specs.declared.Shelf.{Shelf}
+use Rattle.shelf.specs.Shelf.{Shelf}
 use Rattle.shelf.proofs.Finding.{declared-length, declared-at}
 use Rattle.soundness.specs.State.{every, among, noneRepeated, roomy, belowBus, couldBeGiven, withinCapacity, unitFits, waitsAt, grantHasCell, requestHasCell, arbiterKnown, soundOf}
 

@@ -1,2 +1,4 @@
 pub mod State
+pub mod Lanes
+pub mod Soundings
 pub mod Examples

@@ -19,7 +19,7 @@ use Rattle.arbiter.specs.Arbitration.{nobody, besides}
 use Rattle.shelf.specs.Shelves.{declared, blank, numberOf, numbers}
 use Rattle.shelf.specs.declared.Settings.{Settings}
 use Rattle.shelf.specs.declared.Unit as U
-use Rattle.shelf.specs.declared.Shelf.{Shelf}
+use Rattle.shelf.specs.Shelf.{Shelf}
 
 unfoldable pub every : {A : Type 0} → (A → Bool) → List A → Bool
 every good [] = true

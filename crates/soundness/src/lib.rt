@@ -1,24 +1,20 @@
-// When the state of a shelf is sound: what every event asks before anything else. One pass over the declared units.
+// When the state in lent bytes is sound: what every event asks before anything else.
 use arbiter::NOBODY;
-use card::Ask;
 use card::Card;
+use outlet::Outlet;
 use shelf::Settings;
-use shelf::Shelf;
 use shelf::Unit;
 ghost use mathlib.Core.Path.{_≡_};
-ghost use mathlib.Core.Bool.{false};
-ghost use lib.ListN.{getD};
-ghost use Rattle.soundness.specs.State.{settingsGiven, roomy as roomyIn, unitFits, waitsAt, nobodyOr, asksKnown, arbiterKnown, soundOf};
-
-// Whether a `unit` line on this card could give these settings.
-pub fn settings_given(card: Card, settings: Settings) -> bool
-    ensures { λ r. ⌜ r ≡ settingsGiven card settings ⌝ }
-{
-    let link = settings.link;
-    card::holds(card, Ask::On(link))
-        & (settings.top <= header::highest(link))
-        & ((1 <= settings.priority) & (settings.priority <= 3))
-}
+ghost use Prim.Native.Nat.{_-_, _<_};
+ghost use mathlib.Core.Bool.{false, _&&_, _||_};
+ghost use lib.Dec.{eqb, leb, ltb};
+ghost use lib.ListN.{length, getD};
+ghost use Rattle.octets.specs.Octets.{part};
+ghost use Rattle.outlet.specs.Outlets.{between, outletFits};
+ghost use Rattle.state.specs.Bytes.{col, outletBy};
+ghost use Rattle.soundness.specs.State.{roomy as roomyIn, waitsAt, nobodyOr, asksKnown, arbiterKnown};
+ghost use Rattle.soundness.specs.Lanes.{isWide, ringsOne, ringsFour, laneGood, lanes};
+ghost use Rattle.soundness.specs.Soundings.{soundIn};
 
 // Whether the bus has a size, and there is room for its units.
 fn roomy(bus: u8, count: u8, store: usize, rows: usize) -> bool
@@ -28,17 +24,124 @@ fn roomy(bus: u8, count: u8, store: usize, rows: usize) -> bool
     ((bus == 16) | (bus == 32)) & (count <= 32) & (store::PART * units <= store) & (units <= rows)
 }
 
-// Whether a unit's number, settings, counts and positions are such as they can be.
-fn unit_fits(card: Card, bus: u8, unit: Unit) -> bool
-    ensures { λ r. ⌜ r ≡ unitFits card bus unit ⌝ }
+fn wide(card: Card) -> bool
+    ensures { λ r. ⌜ r ≡ isWide card ⌝ }
 {
-    let settings = unit.settings;
-    let outlet = unit.outlet;
-    let inlet = unit.inlet;
-    if !(outlet::within(inlet, Unit::INLET) & outlet::fits(outlet)) {
-        return false;
+    match card {
+        Card::Narrow => false,
+        Card::Wide => true,
     }
-    (settings.number < bus) & settings_given(card, settings)
+}
+
+fn rest(cbrlength: u8) -> u8
+    ensures { λ r. ⌜ r ≡ 89 - cbrlength ⌝ }
+{
+    if cbrlength <= Outlet::SHARED {
+        Outlet::SHARED - cbrlength
+    } else {
+        0
+    }
+}
+
+fn within(head: u8, count: u8, capacity: u8) -> bool
+    ensures { λ r. ⌜ r ≡ (ltb head capacity && leb count capacity) ⌝ }
+{
+    (head < capacity) & (count <= capacity)
+}
+
+fn nothing(head: u8, count: u8) -> bool
+    ensures { λ r. ⌜ r ≡ (eqb head 0 && eqb count 0) ⌝ }
+{
+    (head == 0) & (count == 0)
+}
+
+// Whether the bytes of a unit's settings are such as a `unit` line gives. All tests are made: many places are judged at once.
+fn settings_good(wide: bool, number: u8, link: u8, top: u16, priority: u8, bus: u8) -> bool
+    ensures { λ r. ⌜ r ≡ (ltb number bus && (((eqb link 0 && leb top 255) || (eqb link 1 && wide && leb top 4095)) && between 1 3 priority)) ⌝ }
+{
+    let uni = (link == 0) & (top <= 255);
+    let nni = (link == 1) & wide & (top <= 4095);
+    (number < bus) & ((uni | nni) & ((1 <= priority) & (priority <= 3)))
+}
+
+fn given_one(cbrlength: u8, cbrlimit: u8, vbrlimit: u8) -> bool
+    ensures { λ r. ⌜ r ≡ (eqb cbrlength 0 && eqb cbrlimit 0 && between 1 123 vbrlimit) ⌝ }
+{
+    (cbrlength == 0) & (cbrlimit == 0) & ((1 <= vbrlimit) & (vbrlimit <= Outlet::ONE))
+}
+
+fn given_four(cbrlength: u8, cbrlimit: u8, vbrlimit: u8) -> bool
+    ensures { λ r. ⌜ r ≡ (between 1 88 cbrlength && between 1 cbrlength cbrlimit && between 1 (89 - cbrlength) vbrlimit) ⌝ }
+{
+    ((1 <= cbrlength) & (cbrlength <= Outlet::SHARED - 1))
+        & ((1 <= cbrlimit) & (cbrlimit <= cbrlength))
+        & ((1 <= vbrlimit) & (vbrlimit <= rest(cbrlength)))
+}
+
+fn rings_one(s: &[u8], i: usize) -> bool
+    requires { ⌜ (length (now s) ≡ 2048) × (i < 32) ⌝ }
+    ensures { λ r. ⌜ r ≡ ringsOne (col (now (s .entry)) i) ⌝ }
+{
+    within(state::at(s, 16, i), state::at(s, 20, i), Outlet::ONE)
+        & nothing(state::at(s, 17, i), state::at(s, 21, i))
+        & nothing(state::at(s, 18, i), state::at(s, 22, i))
+        & nothing(state::at(s, 19, i), state::at(s, 23, i))
+}
+
+fn rings_four(s: &[u8], i: usize) -> bool
+    requires { ⌜ (length (now s) ≡ 2048) × (i < 32) ⌝ }
+    ensures { λ r. ⌜ r ≡ ringsFour (col (now (s .entry)) i) ⌝ }
+{
+    let cbrlength = state::at(s, 6, i);
+    within(state::at(s, 16, i), state::at(s, 20, i), Outlet::CONTROL)
+        & within(state::at(s, 17, i), state::at(s, 21, i), cbrlength)
+        & within(state::at(s, 18, i), state::at(s, 22, i), rest(cbrlength))
+        & within(state::at(s, 19, i), state::at(s, 23, i), Outlet::ABR)
+}
+
+// Whether the bytes of a unit's outlet are those of one that fits.
+fn outlet_good(s: &[u8], i: usize) -> bool
+    requires { ⌜ (length (now s) ≡ 2048) × (i < 32) ⌝ }
+    ensures { λ r. ⌜ r ≡ (leb (col (now (s .entry)) i 5) 1 && leb (col (now (s .entry)) i 9) 1 && outletFits (outletBy (col (now (s .entry)) i))) ⌝ }
+{
+    let mode = state::at(s, 5, i);
+    let cbrlength = state::at(s, 6, i);
+    let cbrlimit = state::at(s, 7, i);
+    let vbrlimit = state::at(s, 8, i);
+    let one = (mode == 0) & (given_one(cbrlength, cbrlimit, vbrlimit) & rings_one(s, i));
+    let four = (mode == 1) & (given_four(cbrlength, cbrlimit, vbrlimit) & rings_four(s, i));
+    (state::at(s, 9, i) <= 1) & (one | four)
+}
+
+// Whether the bytes in a place are those of a unit that fits.
+fn lane(s: &[u8], i: usize, card: Card, bus: u8) -> bool
+    requires { ⌜ (length (now s) ≡ 2048) × (i < 32) ⌝ }
+    ensures { λ r. ⌜ r ≡ laneGood card bus (now (s .entry)) i ⌝ }
+{
+    let top = state::two_of(state::at(s, 2, i), state::at(s, 3, i));
+    settings_good(
+        wide(card),
+        state::at(s, 0, i),
+        state::at(s, 1, i),
+        top,
+        state::at(s, 4, i),
+        bus,
+    )
+        & (within(state::at(s, 14, i), state::at(s, 15, i), Unit::INLET) & outlet_good(s, i))
+}
+
+// Whether each declared unit fits by itself. All 32 places are judged, and those past the count are not asked.
+fn units_good(s: &[u8], card: Card, bus: u8, count: u8) -> bool
+    requires { ⌜ length (now s) ≡ 2048 ⌝ }
+    ensures { λ r. ⌜ r ≡ lanes (laneGood card bus (now (s .entry))) count 0 32 ⌝ }
+{
+    let mut good = true;
+    let mut k: u8 = 0;
+    while k < 32 {
+        good = good & ((count <= k) | lane(s, k as usize, card, bus));
+        k += 1;
+    }
+    good
 }
 
 // Whether a unit has the cells that its grant and its request need.
@@ -86,32 +189,44 @@ fn arbiter_known(seen: [bool; 32], granted: u8, last: [u8; 3], asks: [u8; 32]) -
         & asks_known(seen, asks)
 }
 
-// Whether the state is sound, with a cell store of so many bytes and so many counter rows.
-pub fn sound(card: Card, shelf: Shelf, store: usize, rows: usize) -> bool
-    ensures { λ r. ⌜ r ≡ soundOf card shelf store rows ⌝ }
+fn asks_at(s: &[u8]) -> [u8; 32]
+    requires { ⌜ length (now s) ≡ 2048 ⌝ }
+    ensures { λ r. ⌜ r ≡ part (now (s .entry)) 768 32 ⌝ }
 {
-    let bus = shelf.bus;
-    if !roomy(bus, shelf.count, store, rows) {
+    let from: usize = 768;
+    let end: usize = 800;
+    let mut asks = [0; 32];
+    octets::copy(&s[from..end], &mut asks, 0);
+    asks
+}
+
+// First each unit by itself, all places at once; then what is left: no number twice, what each waits for, the arbiter.
+pub fn sound(card: Card, s: &[u8], store: usize, rows: usize) -> bool
+    requires { ⌜ length (now s) ≡ 2048 ⌝ }
+    ensures { λ r. ⌜ r ≡ soundIn card (now (s .entry)) store rows ⌝ }
+{
+    let bus = s[804];
+    let count = s[805];
+    if !roomy(bus, count, store, rows) {
         return false;
     }
-    let count = shelf.count as usize;
-    let granted = shelf.granted;
-    let last = shelf.arbiter.last;
-    let asks = shelf.arbiter.asks;
+    if !units_good(s, card, bus, count) {
+        return false;
+    }
+    let end = count as usize;
+    let granted = s[803];
+    let asks = asks_at(s);
     let mut seen = [false; 32];
     let mut i: usize = 0;
-    while i < count {
-        let unit = shelf.units[i];
-        if !unit_fits(card, bus, unit) {
-            return false;
-        }
-        let settings = unit.settings;
+    while i < end {
+        let settings = state::settings_at(s, i);
         let number = settings.number as usize;
-        if seen[number] | !waits(granted, asks[number], settings, unit.inlet.count) {
+        if seen[number] | !waits(granted, asks[number], settings, state::at(s, 15, i)) {
             return false;
         }
         seen[number] = true;
         i += 1;
     }
+    let last = [s[800], s[801], s[802]];
     arbiter_known(seen, granted, last, asks)
 }

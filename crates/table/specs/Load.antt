@@ -7,7 +7,7 @@ use lib.ListN.{length}
 use Rattle.card.specs.declared.Card.{Card}
 use Rattle.record.specs.Record.{size, usable, recordAt, cleared}
 use Rattle.shelf.specs.Shelves.{fresh}
-use Rattle.shelf.specs.declared.Shelf.{Shelf}
+use Rattle.shelf.specs.Shelf.{Shelf}
 use Rattle.text.specs.Text.{split}
 use Rattle.line.specs.Lines.{readingOf}
 use Rattle.line.specs.declared.Line.{Line}

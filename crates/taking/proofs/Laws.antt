@@ -18,9 +18,9 @@ use Rattle.queueing.proofs.Leaves.{leaving-iff}
 use Rattle.store.specs.Places.{slotAt, outletSlot}
 use Rattle.store.proofs.Slots.{start-inside, slot-inside}
 use Rattle.shelf.specs.declared.Unit as U
-use Rattle.shelf.specs.declared.Shelf.{Shelf}
+use Rattle.shelf.specs.Shelf.{Shelf}
 use Rattle.answer.specs.declared.Answer.the-variants.{Taken, Empty}
-use Rattle.answer.specs.declared.Done.{Done}
+use Rattle.answer.specs.Done.{Done}
 use Rattle.answer.specs.Answers.{#taken, none, row, ends}
 use Rattle.admit.specs.Admission.{unitAt, withUnit, Housed}
 use Rattle.taking.specs.Takes.{lineCell, handed, oldest, without, doneBy, bufferBy}

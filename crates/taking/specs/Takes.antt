@@ -13,9 +13,9 @@ use Rattle.queueing.specs.declared.Leaving.the-variants as leaves
 use Rattle.store.specs.Rings.{popped}
 use Rattle.store.specs.Places.{Cell, outletSlot, cellAt}
 use Rattle.shelf.specs.declared.Unit as U
-use Rattle.shelf.specs.declared.Shelf.{Shelf}
+use Rattle.shelf.specs.Shelf.{Shelf}
 use Rattle.answer.specs.declared.Answer.the-variants.{Taken, Empty}
-use Rattle.answer.specs.declared.Done.{Done}
+use Rattle.answer.specs.Done.{Done}
 use Rattle.answer.specs.Answers.{#taken, none, row, ends, refused}
 use Rattle.admit.specs.declared.Admitted as D
 use Rattle.admit.specs.Admission.{admitted, decided, unitAt, withUnit, withQueue}

@@ -10,7 +10,7 @@ use Rattle.header.specs.declared.Link.the-variants.{Uni}
 use Rattle.outlet.specs.Outlets.{empty, one}
 use Rattle.arbiter.specs.Arbitration.{nobody}
 use Rattle.shelf.specs.Shelves.{blank, fresh}
-use Rattle.shelf.specs.declared.Shelf.{Shelf}
+use Rattle.shelf.specs.Shelf.{Shelf}
 use Rattle.soundness.specs.State.{soundOf}
 use Rattle.table.specs.Load.{load}
 use Rattle.counters.specs.declared.Counters as C
@@ -121,7 +121,7 @@ running =
             outlet = record { limits = one 100 false .limits; queues = record { head = 122; count = 3 } ∷ empty ∷ empty ∷ empty ∷ [] };
             inlet = record { head = 3; count = 2 };
             place = 0;
-            sessions = replicate 4 0;
+            sessions = replicate 32 0;
           });
       arbiter = record { last = nobody ∷ 4 ∷ nobody ∷ []; asks = set (replicate 32 0) 4 2 };
       granted = 4;

@@ -6,7 +6,7 @@ use lib.ListN.{length}
 use borrow.Author.Tests.{not-true, not-false}
 use Rattle.soundness.specs.State.{soundOf}
 use Rattle.soundness.proofs.Facts.{sound-iff}
-use Rattle.answer.specs.declared.Done.{Done}
+use Rattle.answer.specs.Done.{Done}
 use Rattle.answer.specs.Answers.{refused}
 use Rattle.admit.proofs.Laws.{sound-housed}
 use Rattle.framing.specs.Frames.{doneAt, storeAt, bufferAt}

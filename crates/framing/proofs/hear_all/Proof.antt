@@ -9,7 +9,7 @@ use borrow.Author.Needs.{needs}
 use Rattle.octets.specs.Octets.{splice}
 use Rattle.store.specs.Places.{putAt}
 use Rattle.shelf.specs.Shelves.{declared}
-use Rattle.shelf.specs.declared.Shelf.{Shelf}
+use Rattle.shelf.specs.Shelf.{Shelf}
 use Rattle.outlet.proofs.Laws.{length-mapped}
 use Rattle.admit.proofs.Laws.{nowhere, copied}
 use Rattle.admit.specs.Admission.{Housed}

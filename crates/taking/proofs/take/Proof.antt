@@ -6,7 +6,7 @@ use lib.Dec.{eqb}
 use lib.ListN.{length}
 use borrow.Author.Tests.{eqb-true}
 use Rattle.queueing.specs.Taking.{leaving}
-use Rattle.answer.specs.declared.Done.{Done}
+use Rattle.answer.specs.Done.{Done}
 use Rattle.admit.specs.Admission.{unitAt}
 use Rattle.admit.proofs.Laws.{at-let-in, let-in-housed, decided-at, decided-refused}
 use Rattle.taking.proofs.Laws.{done-fits}
