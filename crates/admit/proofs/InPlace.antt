@@ -5,10 +5,12 @@ use mathlib.Core.Bool.{Bool, true, false, cond, _&&_}
 use mathlib.Core.Logic.{Iff·rfl}
 use mathlib.Core.List.{List}
 use native.Mathlib.Omega.{arith}
+use lib.ListN.{length, getD, length-take}
 use Rattle.card.specs.declared.Card.{Card}
 use Rattle.outlet.proofs.Truth.{and-iff}
 use Rattle.shelf.specs.Shelves.{declared, blank, findIn}
 use Rattle.shelf.specs.declared.Found.the-variants as found
+use Rattle.shelf.proofs.Finding.{find-at}
 use Rattle.state.specs.Bytes.{unitIn, shelfIn}
 use Rattle.state.proofs.Laws.{unit-at}
 use Rattle.soundness.specs.State.{soundOf}
@@ -80,6 +82,11 @@ module _ (card : Card) (b : List ℕ) (store rows unit : ℕ) (right : Bool) (i 
             row = w .1;
           }
       pick false ef h = absurd (let z : _≡_ {A = ℕ} 0 1 = cc in omega arith)
+
+  pub below-count : LetInPlace card b store rows unit right i → i < getD b 805 0
+  below-count l =
+      let e = find-at unit (declared (shelfIn b)) i .0 (l .let-in .found) .inside in
+      omega (arith, length-take (getD b 805 0) (shelfIn b .units))
 
   -- and one that is refused with a number
   pub refused-place : (n : ℕ) → admittedIn card b store rows unit right ≡ Refused n → (formedAll b ≡ true → admitted card (shelfIn b) store rows unit right ≡ Refused n) × (formedAll b ≡ false → n ≡ 8)
