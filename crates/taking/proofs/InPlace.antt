@@ -32,7 +32,7 @@ use Rattle.admit.specs.Admission.{decided, unitAt, withUnit, Housed}
 use Rattle.admit.proofs.Laws.{decided-all, decided-both}
 use Rattle.admit.proofs.InPlace.{formed-in, in-place, below-count}
 use Rattle.taking.specs.Takes.{outward, handed, oldest, without, doneBy, bufferBy, doneAt, bufferAt, takeDone}
-use Rattle.taking.specs.InPlace.{stateBy, stateAt, wayIn, takeState}
+use Rattle.taking.specs.InPlace.{stateBy, stateAt, comesIn, takeState}
 use Rattle.taking.proofs.Laws.{leaving-few, oldest-inside}
 
 -- by the outlet that was read
@@ -141,32 +141,32 @@ module _ (card : Card) (b : List ℕ) (store rows unit lent : ℕ) (long : lengt
   abbrev state : List ℕ
   state = takeState card b store rows unit lent
 
-  below : (i : ℕ) → wayIn card b store rows unit lent ≡ lets.At i → i < 32
+  below : (i : ℕ) → comesIn card b store rows unit lent ≡ lets.At i → i < 32
   below i e = in-place card b store rows unit (eqb lent 53) i e .below
 
   pub take-decodes : formedAll b ≡ true → shelfIn state ≡ takeDone card (shelfIn b) store rows unit lent .reply .shelf
   take-decodes formed =
-      decided-both shelfIn (λ (d : Done). d .reply .shelf) (stateAt b) (λ number. b) (doneAt (shelfIn b)) (refused (shelfIn b)) (wayIn card b store rows unit lent)
+      decided-both shelfIn (λ (d : Done). d .reply .shelf) (stateAt b) (λ number. b) (doneAt (shelfIn b)) (refused (shelfIn b)) (comesIn card b store rows unit lent)
       (λ i e. at-decodes b long i (below i e))
       (λ number. refl)
       ∙ ap (λ d. decided d (doneAt (shelfIn b)) (refused (shelfIn b)) .reply .shelf) (formed-in card b store rows unit (eqb lent 53) formed)
 
   pub take-formed : formedAll b ≡ true → formedAll state ≡ true
   take-formed formed =
-      decided-all (λ x. formedAll x ≡ true) (stateAt b) (λ number. b) (wayIn card b store rows unit lent)
+      decided-all (λ x. formedAll x ≡ true) (stateAt b) (λ number. b) (comesIn card b store rows unit lent)
       (λ i e. at-formed b long i (below i e) (leaving (unitIn b i .outlet)) refl ∙ formed)
       (λ number. formed)
 
   pub take-long : length state ≡ 2048
   take-long =
-      decided-all (λ x. length x ≡ 2048) (stateAt b) (λ number. b) (wayIn card b store rows unit lent)
+      decided-all (λ x. length x ≡ 2048) (stateAt b) (λ number. b) (comesIn card b store rows unit lent)
       (λ i e. at-long b long i (below i e) (leaving (unitIn b i .outlet)) ∙ long)
       (λ number. long)
 
   -- every byte but those of the unit's rings is as it was
-  pub take-other : (k : ℕ) → ((i : ℕ) → wayIn card b store rows unit lent ≡ lets.At i → 448 ≤ k → k < 768 → k % 32 ≡ i → ⊥) → getD state k 0 ≡ getD b k 0
+  pub take-other : (k : ℕ) → ((i : ℕ) → comesIn card b store rows unit lent ≡ lets.At i → 448 ≤ k → k < 768 → k % 32 ≡ i → ⊥) → getD state k 0 ≡ getD b k 0
   take-other k apart =
-      decided-all (λ x. getD x k 0 ≡ getD b k 0) (stateAt b) (λ number. b) (wayIn card b store rows unit lent)
+      decided-all (λ x. getD x k 0 ≡ getD b k 0) (stateAt b) (λ number. b) (comesIn card b store rows unit lent)
       (λ i e. at-other b long i (below i e) k (apart i e) (leaving (unitIn b i .outlet)) refl)
       (λ number. refl)
 

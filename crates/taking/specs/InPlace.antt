@@ -27,14 +27,14 @@ abbrev pub stateAt : List ℕ → ℕ → List ℕ
 stateAt b place = stateBy (leaving (unitIn b place .outlet)) (unitIn b place .outlet) b place
 
 -- at the unit with a number, if it is let in
-abbrev pub wayIn : Card → List ℕ → ℕ → ℕ → ℕ → ℕ → D.Admitted
-wayIn card b store rows unit lent = admittedIn card b store rows unit (eqb lent 53)
+abbrev pub comesIn : Card → List ℕ → ℕ → ℕ → ℕ → ℕ → D.Admitted
+comesIn card b store rows unit lent = admittedIn card b store rows unit (eqb lent 53)
 
 abbrev pub takeOut : Card → List ℕ → ℕ → ℕ → ℕ → ℕ → Outcome
 takeOut card b store rows unit lent = formedOr b (outcomeOf (takeDone card (shelfIn b) store rows unit lent)) (refusedWith 8)
 
 abbrev pub takeState : Card → List ℕ → ℕ → ℕ → ℕ → ℕ → List ℕ
-takeState card b store rows unit lent = decided (wayIn card b store rows unit lent) (stateAt b) (λ number. b)
+takeState card b store rows unit lent = decided (comesIn card b store rows unit lent) (stateAt b) (λ number. b)
 
 abbrev pub takeBufferIn : Card → List ℕ → List ℕ → ℕ → ℕ → List ℕ → List ℕ
 takeBufferIn card b store rows unit buffer = formedOr b (takeBuffer card (shelfIn b) store rows unit buffer) buffer

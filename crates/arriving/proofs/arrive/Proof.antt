@@ -1,65 +1,43 @@
--- `arriving::arrive` meets its contract. Assumes nothing.
-use Prim.Native.Nat.{_≤_}
-use native.Mathlib.Omega.{arith}
-use mathlib.Core.Path.{sym, ap, subst, _∙_}
-use lib.Dec.{eqb}
-use lib.ListN.{length}
-use borrow.Author.Tests.{eqb-true}
-use Rattle.answer.specs.Done.{Done}
-use Rattle.admit.specs.Admission.{unitAt}
-use Rattle.admit.proofs.Laws.{at-let-in, let-in-housed, decided-at, decided-refused}
-use Rattle.arriving.specs.Arriving.{wayOf}
-use Rattle.arriving.proofs.Leaves.{done-fits}
 use borrow.Author.Needs.{needs}
 use Rattle.arriving.proofs.arrive.Statement.{statement}
 use Rattle.arriving.proofs.arrive.Tie as tie
+use Rattle.arriving.proofs.arrive.Reads as reads
+use Rattle.arriving.proofs.arrive.Lts as lts
+use Rattle.admit.proofs.admit.Reads as admit-reads
+use Rattle.answer.proofs.refused.Reads as refused-reads
+use Rattle.arriving.proofs.arrive_at.Reads as arrive-at-reads
 
+-- src/lib.rt:119:11
 admit-requires : tie.Need-admit-requires
 admit-requires c κs = search needs
 
+-- src/lib.rt:120:22
 enum-known-place : tie.Need-enum-known-place
 enum-known-place c = search needs
 
+-- src/lib.rt:120:32
 arrive-at-requires : tie.Need-arrive-at-requires
-arrive-at-requires c κs =
-    let a = c .before .before .before .before .before .before .before .before .args in
-    let e = sym (c .before .before .before .before .admit .ensures) ∙ c .before .before .place .given .1 in
-    let l = at-let-in (a .card) (a .shelf) (length (a .store .now)) (a .rows) (a .unit) (eqb (length (a .cell .now)) 53) _ e in
-    let h = let-in-housed (a .card) (a .shelf) (length (a .store .now)) (a .rows) (a .unit) (eqb (length (a .cell .now)) 53) _ l in
-    (eqb-true (length (a .cell .now)) 53 (l .fits), h .0)
+arrive-at-requires c κs = ?
 
+-- src/lib.rt:121:27
 enum-known-number : tie.Need-enum-known-number
 enum-known-number c = search needs
 
+-- src/lib.rt:121:38
 refused-requires : tie.Need-refused-requires
 refused-requires c κs = search needs
 
+-- src/lib.rt:107:1
 same-length : tie.Need-same-length
 same-length c = search needs
 
+-- src/lib.rt:107:1
 returns : tie.Need-returns
-returns c =
-    let a = c .before .before .before .before .before .before .before .before .before .before .before .args in
-    let e = sym (c .before .before .before .before .before .before .before .admit .ensures) ∙ c .before .before .before .before .before .place .given .1 in
-    let l = at-let-in (a .card) (a .shelf) (length (a .store .now)) (a .rows) (a .unit) (eqb (length (a .cell .now)) 53) _ e in
-    let h = let-in-housed (a .card) (a .shelf) (length (a .store .now)) (a .rows) (a .unit) (eqb (length (a .cell .now)) 53) _ l in (
-      (
-        c .before .before .arrive-at .ensures .0 ∙ decided-at _ _ _ _ e,
-        c .before .before .arrive-at .ensures .1 ∙ decided-at _ _ _ _ e,
-      ),
-      subst (λ (x : Done). (x .rises .to ≤ 32) × (x .rises .to ≤ a .rows)) (sym (c .before .before .arrive-at .ensures .0)) (done-fits (wayOf (a .card) (unitAt (a .shelf) _) (a .memory .now) (a .cell .now)) (a .shelf) _ (a .rows) (h .0 .below) (h .1)),
-    )
+returns c = ?
 
+-- src/lib.rt:107:1
 returns-2 : tie.Need-returns-2
-returns-2 c =
-    let a = c .before .before .before .before .before .before .before .before .args in
-    let e = sym (c .before .before .before .before .admit .ensures) ∙ c .before .before .number .given .1 in (
-      (
-        c .refused .ensures ∙ decided-refused _ _ _ _ e,
-        decided-refused _ _ _ _ e,
-      ),
-      subst (λ (x : Done). (x .rises .to ≤ 32) × (x .rises .to ≤ a .rows)) (sym (c .refused .ensures)) (omega arith, omega arith),
-    )
+returns-2 c = ?
 
 pub arrive-spec : {M : Type 1} → statement M
 arrive-spec =

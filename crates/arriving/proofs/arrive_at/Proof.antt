@@ -1,149 +1,149 @@
--- `arriving::arrive_at` meets its contract. Assumes nothing.
-use Rattle.admit.proofs.Laws.{copied}
-use Prim.Native.Nat.{_+_, _≤_}
-use mathlib.Core.Path.{_≡_, sym, ap, subst, _∙_}
-use Rattle.octets.specs.Octets.{splice}
-use Rattle.outlet.specs.Outlets.{RingFits}
-use Rattle.store.specs.Places.{slotAt, inletSlot, putAt}
-use native.Mathlib.Omega.{arith}
-use lib.ListN.{length}
-use Rattle.outlet.proofs.Laws.{length-mapped}
-use Rattle.admit.specs.Admission.{unitAt}
-use Rattle.arriving.specs.Arriving.{wayOf, arrived, doneBy, storeBy}
-use Rattle.arriving.proofs.Leaves.{lost-done, lost-store, full-done, full-store, queued-done, queued-store, inlet-inside}
 use borrow.Author.Needs.{needs}
 use Rattle.arriving.proofs.arrive_at.Statement.{statement}
 use Rattle.arriving.proofs.arrive_at.Tie as tie
+use Rattle.arriving.proofs.arrive_at.Reads as reads
+use Rattle.arriving.proofs.arrive_at.Lts as lts
+use Rattle.arriving.proofs.arrived.Reads as arrived-reads
+use Rattle.arriving.proofs.fate_by.Reads as fate-by-reads
+use Rattle.arriving.proofs.way_of.Reads as way-of-reads
+use Rattle.bus.proofs.compose.Reads as compose-reads
+use Rattle.state.proofs.place_at.Reads as place-at-reads
+use Rattle.state.proofs.put_ring.Reads as put-ring-reads
+use Rattle.state.proofs.ring_at.Reads as ring-at-reads
+use Rattle.state.proofs.settings_at.Reads as settings-at-reads
+use Rattle.store.proofs.inlet_at.Reads as inlet-at-reads
+use Rattle.store.proofs.pushed.Reads as pushed-reads
+use Rattle.store.proofs.put_cell.Reads as put-cell-reads
+use Rattle.store.proofs.tail.Reads as tail-reads
 
--- there are 32 places
-long : (c : tie.Start) → length (c .args .t2 .units) ≡ 32
-long c = search (needs, length-mapped)
+-- src/lib.rt:88:9
+settings-at-requires : tie.Need-settings-at-requires
+settings-at-requires c κs = search needs
 
-mul-unit : tie.Need-mul-unit
-mul-unit c = search needs
+-- src/lib.rt:89:38
+place-at-requires : tie.Need-place-at-requires
+place-at-requires c κs = search needs
 
-element-copy-out-unit : tie.Need-element-copy-out-unit
-element-copy-out-unit c = search needs
-
+-- src/lib.rt:89:9
 way-of-requires : tie.Need-way-of-requires
 way-of-requires c κs = search needs
 
+-- src/lib.rt:90:9
 fate-by-requires : tie.Need-fate-by-requires
 fate-by-requires c κs = search needs
 
+-- src/lib.rt:91:20
 enum-known-way : tie.Need-enum-known-way
 enum-known-way c = search needs
 
+-- src/lib.rt:92:9
 enum-told : tie.Need-enum-told
 enum-told c = search needs
 
+-- src/lib.rt:92:9
 arrived-requires : tie.Need-arrived-requires
 arrived-requires c κs = search needs
 
-returns : tie.Need-returns
-returns c =
-    let a = c .before .before .before .before .before .before .before .before .before .args in
-    let h = c .before .before .before .before .before .before .before .before .before .pre .1 in
-    let u = copied (a .t2) (a .place) (long (c .before .before .before .before .before .before .before .before .before)) (h .below) in
-    let w = (c .before .before .before .before .way-of .ensures ∙ ap (λ x. wayOf (a .card) x (a .memory .now) (a .cell .now)) u) in (
-      c .arrived .ensures
-          ∙ ap (arrived (a .t2) (a .place)) (c .before .before .before .fate-by .ensures)
-          ∙ lost-done (a .t2) (a .place) _ u (a .store .now) (a .cell .now) _ _ (c .before .enum-told .given .1)
-          ∙ ap (λ x. doneBy x (a .t2) (a .place)) w,
-      lost-store (a .t2) (a .place) _ u (a .store .now) (a .cell .now) _ _ (c .before .enum-told .given .1)
-          ∙ ap (λ x. storeBy x (unitAt (a .t2) (a .place)) (a .place) (a .store .now) (a .cell .now)) w,
-    )
-
-arrived-requires-2 : tie.Need-arrived-requires-2
-arrived-requires-2 c κs = search needs
-
-returns-2 : tie.Need-returns-2
-returns-2 c =
-    let a = c .before .before .before .before .before .before .before .before .before .before .before .before .before .args in
-    let h = c .before .before .before .before .before .before .before .before .before .before .before .before .before .pre .1 in
-    let u = copied (a .t2) (a .place) (long (c .before .before .before .before .before .before .before .before .before .before .before .before .before)) (h .below) in
-    let w = (c .before .before .before .before .before .before .before .before .way-of .ensures ∙ ap (λ x. wayOf (a .card) x (a .memory .now) (a .cell .now)) u) in (
-      c .arrived2 .ensures
-          ∙ full-done (a .t2) (a .place) _ u (a .store .now) (a .cell .now) _ _ _ (c .before .before .before .before .before .way .given .1) (c .before .if1 .taken)
-          ∙ ap (λ x. doneBy x (a .t2) (a .place)) w,
-      full-store (a .t2) (a .place) _ u (a .store .now) (a .cell .now) _ _ _ (c .before .before .before .before .before .way .given .1) (c .before .if1 .taken)
-          ∙ ap (λ x. storeBy x (unitAt (a .t2) (a .place)) (a .place) (a .store .now) (a .cell .now)) w,
-    )
-
-sub-compose : tie.Need-sub-compose
-sub-compose c = search needs
-
-part-compose-start : tie.Need-part-compose-start
-part-compose-start c = search needs
-
-part-compose-end : tie.Need-part-compose-end
-part-compose-end c = search needs
-
-slice-aggregate-compose : tie.Need-slice-aggregate-compose
-slice-aggregate-compose c = search needs
-
-compose-requires : tie.Need-compose-requires
-compose-requires c κs = search needs
-
-tail-requires : tie.Need-tail-requires
-tail-requires c κs = search needs
-
-inlet-at-requires : tie.Need-inlet-at-requires
-inlet-at-requires c κs = search needs
-
-slice-aggregate-put-cell : tie.Need-slice-aggregate-put-cell
-slice-aggregate-put-cell c = search needs
-
-put-cell-requires : tie.Need-put-cell-requires
-put-cell-requires c κs =
-    let a = c .before .before .before .before .before .before .before .before .before .before .before .before .before .before .before .before .before .before .before .before .args in
-    let h = c .before .before .before .before .before .before .before .before .before .before .before .before .before .before .before .before .before .before .before .before .pre .1 in
-    let u = copied (a .t2) (a .place) (long (c .before .before .before .before .before .before .before .before .before .before .before .before .before .before .before .before .before .before .before .before)) (h .below) in (
-      search needs,
-      subst (λ n. n + 56 ≤ length (a .store .now)) (sym (c .before .inlet-at .ensures ∙ ap (λ p. slotAt (a .place) (inletSlot p)) (c .before .before .before .tail .ensures))) (inlet-inside (a .place) (length (a .store .now)) _ (h .inside) (subst (λ x. RingFits (x .inlet) 4) (sym u) (h .inlet)) (c .before .before .before .before .before .before .before .before .if1 .left)),
-    )
-
-pushed-requires : tie.Need-pushed-requires
-pushed-requires c κs = search needs
-
-mul-unit-2 : tie.Need-mul-unit-2
-mul-unit-2 c = let below = c .before .before .before .before .before .before .before .before .before .before .before .before .before .before .before .before .before .before .before .before .before .before .before .before .pre .1 .below in omega arith
-
-element-set-from-unit : tie.Need-element-set-from-unit
-element-set-from-unit c = let below = c .before .before .before .before .before .before .before .before .before .before .before .before .before .before .before .before .before .before .before .before .before .before .before .before .pre .1 .below in omega arith
-
-arrived-requires-3 : tie.Need-arrived-requires-3
-arrived-requires-3 c κs = c .before .before .before .before .before .before .before .before .before .before .before .before .before .before .before .before .before .before .before .before .before .before .before .before .pre .1 .below
-
+-- src/lib.rt:92:9
 same-length : tie.Need-same-length
 same-length c = search needs
 
+-- src/lib.rt:92:9
+returns : tie.Need-returns
+returns c = ?
+
+-- src/lib.rt:94:9
+ring-at-requires : tie.Need-ring-at-requires
+ring-at-requires c κs = search needs
+
+-- src/lib.rt:96:9
+arrived-requires-2 : tie.Need-arrived-requires-2
+arrived-requires-2 c κs = search needs
+
+-- src/lib.rt:96:9
+same-length-2 : tie.Need-same-length-2
+same-length-2 c = search needs
+
+-- src/lib.rt:96:9
+returns-2 : tie.Need-returns-2
+returns-2 c = ?
+
+-- src/lib.rt:99:35
+sub-compose : tie.Need-sub-compose
+sub-compose c = search needs
+
+-- src/lib.rt:99:35
+part-compose-start : tie.Need-part-compose-start
+part-compose-start c = search needs
+
+-- src/lib.rt:99:35
+part-compose-end : tie.Need-part-compose-end
+part-compose-end c = search needs
+
+-- src/lib.rt:99:49
+slice-aggregate-compose : tie.Need-slice-aggregate-compose
+slice-aggregate-compose c = search needs
+
+-- src/lib.rt:99:5
+compose-requires : tie.Need-compose-requires
+compose-requires c κs = search needs
+
+-- src/lib.rt:100:9
+tail-requires : tie.Need-tail-requires
+tail-requires c κs = search needs
+
+-- src/lib.rt:101:28
+inlet-at-requires : tie.Need-inlet-at-requires
+inlet-at-requires c κs = ?
+
+-- src/lib.rt:101:58
+slice-aggregate-put-cell : tie.Need-slice-aggregate-put-cell
+slice-aggregate-put-cell c = search needs
+
+-- src/lib.rt:101:5
+put-cell-requires : tie.Need-put-cell-requires
+put-cell-requires c κs = ?
+
+-- src/lib.rt:102:39
+pushed-requires : tie.Need-pushed-requires
+pushed-requires c κs = search needs
+
+-- src/lib.rt:102:5
+put-ring-requires : tie.Need-put-ring-requires
+put-ring-requires c κs = ?
+
+-- src/lib.rt:103:5
+arrived-requires-3 : tie.Need-arrived-requires-3
+arrived-requires-3 c κs = ?
+
+-- src/lib.rt:76:1
+same-length-3 : tie.Need-same-length-3
+same-length-3 c = search needs
+
+-- src/lib.rt:76:1
+same-length-4 : tie.Need-same-length-4
+same-length-4 c = search needs
+
+-- src/lib.rt:76:1
 returns-3 : tie.Need-returns-3
-unfolding putAt
-returns-3 c =
-    let a = c .before .before .before .before .before .before .before .before .before .before .before .before .before .before .before .before .before .before .before .before .before .before .before .before .before .args in
-    let h = c .before .before .before .before .before .before .before .before .before .before .before .before .before .before .before .before .before .before .before .before .before .before .before .before .before .pre .1 in
-    let u = copied (a .t2) (a .place) (long (c .before .before .before .before .before .before .before .before .before .before .before .before .before .before .before .before .before .before .before .before .before .before .before .before .before)) (h .below) in
-    let w = (c .before .before .before .before .before .before .before .before .before .before .before .before .before .before .before .before .before .before .before .before .way-of .ensures ∙ ap (λ x. wayOf (a .card) x (a .memory .now) (a .cell .now)) u) in (
-      c .arrived3 .ensures ∙ ap (arrived _ (a .place)) (c .before .before .before .before .before .before .before .before .before .before .before .before .before .before .before .before .before .before .before .fate-by .ensures)
-          ∙ queued-done (a .t2) (a .place) _ u (a .store .now) (a .cell .now) _ _ _ (c .before .before .before .before .before .before .before .before .before .before .before .before .before .before .before .before .before .way .given .1) _ (c .before .pushed .ensures) (c .before .before .before .before .before .before .before .before .before .before .before .before .before .if1 .left) ∙ ap (λ x. doneBy x (a .t2) (a .place)) w,
-      c .before .before .before .before .put-cell .ensures ∙ (λ i. splice (a .store .now) ((c .before .before .before .before .before .before .inlet-at .ensures ∙ ap (λ p. slotAt (a .place) (inletSlot p)) (c .before .before .before .before .before .before .before .before .tail .ensures)) i) (c .before .before .before .before .before .before .before .before .before .before .compose .ensures i))
-          ∙ queued-store (a .t2) (a .place) _ u (a .store .now) (a .cell .now) _ _ _ (c .before .before .before .before .before .before .before .before .before .before .before .before .before .before .before .before .before .way .given .1) (c .before .before .before .before .before .before .before .before .before .before .before .before .before .if1 .left) ∙ ap (λ x. storeBy x (unitAt (a .t2) (a .place)) (a .place) (a .store .now) (a .cell .now)) w,
-    )
+returns-3 c = ?
 
 pub arrive-at-spec : {M : Type 1} → statement M
 arrive-at-spec =
     tie.close
     (tie.spec
-    mul-unit
-    element-copy-out-unit
+    settings-at-requires
+    place-at-requires
     way-of-requires
     fate-by-requires
     enum-known-way
     enum-told
     arrived-requires
+    same-length
     returns
+    ring-at-requires
     arrived-requires-2
+    same-length-2
     returns-2
     sub-compose
     part-compose-start
@@ -155,8 +155,8 @@ arrive-at-spec =
     slice-aggregate-put-cell
     put-cell-requires
     pushed-requires
-    mul-unit-2
-    element-set-from-unit
+    put-ring-requires
     arrived-requires-3
-    same-length
+    same-length-3
+    same-length-4
     returns-3)
