@@ -1,7 +1,7 @@
 -- The three ways an arrival at lent bytes ends, and that the bytes are then the shelf after an arrival. Assumes nothing.
 use Prim.Native.Nat.{ℕ, _+_, _*_, _%_, _≤_, _<_}
 use native.Mathlib.Omega.{arith}
-use mathlib.Core.Path.{_≡_, refl, sym, ap, _∙_}
+use mathlib.Core.Path.{_≡_, refl, sym, ap, subst, _∙_}
 use mathlib.Core.Bool.{Bool, true, false, cond}
 use mathlib.Core.List.{List}
 use lib.Dec.{eqb, leb}
@@ -10,9 +10,10 @@ use borrow.Author.Tests.{le-leb, lt-leb}
 use Rattle.octets.specs.Octets.{part}
 use Rattle.card.specs.declared.Card.{Card}
 use Rattle.outlet.specs.declared.Ring.{Ring}
+use Rattle.outlet.specs.Outlets.{RingFits}
 use Rattle.bus.specs.Frame.{cell}
 use Rattle.store.specs.Rings.{tail, pushed}
-use Rattle.store.specs.Places.{inletSlot, putAt}
+use Rattle.store.specs.Places.{slotAt, inletSlot, putAt}
 use Rattle.shelf.specs.Shelves.{blank}
 use Rattle.shelf.specs.declared.Unit as U
 use Rattle.state.specs.Bytes.{col, settingsBy, placeBy, ringBy, unitBy, unitIn, shelfIn, withRing}
@@ -25,13 +26,14 @@ use Rattle.answer.specs.declared.Arrival.the-variants.{Inletfull, Queued}
 use Rattle.answer.specs.Done.{Done, outcomeOf}
 use Rattle.answer.specs.Answers.{refused}
 use Rattle.admit.specs.declared.Admitted.the-variants as lets
-use Rattle.admit.specs.Admission.{decided, unitAt, withUnit, withInlet}
+use Rattle.admit.specs.Admission.{decided, unitAt, withUnit, withInlet, Housed}
 use Rattle.admit.proofs.Laws.{decided-all, decided-both}
 use Rattle.admit.proofs.InPlace.{formed-in, in-place, below-count}
 use Rattle.arriving.specs.Arriving.{wayFor, wayOf, fateBy, arrived, inletFull, cellIn, doneBy, storeBy, doneAt, storeAt, arriveDone}
 use Rattle.arriving.specs.InPlace.{arrivedWith, stateBy, stateAt, comesIn, arriveState}
 use Rattle.arriving.specs.declared.Way.{Way}
 use Rattle.arriving.specs.declared.Way.the-variants.{Bus, Lost}
+use Rattle.arriving.proofs.Leaves.{inlet-inside}
 
 -- by the settings, the place of the records and the inlet that were read
 module _ (card : Card) (b : List ℕ) (place : ℕ) (below : place < 32) (memory c : List ℕ) (w : Way) (ew : w ≡ wayFor card (settingsBy (col b place)) (placeBy (col b place)) memory c) where
@@ -85,6 +87,9 @@ module _ (card : Card) (b : List ℕ) (place : ℕ) (below : place < 32) (memory
         ap (λ x. cond x store (putAt store place (inletSlot (tail ring 4)) (cell routing 0 header (part c 5 48)))) (sym h)
         ∙ ap (λ (r : Ring). cond (leb 4 (r .count)) store (putAt store place (inletSlot (tail r 4)) (cell routing 0 header (part c 5 48)))) inlet-there
         ∙ ap (λ x. storeBy x (unitAt (shelfIn b) place) place store c) (there (Bus routing header) e)
+
+    pub inlet-room : (bytes : ℕ) → Housed place (unitIn b place) bytes → ring .count < 4 → slotAt place (inletSlot (tail ring 4)) + 56 ≤ bytes
+    inlet-room bytes h k = inlet-inside place bytes ring (h .inside) (subst (λ r. RingFits r 4) (sym inlet-here) (h .inlet)) k
 
     module _ (h : 4 ≤ ring .count) where
       pub full-out : arrivedWith place Inletfull ≡ outcomeOf (doneAt card (shelfIn b) place memory c)
@@ -162,8 +167,8 @@ module _ (card : Card) (b memory : List ℕ) (store rows unit : ℕ) (c : List �
   arrive-decodes formed =
       decided-both shelfIn (λ (d : Done). d .reply .shelf) within (λ number. b) (λ place. doneAt card (shelfIn b) place memory c) (refused (shelfIn b)) (comesIn card b store rows unit c)
       (λ i e.
-        after b i (below i e) long (wayOf card (unitIn b i) memory c)
-        ∙ ap (λ u. doneBy (wayOf card u memory c) (shelfIn b) i .reply .shelf) (sym (unit-at b i blank (below i e))))
+      after b i (below i e) long (wayOf card (unitIn b i) memory c)
+      ∙ ap (λ u. doneBy (wayOf card u memory c) (shelfIn b) i .reply .shelf) (sym (unit-at b i blank (below i e))))
       (λ number. refl)
       ∙ ap (λ d. decided d (λ place. doneAt card (shelfIn b) place memory c) (refused (shelfIn b)) .reply .shelf) (formed-in card b store rows unit (eqb (length c) 53) formed)
 

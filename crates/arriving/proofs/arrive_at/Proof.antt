@@ -1,132 +1,143 @@
+-- `arriving::arrive_at` meets its contract. Assumes nothing.
+use Prim.Native.Nat.{_+_, _≤_}
+use native.Mathlib.Omega.{arith}
+use mathlib.Core.Path.{_≡_, sym, ap, subst, _∙_}
+use lib.ListN.{length}
+use Rattle.octets.specs.Octets.{splice}
+use Rattle.store.specs.Places.{slotAt, inletSlot, putAt}
+use Rattle.store.specs.Rings.{pushed}
+use Rattle.state.specs.Bytes.{withRing}
+use Rattle.arriving.specs.Arriving.{wayFor}
+use Rattle.arriving.specs.InPlace.{arrivedWith}
+use Rattle.arriving.proofs.InPlace.{lost-out, lost-state, lost-store, full-out, full-state, full-store, queued-out, queued-state, queued-store, inlet-room}
 use borrow.Author.Needs.{needs}
 use Rattle.arriving.proofs.arrive_at.Statement.{statement}
 use Rattle.arriving.proofs.arrive_at.Tie as tie
-use Rattle.arriving.proofs.arrive_at.Reads as reads
-use Rattle.arriving.proofs.arrive_at.Lts as lts
-use Rattle.arriving.proofs.arrived.Reads as arrived-reads
-use Rattle.arriving.proofs.fate_by.Reads as fate-by-reads
-use Rattle.arriving.proofs.way_of.Reads as way-of-reads
-use Rattle.bus.proofs.compose.Reads as compose-reads
-use Rattle.state.proofs.place_at.Reads as place-at-reads
-use Rattle.state.proofs.put_ring.Reads as put-ring-reads
-use Rattle.state.proofs.ring_at.Reads as ring-at-reads
-use Rattle.state.proofs.settings_at.Reads as settings-at-reads
-use Rattle.store.proofs.inlet_at.Reads as inlet-at-reads
-use Rattle.store.proofs.pushed.Reads as pushed-reads
-use Rattle.store.proofs.put_cell.Reads as put-cell-reads
-use Rattle.store.proofs.tail.Reads as tail-reads
 
--- src/lib.rt:88:9
 settings-at-requires : tie.Need-settings-at-requires
 settings-at-requires c κs = search needs
 
--- src/lib.rt:89:38
 place-at-requires : tie.Need-place-at-requires
 place-at-requires c κs = search needs
 
--- src/lib.rt:89:9
 way-of-requires : tie.Need-way-of-requires
 way-of-requires c κs = search needs
 
--- src/lib.rt:90:9
 fate-by-requires : tie.Need-fate-by-requires
 fate-by-requires c κs = search needs
 
--- src/lib.rt:91:20
 enum-known-way : tie.Need-enum-known-way
 enum-known-way c = search needs
 
--- src/lib.rt:92:9
 enum-told : tie.Need-enum-told
 enum-told c = search needs
 
--- src/lib.rt:92:9
 arrived-requires : tie.Need-arrived-requires
 arrived-requires c κs = search needs
 
--- src/lib.rt:92:9
 same-length : tie.Need-same-length
 same-length c = search needs
 
--- src/lib.rt:92:9
 returns : tie.Need-returns
-returns c = ?
+returns c =
+    let a = c .before .before .before .before .before .before .before .before .before .before .before .before .before .args in
+    let below = c .before .before .before .before .before .before .before .before .before .before .before .before .before .pre .2 .below in
+    let w = c .before .before .before .before .way-of in
+    let ew = w .ensures ∙ (λ i. wayFor (a .card) (c .before .before .before .before .before .before .before .settings-at .ensures i) (c .before .before .before .before .before .place-at .ensures i) (a .memory .now) (a .cell .now)) in
+    let e = c .before .enum-told .given .1 in (
+      c .arrived .ensures ∙ ap (arrivedWith (a .place)) (c .before .before .before .fate-by .ensures) ∙ lost-out (a .card) (a .s .now) (a .place) below (a .memory .now) (a .cell .now) (w .result) ew _ e,
+      (lost-state (a .card) (a .s .now) (a .place) below (a .memory .now) (a .cell .now) (w .result) ew _ e, lost-store (a .card) (a .s .now) (a .place) below (a .memory .now) (a .cell .now) (w .result) ew _ e (a .store .now)),
+    )
 
--- src/lib.rt:94:9
 ring-at-requires : tie.Need-ring-at-requires
 ring-at-requires c κs = search needs
 
--- src/lib.rt:96:9
 arrived-requires-2 : tie.Need-arrived-requires-2
 arrived-requires-2 c κs = search needs
 
--- src/lib.rt:96:9
 same-length-2 : tie.Need-same-length-2
 same-length-2 c = search needs
 
--- src/lib.rt:96:9
 returns-2 : tie.Need-returns-2
-returns-2 c = ?
+returns-2 c =
+    let a = c .before .before .before .before .before .before .before .before .before .before .before .before .before .before .before .before .before .before .args in
+    let below = c .before .before .before .before .before .before .before .before .before .before .before .before .before .before .before .before .before .before .pre .2 .below in
+    let w = c .before .before .before .before .before .before .before .before .before .way-of in
+    let ew = w .ensures ∙ (λ i. wayFor (a .card) (c .before .before .before .before .before .before .before .before .before .before .before .before .settings-at .ensures i) (c .before .before .before .before .before .before .before .before .before .before .place-at .ensures i) (a .memory .now) (a .cell .now)) in
+    let e = c .before .before .before .before .before .before .way .given .1 in
+    let r = c .before .before .before .ring-at in
+    let h = c .before .if1 .taken in (
+      c .arrived2 .ensures ∙ full-out (a .card) (a .s .now) (a .place) below (a .memory .now) (a .cell .now) (w .result) ew _ _ e (r .result) (r .ensures) h,
+      (full-state (a .card) (a .s .now) (a .place) below (a .memory .now) (a .cell .now) (w .result) ew _ _ e (r .result) (r .ensures) h, full-store (a .card) (a .s .now) (a .place) below (a .memory .now) (a .cell .now) (w .result) ew _ _ e (r .result) (r .ensures) h (a .store .now)),
+    )
 
--- src/lib.rt:99:35
 sub-compose : tie.Need-sub-compose
 sub-compose c = search needs
 
--- src/lib.rt:99:35
 part-compose-start : tie.Need-part-compose-start
 part-compose-start c = search needs
 
--- src/lib.rt:99:35
 part-compose-end : tie.Need-part-compose-end
 part-compose-end c = search needs
 
--- src/lib.rt:99:49
 slice-aggregate-compose : tie.Need-slice-aggregate-compose
 slice-aggregate-compose c = search needs
 
--- src/lib.rt:99:5
 compose-requires : tie.Need-compose-requires
 compose-requires c κs = search needs
 
--- src/lib.rt:100:9
 tail-requires : tie.Need-tail-requires
 tail-requires c κs = search needs
 
--- src/lib.rt:101:28
 inlet-at-requires : tie.Need-inlet-at-requires
-inlet-at-requires c κs = ?
+inlet-at-requires c κs = c .before .before .before .before .before .before .before .before .before .before .before .before .before .before .before .before .before .before .before .before .before .before .before .pre .2 .below
 
--- src/lib.rt:101:58
 slice-aggregate-put-cell : tie.Need-slice-aggregate-put-cell
 slice-aggregate-put-cell c = search needs
 
--- src/lib.rt:101:5
 put-cell-requires : tie.Need-put-cell-requires
-put-cell-requires c κs = ?
+put-cell-requires c κs =
+    let a = c .before .before .before .before .before .before .before .before .before .before .before .before .before .before .before .before .before .before .before .before .before .before .before .before .before .args in
+    let below = c .before .before .before .before .before .before .before .before .before .before .before .before .before .before .before .before .before .before .before .before .before .before .before .before .before .pre .2 .below in
+    let w = c .before .before .before .before .before .before .before .before .before .before .before .before .before .before .before .before .way-of in
+    let ew = w .ensures ∙ (λ i. wayFor (a .card) (c .before .before .before .before .before .before .before .before .before .before .before .before .before .before .before .before .before .before .before .settings-at .ensures i) (c .before .before .before .before .before .before .before .before .before .before .before .before .before .before .before .before .before .place-at .ensures i) (a .memory .now) (a .cell .now)) in
+    let e = c .before .before .before .before .before .before .before .before .before .before .before .before .before .way .given .1 in
+    let r = c .before .before .before .before .before .before .before .before .before .before .ring-at in
+    let at = c .before .inlet-at .ensures ∙ ap (λ p. slotAt (a .place) (inletSlot p)) (c .before .before .before .tail .ensures) in
+    (search needs, subst (λ n. n + 56 ≤ length (a .store .now)) (sym at) (inlet-room (a .card) (a .s .now) (a .place) below (a .memory .now) (a .cell .now) (w .result) ew _ _ e (r .result) (r .ensures) (length (a .store .now)) (c .before .before .before .before .before .before .before .before .before .before .before .before .before .before .before .before .before .before .before .before .before .before .before .before .before .pre .2) (c .before .before .before .before .before .before .before .before .if1 .left)))
 
--- src/lib.rt:102:39
 pushed-requires : tie.Need-pushed-requires
 pushed-requires c κs = search needs
 
--- src/lib.rt:102:5
 put-ring-requires : tie.Need-put-ring-requires
-put-ring-requires c κs = ?
+put-ring-requires c κs = (c .before .before .before .before .before .before .before .before .before .before .before .before .before .before .before .before .before .before .before .before .before .before .before .before .before .before .before .before .before .before .pre .0, omega arith, omega arith, c .before .before .before .before .before .before .before .before .before .before .before .before .before .before .before .before .before .before .before .before .before .before .before .before .before .before .before .before .before .before .pre .2 .below)
 
--- src/lib.rt:103:5
 arrived-requires-3 : tie.Need-arrived-requires-3
-arrived-requires-3 c κs = ?
+arrived-requires-3 c κs = c .before .before .before .before .before .before .before .before .before .before .before .before .before .before .before .before .before .before .before .before .before .before .before .before .before .before .before .before .before .before .before .before .before .pre .2 .below
 
--- src/lib.rt:76:1
 same-length-3 : tie.Need-same-length-3
 same-length-3 c = search needs
 
--- src/lib.rt:76:1
 same-length-4 : tie.Need-same-length-4
 same-length-4 c = search needs
 
--- src/lib.rt:76:1
 returns-3 : tie.Need-returns-3
-returns-3 c = ?
+unfolding putAt
+returns-3 c =
+    let a = c .before .before .before .before .before .before .before .before .before .before .before .before .before .before .before .before .before .before .before .before .before .before .before .before .before .before .before .before .before .before .before .before .before .before .args in
+    let below = c .before .before .before .before .before .before .before .before .before .before .before .before .before .before .before .before .before .before .before .before .before .before .before .before .before .before .before .before .before .before .before .before .before .before .pre .2 .below in
+    let w = c .before .before .before .before .before .before .before .before .before .before .before .before .before .before .before .before .before .before .before .before .before .before .before .before .before .way-of in
+    let ew = w .ensures ∙ (λ i. wayFor (a .card) (c .before .before .before .before .before .before .before .before .before .before .before .before .before .before .before .before .before .before .before .before .before .before .before .before .before .before .before .before .settings-at .ensures i) (c .before .before .before .before .before .before .before .before .before .before .before .before .before .before .before .before .before .before .before .before .before .before .before .before .before .before .place-at .ensures i) (a .memory .now) (a .cell .now)) in
+    let e = c .before .before .before .before .before .before .before .before .before .before .before .before .before .before .before .before .before .before .before .before .before .before .way .given .1 in
+    let r = c .before .before .before .before .before .before .before .before .before .before .before .before .before .before .before .before .before .before .before .ring-at in
+    let at = c .before .before .before .before .before .before .before .before .before .before .inlet-at .ensures ∙ ap (λ p. slotAt (a .place) (inletSlot p)) (c .before .before .before .before .before .before .before .before .before .before .before .before .tail .ensures) in
+    let h = c .before .before .before .before .before .before .before .before .before .before .before .before .before .before .before .before .before .if1 .left in (
+      c .arrived3 .ensures ∙ ap (arrivedWith (a .place)) (c .before .before .before .before .before .before .before .before .before .before .before .before .before .before .before .before .before .before .before .before .before .before .before .before .fate-by .ensures) ∙ queued-out (a .card) (a .s .now) (a .place) below (a .memory .now) (a .cell .now) (w .result) ew _ _ e (r .result) (r .ensures) h,
+      (
+        c .before .before .before .put-ring .ensures ∙ ap (withRing (a .s .now) 14 15 (a .place)) (c .before .before .before .before .pushed .ensures) ∙ queued-state (a .card) (a .s .now) (a .place) below (a .memory .now) (a .cell .now) (w .result) ew _ _ e (r .result) (r .ensures) h,
+        c .before .before .before .before .before .before .before .before .put-cell .ensures ∙ (λ i. splice (a .store .now) (at i) (c .before .before .before .before .before .before .before .before .before .before .before .before .before .before .compose .ensures i)) ∙ queued-store (a .card) (a .s .now) (a .place) below (a .memory .now) (a .cell .now) (w .result) ew _ _ e (r .result) (r .ensures) h (a .store .now),
+      ),
+    )
 
 pub arrive-at-spec : {M : Type 1} → statement M
 arrive-at-spec =
