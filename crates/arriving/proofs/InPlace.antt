@@ -181,7 +181,7 @@ module _ (card : Card) (b memory : List ℕ) (store rows unit : ℕ) (c : List �
   arrive-long = arrive-all (λ x. length x ≡ 2048) long (λ i e h. ring-long b 14 15 i (pushed (unitIn b i .inlet)) ∙ long)
 
   -- every byte but those of the unit's inlet is as it was
-  pub arrive-other : (k : ℕ) → ((i : ℕ) → comesIn card b store rows unit c ≡ lets.At i → 448 ≤ k → k < 512 → k % 32 ≡ i → ⊥) → getD state k 0 ≡ getD b k 0
+  pub arrive-other : (k : ℕ) → ((i : ℕ) → comesIn card b store rows unit c ≡ lets.At i → 448 ≤ k → k < 768 → k % 32 ≡ i → ⊥) → getD state k 0 ≡ getD b k 0
   arrive-other k apart =
       arrive-all (λ x. getD x k 0 ≡ getD b k 0) refl
       (λ i e h. ring-other b 14 15 i (pushed (unitIn b i .inlet)) k (λ x. apart i e (omega arith) (omega arith) (omega arith)) (λ x. apart i e (omega arith) (omega arith) (omega arith)))
