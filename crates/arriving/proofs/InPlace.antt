@@ -35,6 +35,31 @@ use Rattle.arriving.specs.declared.Way.{Way}
 use Rattle.arriving.specs.declared.Way.the-variants.{Bus, Lost}
 use Rattle.arriving.proofs.Leaves.{inlet-inside}
 
+chosen : {X : Type 0} (P : X → Type 0) (t : Bool) {x y : X} → P x → P y → P (cond t x y)
+chosen P true px py = px
+chosen P false px py = py
+
+-- the bytes after an arrival at a place: as they were, or with one ring written
+module _ (b : List ℕ) (place : ℕ) (below : place < 32) where
+  abbrev put : List ℕ
+  put = withRing b 14 15 place (pushed (unitIn b place .inlet))
+
+  state-all : (P : List ℕ → Type 0) → P b → P put → (w : Way) → P (stateBy w (unitIn b place) b place)
+  unfolding stateBy
+  state-all P was is (Lost fate) = was
+  state-all P was is (Bus routing header) = chosen P (inletFull (unitIn b place)) was is
+
+  after : length b ≡ 2048 → (w : Way) → shelfIn (stateBy w (unitIn b place) b place) ≡ doneBy w (shelfIn b) place .reply .shelf
+  unfolding stateBy doneBy
+  after long (Lost fate) = refl
+  after long (Bus routing header) =
+      pick (inletFull (unitIn b place))
+      ∙ ap (λ (u : U.Unit). cond (inletFull u) (arrived (shelfIn b) place Inletfull) (arrived (withUnit (shelfIn b) place (withInlet u (pushed (u .inlet)))) place Queued) .reply .shelf) (sym (unit-at b place blank below))
+    where
+      pick : (t : Bool) → shelfIn (cond t b put) ≡ cond t (arrived (shelfIn b) place Inletfull) (arrived (withUnit (shelfIn b) place (withInlet (unitIn b place) (pushed (unitIn b place .inlet)))) place Queued) .reply .shelf
+      pick true = refl
+      pick false = inlet-put b place (pushed (unitIn b place .inlet)) below long
+
 -- by the settings, the place of the records and the inlet that were read
 module _ (card : Card) (b : List ℕ) (place : ℕ) (below : place < 32) (memory c : List ℕ) (w : Way) (ew : w ≡ wayFor card (settingsBy (col b place)) (placeBy (col b place)) memory c) where
   same : unitIn b place ≡ unitAt (shelfIn b) place
@@ -112,10 +137,6 @@ module _ (card : Card) (b : List ℕ) (place : ℕ) (below : place < 32) (memory
       pub queued-store : (store : List ℕ) → putAt store place (inletSlot (tail ring 4)) (cell routing 0 header (part c 5 48)) ≡ storeAt card (shelfIn b) place memory store c
       queued-store = store-by false (lt-leb 4 (ring .count) h)
 
-chosen : {X : Type 0} (P : X → Type 0) (t : Bool) {x y : X} → P x → P y → P (cond t x y)
-chosen P true px py = px
-chosen P false px py = py
-
 -- one row changes, that of the unit
 pub out-fits : (w : Way) (b : List ℕ) (place rows : ℕ) → place < 32 → place < rows →
     (outcomeOf (doneBy w (shelfIn b) place) .rises .to ≤ 32) × (outcomeOf (doneBy w (shelfIn b) place) .rises .to ≤ rows)
@@ -123,27 +144,6 @@ unfolding doneBy
 out-fits (Lost fate) b place rows h k = (omega arith, omega arith)
 out-fits (Bus routing header) b place rows h k =
     chosen (λ (x : Done). (x .rises .to ≤ 32) × (x .rises .to ≤ rows)) (inletFull (unitAt (shelfIn b) place)) (omega arith, omega arith) (omega arith, omega arith)
-
--- the bytes after an arrival at a place: as they were, or with one ring written
-module _ (b : List ℕ) (place : ℕ) (below : place < 32) where
-  abbrev put : List ℕ
-  put = withRing b 14 15 place (pushed (unitIn b place .inlet))
-
-  state-all : (P : List ℕ → Type 0) → P b → P put → (w : Way) → P (stateBy w (unitIn b place) b place)
-  unfolding stateBy
-  state-all P was is (Lost fate) = was
-  state-all P was is (Bus routing header) = chosen P (inletFull (unitIn b place)) was is
-
-  after : length b ≡ 2048 → (w : Way) → shelfIn (stateBy w (unitIn b place) b place) ≡ doneBy w (shelfIn b) place .reply .shelf
-  unfolding stateBy doneBy
-  after long (Lost fate) = refl
-  after long (Bus routing header) =
-      pick (inletFull (unitIn b place))
-      ∙ ap (λ (u : U.Unit). cond (inletFull u) (arrived (shelfIn b) place Inletfull) (arrived (withUnit (shelfIn b) place (withInlet u (pushed (u .inlet)))) place Queued) .reply .shelf) (sym (unit-at b place blank below))
-    where
-      pick : (t : Bool) → shelfIn (cond t b put) ≡ cond t (arrived (shelfIn b) place Inletfull) (arrived (withUnit (shelfIn b) place (withInlet (unitIn b place) (pushed (unitIn b place .inlet)))) place Queued) .reply .shelf
-      pick true = refl
-      pick false = inlet-put b place (pushed (unitIn b place .inlet)) below long
 
 -- The tie: of bytes that are a state, an arrival leaves the shelf that 01's Arrival leaves, and a state
 module _ (card : Card) (b memory : List ℕ) (store rows unit : ℕ) (c : List ℕ) (long : length b ≡ 2048) where
