@@ -5,7 +5,7 @@ use mathlib.Core.Bool.{Bool, true, false, cond, _&&_}
 use mathlib.Core.Logic.{Iff·rfl}
 use mathlib.Core.List.{List}
 use native.Mathlib.Omega.{arith}
-use lib.ListN.{length, getD, length-take}
+use lib.ListN.{getD, length-take}
 use Rattle.card.specs.declared.Card.{Card}
 use Rattle.outlet.proofs.Truth.{and-iff}
 use Rattle.shelf.specs.Shelves.{declared, blank, findIn}

@@ -1,5 +1,5 @@
 -- The two ways a take of lent bytes ends, and that the bytes are then the shelf after a take. Assumes nothing.
-use Prim.Native.Nat.{ℕ, _+_, _*_, _%_, _≤_, _<_}
+use Prim.Native.Nat.{ℕ, _+_, _%_, _≤_, _<_}
 use native.Mathlib.Omega.{arith}
 use mathlib.Core.Path.{_≡_, refl, sym, ap, subst, _∙_}
 use mathlib.Core.Bool.{true}
@@ -24,7 +24,6 @@ use Rattle.state.proofs.Kept.{ring-long, ring-other}
 use Rattle.soundness.specs.Soundings.{formedAll}
 use Rattle.soundness.proofs.Kept.{formed-ring}
 use Rattle.answer.specs.declared.Answer.the-variants.{Taken, Empty}
-use Rattle.answer.specs.declared.Outcome.{Outcome}
 use Rattle.answer.specs.Done.{Done, outcomeOf}
 use Rattle.answer.specs.Answers.{#taken, none, row, refused}
 use Rattle.admit.specs.declared.Admitted.the-variants as lets

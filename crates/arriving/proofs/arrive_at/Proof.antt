@@ -1,7 +1,7 @@
 -- `arriving::arrive_at` meets its contract. Assumes nothing.
 use Prim.Native.Nat.{_+_, _≤_}
 use native.Mathlib.Omega.{arith}
-use mathlib.Core.Path.{_≡_, sym, ap, subst, _∙_}
+use mathlib.Core.Path.{sym, ap, subst, _∙_}
 use lib.ListN.{length}
 use Rattle.octets.specs.Octets.{splice}
 use Rattle.store.specs.Places.{slotAt, inletSlot, putAt}

@@ -1,14 +1,13 @@
 -- `taking::take_at` meets its contract. Assumes nothing.
 use Prim.Native.Nat.{_+_, _≤_}
 use native.Mathlib.Omega.{arith}
-use mathlib.Core.Path.{_≡_, sym, ap, subst, _∙_}
+use mathlib.Core.Path.{sym, ap, subst, _∙_}
 use lib.ListN.{length}
 use Rattle.octets.specs.Octets.{part}
 use Rattle.store.specs.Places.{slotAt, outletSlot, cellAt}
 use Rattle.store.specs.Rings.{popped}
 use Rattle.state.specs.Bytes.{linkOf, withRing}
 use Rattle.answer.specs.declared.Answer.the-variants.{Taken, Empty}
-use Rattle.answer.specs.declared.Outcome.{Outcome}
 use Rattle.admit.proofs.Laws.{cell-length}
 use Rattle.taking.specs.Takes.{outward}
 use Rattle.taking.proofs.InPlace.{empty-out, empty-state, empty-buffer, few, inside, taken-out, taken-state, taken-buffer}
