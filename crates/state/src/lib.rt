@@ -52,7 +52,7 @@ pub fn settings_at(s: &[u8], i: usize) -> Settings
     }
 }
 
-fn limits_at(s: &[u8], i: usize) -> Limits
+pub fn limits_at(s: &[u8], i: usize) -> Limits
     requires { ⌜ (length (now s) ≡ 2048) × (i < 32) ⌝ }
     ensures { λ r. ⌜ r ≡ limitsBy (col (now (s .entry)) i) ⌝ }
 {
@@ -65,7 +65,7 @@ fn limits_at(s: &[u8], i: usize) -> Limits
     }
 }
 
-fn ring_at(s: &[u8], h: usize, c: usize, i: usize) -> Ring
+pub fn ring_at(s: &[u8], h: usize, c: usize, i: usize) -> Ring
     requires { ⌜ (length (now s) ≡ 2048) × (h < 32) × (c < 32) × (i < 32) ⌝ }
     ensures { λ r. ⌜ r ≡ ringBy (col (now (s .entry)) i) h c ⌝ }
 {

@@ -1,59 +1,43 @@
--- `hearing::hear` meets its contract. Assumes nothing.
-use Prim.Native.Nat.{_≤_}
-use native.Mathlib.Omega.{arith}
-use mathlib.Core.Path.{sym, ap, subst, _∙_}
-use lib.Dec.{eqb}
-use lib.ListN.{length}
-use borrow.Author.Tests.{eqb-true}
-use Rattle.answer.specs.Done.{Done}
-use Rattle.admit.proofs.Laws.{at-let-in, let-in-housed, decided-at, decided-refused}
 use borrow.Author.Needs.{needs}
 use Rattle.hearing.proofs.hear.Statement.{statement}
 use Rattle.hearing.proofs.hear.Tie as tie
+use Rattle.hearing.proofs.hear.Reads as reads
+use Rattle.hearing.proofs.hear.Lts as lts
+use Rattle.admit.proofs.admit.Reads as admit-reads
+use Rattle.answer.proofs.refused.Reads as refused-reads
+use Rattle.hearing.proofs.hear_at.Reads as hear-at-reads
 
+-- src/lib.rt:139:11
 admit-requires : tie.Need-admit-requires
 admit-requires c κs = search needs
 
+-- src/lib.rt:140:22
 enum-known-place : tie.Need-enum-known-place
 enum-known-place c = search needs
 
+-- src/lib.rt:140:32
 hear-at-requires : tie.Need-hear-at-requires
-hear-at-requires c κs =
-    let a = c .before .before .before .before .before .before .before .args in
-    let e = sym (c .before .before .before .before .admit .ensures) ∙ c .before .before .place .given .1 in
-    let l = at-let-in (a .card) (a .shelf) (length (a .store .now)) (a .rows) (a .unit) (eqb (length (a .frame .now)) 57) _ e in
-    let h = let-in-housed (a .card) (a .shelf) (length (a .store .now)) (a .rows) (a .unit) (eqb (length (a .frame .now)) 57) _ l in
-    (eqb-true (length (a .frame .now)) 57 (l .fits), h .0)
+hear-at-requires c κs = ?
 
+-- src/lib.rt:141:27
 enum-known-number : tie.Need-enum-known-number
 enum-known-number c = search needs
 
+-- src/lib.rt:141:38
 refused-requires : tie.Need-refused-requires
 refused-requires c κs = search needs
 
+-- src/lib.rt:126:1
 same-length : tie.Need-same-length
 same-length c = search needs
 
+-- src/lib.rt:126:1
 returns : tie.Need-returns
-returns c =
-    let a = c .before .before .before .before .before .before .before .before .before .before .args in
-    let e = sym (c .before .before .before .before .before .before .before .admit .ensures) ∙ c .before .before .before .before .before .place .given .1 in
-    let l = at-let-in (a .card) (a .shelf) (length (a .store .now)) (a .rows) (a .unit) (eqb (length (a .frame .now)) 57) _ e in
-    let h = let-in-housed (a .card) (a .shelf) (length (a .store .now)) (a .rows) (a .unit) (eqb (length (a .frame .now)) 57) _ l in (
-      (
-        c .before .before .hear-at .ensures .0 ∙ decided-at _ _ _ _ e,
-        c .before .before .hear-at .ensures .1 ∙ decided-at _ _ _ _ e,
-      ),
-      subst (λ (x : Done). (x .rises .to ≤ 32) × (x .rises .to ≤ a .rows)) (sym (c .before .before .hear-at .ensures .0)) (omega (arith, h .0 .below), omega (arith, h .1)),
-    )
+returns c = ?
 
+-- src/lib.rt:126:1
 returns-2 : tie.Need-returns-2
-returns-2 c =
-    let a = c .before .before .before .before .before .before .before .args in
-    let e = sym (c .before .before .before .before .admit .ensures) ∙ c .before .before .number .given .1 in (
-      (c .refused .ensures ∙ decided-refused _ _ _ _ e, decided-refused _ _ _ _ e),
-      subst (λ (x : Done). (x .rises .to ≤ 32) × (x .rises .to ≤ a .rows)) (sym (c .refused .ensures)) (omega arith, omega arith),
-    )
+returns-2 c = ?
 
 pub hear-spec : {M : Type 1} → statement M
 hear-spec =
