@@ -1,43 +1,67 @@
+-- `hearing::hear` meets its contract. Assumes nothing.
+use Prim.Native.Nat.{_≤_}
+use native.Mathlib.Omega.{arith}
+use mathlib.Core.Path.{_≡_, sym, subst, _∙_}
+use lib.Dec.{eqb}
+use lib.ListN.{length}
+use borrow.Author.Tests.{eqb-true}
+use Rattle.answer.specs.declared.Outcome.{Outcome}
+use Rattle.admit.proofs.Laws.{decided-at, decided-refused}
+use Rattle.admit.proofs.InPlace.{LetInPlace, in-place}
+use Rattle.hearing.proofs.InPlace.{out-at, store-at, out-refused, store-refused}
 use borrow.Author.Needs.{needs}
 use Rattle.hearing.proofs.hear.Statement.{statement}
 use Rattle.hearing.proofs.hear.Tie as tie
-use Rattle.hearing.proofs.hear.Reads as reads
-use Rattle.hearing.proofs.hear.Lts as lts
-use Rattle.admit.proofs.admit.Reads as admit-reads
-use Rattle.answer.proofs.refused.Reads as refused-reads
-use Rattle.hearing.proofs.hear_at.Reads as hear-at-reads
 
--- src/lib.rt:139:11
 admit-requires : tie.Need-admit-requires
 admit-requires c κs = search needs
 
--- src/lib.rt:140:22
 enum-known-place : tie.Need-enum-known-place
 enum-known-place c = search needs
 
--- src/lib.rt:140:32
-hear-at-requires : tie.Need-hear-at-requires
-hear-at-requires c κs = ?
+-- the event is let in at the place
+let-in : (c : tie.After-place) → let a = c .before .before .before .before .before .before .before .args in LetInPlace (a .card) (a .s .now) (length (a .store .now)) (a .rows) (a .unit) (eqb (length (a .frame .now)) 57) (c .place .given .0 .0)
+let-in c = let a = c .before .before .before .before .before .before .before .args in in-place (a .card) (a .s .now) (length (a .store .now)) (a .rows) (a .unit) (eqb (length (a .frame .now)) 57) _ (sym (c .before .before .admit .ensures) ∙ c .place .given .1)
 
--- src/lib.rt:141:27
+hear-at-requires : tie.Need-hear-at-requires
+hear-at-requires c κs =
+    let a = c .before .before .before .before .before .before .before .before .before .before .args in
+    let l = let-in (c .before .before .before) in
+    let long : length (a .s .now) ≡ 2048 = search needs in
+    (long, eqb-true (length (a .frame .now)) 57 (l .let-in .fits), l .housed)
+
 enum-known-number : tie.Need-enum-known-number
 enum-known-number c = search needs
 
--- src/lib.rt:141:38
 refused-requires : tie.Need-refused-requires
 refused-requires c κs = search needs
 
--- src/lib.rt:126:1
 same-length : tie.Need-same-length
 same-length c = search needs
 
--- src/lib.rt:126:1
 returns : tie.Need-returns
-returns c = ?
+returns c =
+    let a = c .before .before .before .before .before .before .before .before .before .before .before .before .before .args in
+    let e = sym (c .before .before .before .before .before .before .before .before .admit .ensures) ∙ c .before .before .before .before .before .before .place .given .1 in
+    let l = let-in (c .before .before .before .before .before .before) in
+    let h = c .before .before .hear-at .ensures in (
+      (
+        h .0 ∙ out-at (a .card) (a .s .now) (a .rows) (a .unit) (a .frame .now) (length (a .store .now)) _ e,
+        (h .1 .0 ∙ decided-at _ _ _ _ e, h .1 .1 ∙ store-at (a .card) (a .s .now) (a .rows) (a .unit) (a .frame .now) (a .store .now) _ e),
+      ),
+      subst (λ (x : Outcome). (x .rises .to ≤ 32) × (x .rises .to ≤ a .rows)) (sym (h .0)) (let b = l .below in omega arith, let r = l .row in omega arith),
+    )
 
--- src/lib.rt:126:1
 returns-2 : tie.Need-returns-2
-returns-2 c = ?
+returns-2 c =
+    let a = c .before .before .before .before .before .before .before .before .before .args in
+    let e = sym (c .before .before .before .before .admit .ensures) ∙ c .before .before .number .given .1 in (
+      (
+        c .refused .ensures ∙ out-refused (a .card) (a .s .now) (a .rows) (a .unit) (a .frame .now) (length (a .store .now)) _ e,
+        (decided-refused _ _ _ _ e, store-refused (a .card) (a .s .now) (a .rows) (a .unit) (a .frame .now) (a .store .now) _ e),
+      ),
+      subst (λ (x : Outcome). (x .rises .to ≤ 32) × (x .rises .to ≤ a .rows)) (sym (c .refused .ensures)) (omega arith, omega arith),
+    )
 
 pub hear-spec : {M : Type 1} → statement M
 hear-spec =

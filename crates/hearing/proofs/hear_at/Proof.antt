@@ -1,44 +1,52 @@
+-- `hearing::hear_at` meets its contract. Assumes nothing.
+use mathlib.Core.Path.{sym, ap, _∙_}
+use lib.ListN.{take}
+use Rattle.answer.specs.declared.Answer.the-variants.{Heard}
+use Rattle.answer.specs.declared.Outcome.{Outcome}
+use Rattle.answer.specs.declared.Rises.{Rises}
+use Rattle.answer.specs.Answers.{row}
+use Rattle.state.specs.Bytes.{unitIn}
+use Rattle.hearing.specs.Hearings.{planOf, fateBy, storeOf}
+use Rattle.hearing.specs.InPlace.{stateBy, outcomeAt}
+use Rattle.hearing.proofs.Plans.{before-parity}
 use borrow.Author.Needs.{needs}
 use Rattle.hearing.proofs.hear_at.Statement.{statement}
 use Rattle.hearing.proofs.hear_at.Tie as tie
-use Rattle.hearing.proofs.hear_at.Reads as reads
-use Rattle.hearing.proofs.hear_at.Lts as lts
-use Rattle.answer.proofs.Rises.row.Reads as row-reads
-use Rattle.answer.proofs.hearing_rises.Reads as hearing-rises-reads
-use Rattle.bus.proofs.hear.Reads as hear-reads
-use Rattle.hearing.proofs.hear_one.Reads as hear-one-reads
 
--- src/lib.rt:117:35
 hear-requires : tie.Need-hear-requires
 hear-requires c κs = search needs
 
--- src/lib.rt:117:53
 slice-aggregate-hear-one : tie.Need-slice-aggregate-hear-one
-slice-aggregate-hear-one c = ?
+slice-aggregate-hear-one c = let s = c .before .before .before .before .before .before in sym (before-parity (s .args .frame .now) (s .pre .1))
 
--- src/lib.rt:117:9
 hear-one-requires : tie.Need-hear-one-requires
-hear-one-requires c κs = ?
+hear-one-requires c κs = let s = c .before .before .before .before .before .before .before in (s .pre .0, before-parity (s .args .frame .now) (s .pre .1), s .pre .2)
 
--- src/lib.rt:118:35
 hearing-rises-requires : tie.Need-hearing-rises-requires
 hearing-rises-requires c κs = search needs
 
--- src/lib.rt:118:9
 row-requires : tie.Need-row-requires
 row-requires c κs = search needs
 
--- src/lib.rt:111:1
 same-length : tie.Need-same-length
 same-length c = search needs
 
--- src/lib.rt:111:1
 same-length-2 : tie.Need-same-length-2
 same-length-2 c = search needs
 
--- src/lib.rt:111:1
 returns : tie.Need-returns
-returns c = ?
+returns c =
+    let a = c .before .before .before .before .before .before .before .before .before .before .before .before .before .before .args in
+    let u = unitIn (a .s .now) (a .place) in
+    let w = c .before .before .before .before .before .before .hear-one in
+    let h = c .before .before .before .before .before .before .before .before .before .hear .ensures in
+    let r = c .row .ensures ∙ ap (row (a .place)) (c .before .hearing-rises .ensures) in (
+      ap (λ (x : Rises). record { answer = Heard (w .result); rises = x }) r ∙ ap (outcomeAt (a .place)) (w .ensures .0 ∙ ap (λ x. fateBy (planOf u x)) h),
+      (
+        w .ensures .1 .0 ∙ ap (λ x. stateBy (planOf u x) (a .s .now) (a .place)) h,
+        w .ensures .1 .1 ∙ ap (λ x. storeOf u x (a .place) (a .store .now) (take 56 (a .frame .now))) h,
+      ),
+    )
 
 pub hear-at-spec : {M : Type 1} → statement M
 hear-at-spec =
