@@ -1,25 +1,26 @@
 -- Hearing, of a state in lent bytes: what is written at the unit's place, and that it is the shelf after the hearing. Assumes nothing.
-use Prim.Native.Nat.{ℕ, zero, suc, _+_, _≤_, _<_}
+use Prim.Native.Nat.{ℕ, zero, suc, _+_, _*_, _%_, _≤_, _<_}
 use native.Mathlib.Omega.{arith}
 use mathlib.Core.Path.{_≡_, refl, sym, ap, _∙_}
 use mathlib.Core.Bool.{Bool, true, false, cond}
 use mathlib.Core.List.{List}
 use lib.Dec.{eqb}
-use lib.ListN.{length, getD, take}
+use lib.ListN.{length, getD, take, length-take}
 use lib.Seq.{set-getD}
 use Rattle.bus.specs.Frame.{heard}
 use Rattle.card.specs.declared.Card.{Card}
 use Rattle.outlet.specs.Outlets.{queue}
 use Rattle.store.specs.Rings.{pushed}
-use Rattle.shelf.specs.Shelves.{blank}
+use Rattle.shelf.specs.Shelves.{declared, blank}
 use Rattle.shelf.specs.Shelf.{Shelf}
 use Rattle.shelf.specs.declared.Unit as U
+use Rattle.shelf.proofs.Finding.{find-at}
 use Rattle.answer.specs.declared.Hearing as A
 use Rattle.answer.specs.Done.{Done, outcomeOf}
 use Rattle.answer.specs.Answers.{refused, refusedWith}
 use Rattle.state.specs.Bytes.{col, limitsBy, ringBy, unitBy, unitIn, shelfIn, withRing}
 use Rattle.state.proofs.Laws.{unit-at, queue-put, ring-there}
-use Rattle.state.proofs.Kept.{ring-long, ring-behind}
+use Rattle.state.proofs.Kept.{ring-long, ring-other}
 use Rattle.soundness.specs.Soundings.{formedAll}
 use Rattle.soundness.proofs.Kept.{formed-ring}
 use Rattle.admit.specs.Admission.{admitted, decided, unitAt, withUnit}
@@ -72,7 +73,7 @@ state-long (Lost fate) b i = refl
 unturned : (s : Shelf) (i : ℕ) → s ≡ withUnit s i (unitAt s i)
 unturned s i t = record { bus = s .bus; count = s .count; units = sym (set-getD (s .units) i blank) t; arbiter = s .arbiter; granted = s .granted; frame = s .frame }
 
--- one unit has heard; what is written leaves the others, the bytes behind the columns, and what says a link, a mode or a mark
+-- one unit has heard; what is written leaves the others, all bytes but those of its rings, and what says a link, a mode or a mark
 module _ (p : Plan) (b : List ℕ) (i : ℕ) (few : (q : ℕ) → p ≡ Queue q → q < 4) (hi : i < 32) where
   pub state-put : length b ≡ 2048 → shelfIn (stateBy p b i) ≡ withUnit (shelfIn b) i (copyBy p (unitIn b i) .unit)
   unfolding stateBy copyBy
@@ -90,12 +91,14 @@ module _ (p : Plan) (b : List ℕ) (i : ℕ) (few : (q : ℕ) → p ≡ Queue q 
       by (Queue q) e = let f = few q e in ring-there b (16 + q) (20 + q) i (pushed (queue (unitIn b i .outlet) q)) (omega arith) (omega arith) hi long j hj ne
       by (Lost fate) e = refl
 
-  pub state-behind : (k : ℕ) → 768 ≤ k → getD (stateBy p b i) k 0 ≡ getD b k 0
+  pub state-other : (k : ℕ) → ((h : ℕ) → 14 ≤ h → h < 24 → k ≡ h * 32 + i → ⊥) → getD (stateBy p b i) k 0 ≡ getD b k 0
   unfolding stateBy
-  state-behind k hk = by p refl
+  state-other k ne = by p refl
     where
       by : (x : Plan) → p ≡ x → getD (stateBy x b i) k 0 ≡ getD b k 0
-      by (Queue q) e = let f = few q e in ring-behind b (16 + q) (20 + q) i (pushed (queue (unitIn b i .outlet) q)) (omega arith) (omega arith) hi k hk
+      by (Queue q) e =
+          let f = few q e in
+          ring-other b (16 + q) (20 + q) i (pushed (queue (unitIn b i .outlet) q)) k (ne (16 + q) (omega arith) (omega arith)) (ne (20 + q) (omega arith) (omega arith))
       by (Lost fate) e = refl
 
   pub state-formed : formedAll (stateBy p b i) ≡ formedAll b
@@ -143,23 +146,36 @@ module _ (card : Card) (b : List ℕ) (store rows unit : ℕ) (f : List ℕ) whe
   abbrev queues : (i q : ℕ) → planOf (unitIn b i) (heard f) ≡ Queue q → q < 4
   queues i = plan-queue (unitIn b i) (heard f)
 
-  kept : (P : List ℕ → Type 0) → P b → ((i : ℕ) → i < 32 → P (stateAt b i f)) → P (hearState card b store rows unit f)
+  kept : (P : List ℕ → Type 0) → P b → ((i : ℕ) → i < 32 → i < getD b 805 0 → P (stateAt b i f)) → P (hearState card b store rows unit f)
   unfolding decided
   kept P was is = by (letInPlace card b store rows unit f) refl
     where
       by : (d : D.Admitted) → letInPlace card b store rows unit f ≡ d → P (decided d (λ place. stateAt b place f) (λ number. b))
-      by (At i) e = is i (in-place card b store rows unit (eqb (length f) 57) i e .below)
+      by (At i) e =
+          let l = in-place card b store rows unit (eqb (length f) 57) i e in
+          let w = find-at unit (declared (shelfIn b)) i .0 (l .let-in .found) .inside in
+          is i (l .below) (omega (arith, length-take (getD b 805 0) (shelfIn b .units), w))
       by (Refused n) e = was
+
+  other : (k : ℕ) → ((i h : ℕ) → i < 32 → i < getD b 805 0 → 14 ≤ h → h < 24 → k ≡ h * 32 + i → ⊥) → getD (hearState card b store rows unit f) k 0 ≡ getD b k 0
+  other k ne = kept (λ x. getD x k 0 ≡ getD b k 0) refl (λ i h c. state-other (planOf (unitIn b i) (heard f)) b i (queues i) h k (λ n. ne i n h c))
 
   -- the tie to the shelf of specs
   pub hear-long : length b ≡ 2048 → formedAll b ≡ true → length (hearState card b store rows unit f) ≡ 2048
-  hear-long long formed = kept (λ x. length x ≡ 2048) long (λ i h. state-long (planOf (unitIn b i) (heard f)) b i ∙ long)
+  hear-long long formed = kept (λ x. length x ≡ 2048) long (λ i h c. state-long (planOf (unitIn b i) (heard f)) b i ∙ long)
 
   pub hear-formed : length b ≡ 2048 → formedAll b ≡ true → formedAll (hearState card b store rows unit f) ≡ true
-  hear-formed long formed = kept (λ x. formedAll x ≡ true) formed (λ i h. state-formed (planOf (unitIn b i) (heard f)) b i (queues i) h ∙ formed)
+  hear-formed long formed = kept (λ x. formedAll x ≡ true) formed (λ i h c. state-formed (planOf (unitIn b i) (heard f)) b i (queues i) h ∙ formed)
 
-  pub hear-free : length b ≡ 2048 → formedAll b ≡ true → (k : ℕ) → 808 ≤ k → k < 1024 → getD (hearState card b store rows unit f) k 0 ≡ getD b k 0
-  hear-free long formed k low high = kept (λ x. getD x k 0 ≡ getD b k 0) refl (λ i h. state-behind (planOf (unitIn b i) (heard f)) b i (queues i) h k (omega arith))
+  -- the bytes behind those of the frame number; the columns before those of rings; the places past the declared units
+  pub hear-free : length b ≡ 2048 → formedAll b ≡ true → (k : ℕ) → 808 ≤ k → getD (hearState card b store rows unit f) k 0 ≡ getD b k 0
+  hear-free long formed k low = other k (λ i h hi c lh hh e. omega arith)
+
+  pub hear-kept : length b ≡ 2048 → formedAll b ≡ true → (k : ℕ) → k < 448 → getD (hearState card b store rows unit f) k 0 ≡ getD b k 0
+  hear-kept long formed k high = other k (λ i h hi c lh hh e. omega arith)
+
+  pub hear-others : length b ≡ 2048 → formedAll b ≡ true → (k : ℕ) → k < 768 → getD b 805 0 ≤ k % 32 → getD (hearState card b store rows unit f) k 0 ≡ getD b k 0
+  hear-others long formed k high past = other k (λ i h hi c lh hh e. omega arith)
 
   pub hear-decodes : length b ≡ 2048 → formedAll b ≡ true → shelfIn (hearState card b store rows unit f) ≡ hearDone card (shelfIn b) store rows unit f .reply .shelf
   unfolding decided
