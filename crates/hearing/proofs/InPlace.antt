@@ -146,36 +146,40 @@ module _ (card : Card) (b : List ℕ) (store rows unit : ℕ) (f : List ℕ) whe
   abbrev queues : (i q : ℕ) → planOf (unitIn b i) (heard f) ≡ Queue q → q < 4
   queues i = plan-queue (unitIn b i) (heard f)
 
-  kept : (P : List ℕ → Type 0) → P b → ((i : ℕ) → i < 32 → i < getD b 805 0 → P (stateAt b i f)) → P (hearState card b store rows unit f)
+  kept : (P : List ℕ → Type 0) → P b → ((i : ℕ) → letInPlace card b store rows unit f ≡ At i → i < 32 → P (stateAt b i f)) → P (hearState card b store rows unit f)
   unfolding decided
   kept P was is = by (letInPlace card b store rows unit f) refl
     where
       by : (d : D.Admitted) → letInPlace card b store rows unit f ≡ d → P (decided d (λ place. stateAt b place f) (λ number. b))
-      by (At i) e =
-          let l = in-place card b store rows unit (eqb (length f) 57) i e in
-          let w = find-at unit (declared (shelfIn b)) i .0 (l .let-in .found) .inside in
-          is i (l .below) (omega (arith, length-take (getD b 805 0) (shelfIn b .units), w))
+      by (At i) e = is i e (in-place card b store rows unit (eqb (length f) 57) i e .below)
       by (Refused n) e = was
 
-  other : (k : ℕ) → ((i h : ℕ) → i < 32 → i < getD b 805 0 → 14 ≤ h → h < 24 → k ≡ h * 32 + i → ⊥) → getD (hearState card b store rows unit f) k 0 ≡ getD b k 0
-  other k ne = kept (λ x. getD x k 0 ≡ getD b k 0) refl (λ i h c. state-other (planOf (unitIn b i) (heard f)) b i (queues i) h k (λ n. ne i n h c))
+  declared-place : (i : ℕ) → letInPlace card b store rows unit f ≡ At i → i < getD b 805 0
+  declared-place i e =
+      let l = in-place card b store rows unit (eqb (length f) 57) i e in
+      omega (arith, length-take (getD b 805 0) (shelfIn b .units), find-at unit (declared (shelfIn b)) i .0 (l .let-in .found) .inside)
+
+  -- all but the rings of the unit that hears it
+  pub hear-other : (k : ℕ) → ((i : ℕ) → letInPlace card b store rows unit f ≡ At i → 448 ≤ k → k < 768 → k % 32 ≡ i → ⊥) → getD (hearState card b store rows unit f) k 0 ≡ getD b k 0
+  hear-other k ne =
+      kept (λ x. getD x k 0 ≡ getD b k 0) refl (λ i e hi. state-other (planOf (unitIn b i) (heard f)) b i (queues i) hi k (λ h lh hh q. ne i e (omega arith) (omega arith) (omega arith)))
 
   -- the tie to the shelf of specs
   pub hear-long : length b ≡ 2048 → formedAll b ≡ true → length (hearState card b store rows unit f) ≡ 2048
-  hear-long long formed = kept (λ x. length x ≡ 2048) long (λ i h c. state-long (planOf (unitIn b i) (heard f)) b i ∙ long)
+  hear-long long formed = kept (λ x. length x ≡ 2048) long (λ i e h. state-long (planOf (unitIn b i) (heard f)) b i ∙ long)
 
   pub hear-formed : length b ≡ 2048 → formedAll b ≡ true → formedAll (hearState card b store rows unit f) ≡ true
-  hear-formed long formed = kept (λ x. formedAll x ≡ true) formed (λ i h c. state-formed (planOf (unitIn b i) (heard f)) b i (queues i) h ∙ formed)
+  hear-formed long formed = kept (λ x. formedAll x ≡ true) formed (λ i e h. state-formed (planOf (unitIn b i) (heard f)) b i (queues i) h ∙ formed)
 
   -- the bytes behind those of the frame number; the columns before those of rings; the places past the declared units
   pub hear-free : length b ≡ 2048 → formedAll b ≡ true → (k : ℕ) → 808 ≤ k → getD (hearState card b store rows unit f) k 0 ≡ getD b k 0
-  hear-free long formed k low = other k (λ i h hi c lh hh e. omega arith)
+  hear-free long formed k low = hear-other k (λ i e x y z. omega arith)
 
   pub hear-kept : length b ≡ 2048 → formedAll b ≡ true → (k : ℕ) → k < 448 → getD (hearState card b store rows unit f) k 0 ≡ getD b k 0
-  hear-kept long formed k high = other k (λ i h hi c lh hh e. omega arith)
+  hear-kept long formed k high = hear-other k (λ i e x y z. omega arith)
 
   pub hear-others : length b ≡ 2048 → formedAll b ≡ true → (k : ℕ) → k < 768 → getD b 805 0 ≤ k % 32 → getD (hearState card b store rows unit f) k 0 ≡ getD b k 0
-  hear-others long formed k high past = other k (λ i h hi c lh hh e. omega arith)
+  hear-others long formed k high past = hear-other k (λ i e x y z. let c = declared-place i e in omega arith)
 
   pub hear-decodes : length b ≡ 2048 → formedAll b ≡ true → shelfIn (hearState card b store rows unit f) ≡ hearDone card (shelfIn b) store rows unit f .reply .shelf
   unfolding decided
