@@ -1,72 +1,98 @@
+-- `framing::asking_now` meets its contract. Assumes nothing.
+use Prim.Native.Nat.{_-_, _≤_}
+use native.Mathlib.Omega.{arith}
+use mathlib.Core.Path.{_≡_, refl, sym, ap, _∙_}
+use mathlib.Core.Logic.{⊎-elim}
+use lib.Dec.{eqb}
+use lib.ListN.{length, length-set, set, drop}
+use lib.Seq.{set-out}
+use Rattle.arbiter.specs.Arbitration.{asking, asksNow}
+use Rattle.shelf.specs.Shelves.{declared}
+use Rattle.state.specs.Bytes.{col, shelfIn}
+use Rattle.framing.specs.Requests.{askingOf, askingNow}
+use Rattle.framing.proofs.Turns.{none-left, asked, asks-none}
+use borrow.Author.Needs.{needs}
 use Rattle.framing.proofs.asking_now.Statement.{statement}
 use Rattle.framing.proofs.asking_now.Tie as tie
-use Rattle.framing.proofs.asking_now.Reads as reads
-use Rattle.framing.proofs.asking_now.Lts as lts
-use Rattle.arbiter.proofs.asking.Reads as asking-reads
-use Rattle.shelf.proofs.declared_count.Reads as declared-count-reads
-use Rattle.state.proofs.at.Reads as at-reads
 
 abbrev Inv-loop : tie.InvT-loop
-Inv-loop s end granted now₀ i₀ now i = ?
+Inv-loop s end granted now₀ i₀ now i =
+    (i ≤ end) × ((length now ≡ 32) × (askingNow (shelfIn s) ≡ askingOf (shelfIn s .granted) now (drop i (declared (shelfIn s)))))
 
 abbrev μ-loop : tie.MeasureT-loop
-μ-loop s end granted now₀ i₀ now i = ?
+μ-loop s end granted now₀ i₀ now i = end - i
 
--- src/lib.rt:37:37
 shared-slice-read-declared-count : tie.Need-shared-slice-read-declared-count Inv-loop μ-loop
-shared-slice-read-declared-count c = ?
+shared-slice-read-declared-count c = search needs
 
--- src/lib.rt:37:9
 declared-count-requires : tie.Need-declared-count-requires Inv-loop μ-loop
-declared-count-requires c κs = ?
+declared-count-requires c κs = search needs
 
--- src/lib.rt:38:19
 shared-slice-read-granted : tie.Need-shared-slice-read-granted Inv-loop μ-loop
-shared-slice-read-granted c = ?
+shared-slice-read-granted c = search needs
 
--- src/lib.rt:41:5
 loop-holds : tie.Need-loop-holds Inv-loop μ-loop
-loop-holds c = ?
+loop-holds c = (omega arith, (refl, refl))
 
--- src/lib.rt:42:13
 at-requires : tie.Need-at-requires Inv-loop μ-loop
-at-requires c κs = ?
+at-requires c κs = let e = c .before .before .before .declared-count .ensures in (c .before .before .before .before .before .before .pre, omega arith, omega arith)
 
--- src/lib.rt:45:17
 at-requires-2 : tie.Need-at-requires-2 Inv-loop μ-loop
-at-requires-2 c κs = ?
+at-requires-2 c κs = let e = c .before .before .before .before .before .declared-count .ensures in (c .before .before .before .before .before .before .before .before .pre, omega arith, omega arith)
 
--- src/lib.rt:46:17
 at-requires-3 : tie.Need-at-requires-3 Inv-loop μ-loop
-at-requires-3 c κs = ?
+at-requires-3 c κs = let e = c .before .before .before .before .before .before .declared-count .ensures in (c .before .before .before .before .before .before .before .before .before .pre, omega arith, omega arith)
 
--- src/lib.rt:44:36
 asking-requires : tie.Need-asking-requires Inv-loop μ-loop
-asking-requires c κs = ?
+asking-requires c κs = search needs
 
--- src/lib.rt:44:17
 cast-now : tie.Need-cast-now Inv-loop μ-loop
-cast-now c = ?
+cast-now c = search needs
 
--- src/lib.rt:44:13
 array-write-now : tie.Need-array-write-now Inv-loop μ-loop
-array-write-now c = ?
+array-write-now c = search needs
 
--- src/lib.rt:50:9
+-- where the arms meet: the unit's request stands in its place; a number that no unit has changes nothing
+met : (c : tie.Joined1 Inv-loop μ-loop) →
+    let l = c .before .before .before .loop in
+    let b = c .before .before .before .before .before .before .before .before .args .s .now in
+    c .if1 .now ≡ set (l .now) (col b (l .i) 0) (asksNow (shelfIn b .granted) (col b (l .i) 0) (col b (l .i) 4) (col b (l .i) 15))
+met c =
+    let l = c .before .before .before .loop in
+    let b = c .before .before .before .before .before .before .before .before .args .s .now in
+    let n = c .before .at .ensures in
+    ⊎-elim
+    (λ w. w .4 ∙ (λ k. set (l .now) (n k) ((w .3 .ensures ∙ (λ t. asking (w .1 .ensures t) (w .2 .ensures t) (eqb (n t) (shelfIn b .granted)))) k)))
+    (λ w.
+      let m = l .inv .1 .0 in
+      let h = w .0 .left in
+      w .1 ∙ sym (set-out (l .now) (col b (l .i) 0) (asksNow (shelfIn b .granted) (col b (l .i) 0) (col b (l .i) 4) (col b (l .i) 15)) (omega (arith, n))))
+    (c .if1 .came)
+
 add-i : tie.Need-add-i Inv-loop μ-loop
-add-i c = ?
+add-i c = let e = c .before .before .before .before .before .declared-count .ensures in omega arith
 
--- src/lib.rt:41:5
 loop-less : tie.Need-loop-less Inv-loop μ-loop
-loop-less c = ?
+loop-less c = search needs
 
--- src/lib.rt:41:5
 loop-again : tie.Need-loop-again Inv-loop μ-loop
-loop-again c = ?
+loop-again c =
+    let l = c .before .before .before .loop in
+    let b = c .before .before .before .before .before .before .before .before .args .s .now in
+    let e = c .before .before .before .before .before .declared-count .ensures in (
+      omega arith,
+      (
+        ap length (met c) ∙ length-set (l .now) _ _ ∙ l .inv .1 .0,
+        l .inv .1 .1 ∙ asked b (l .i) (omega (arith, e)) (shelfIn b .granted) (l .now) (c .if1 .now) (met c),
+      ),
+    )
 
--- src/lib.rt:33:1
 returns : tie.Need-returns Inv-loop μ-loop
-returns c = ?
+returns c =
+    let l = c .before .loop in
+    let b = c .before .before .before .before .before .before .args .s .now in
+    let e = c .before .before .before .declared-count .ensures in
+    sym (l .inv .1 .1 ∙ asks-none (shelfIn b .granted) (l .now) _ (none-left b (l .i) (omega (arith, e))))
 
 pub asking-now-spec : {M : Type 1} → statement M
 asking-now-spec =

@@ -1,86 +1,117 @@
+-- `framing::hear_all` meets its contract. Assumes nothing.
+use Prim.Native.Nat.{ℕ, _+_, _-_, _≤_, _<_, min}
+use native.Mathlib.Omega.{arith}
+use mathlib.Core.Path.{_≡_, refl, sym, ap, subst, _∙_}
+use mathlib.Core.Bool.{false, _||_}
+use lib.ListN.{length, set, getD, replicate}
+use Rattle.state.specs.Bytes.{unitIn}
+use Rattle.answer.specs.Answers.{hearingRises, queuedOne, isAddressed}
+use Rattle.admit.specs.Admission.{Housed}
+use Rattle.hearing.specs.Hearings.{planOf}
+use Rattle.hearing.proofs.Plans.{plan-queue}
+use Rattle.hearing.proofs.InPlace.{state-long, state-there}
+use Rattle.framing.specs.Scenes.{turns, heededBy}
+use Rattle.framing.proofs.Turns.{scene, turns-step, turns-end}
+use borrow.Author.Needs.{needs}
 use Rattle.framing.proofs.hear_all.Statement.{statement}
 use Rattle.framing.proofs.hear_all.Tie as tie
-use Rattle.framing.proofs.hear_all.Reads as reads
-use Rattle.framing.proofs.hear_all.Lts as lts
-use Rattle.answer.proofs.hearing_rises.Reads as hearing-rises-reads
-use Rattle.framing.proofs.is_addressed.Reads as is-addressed-reads
-use Rattle.framing.proofs.queued_one.Reads as queued-one-reads
-use Rattle.hearing.proofs.hear_one.Reads as hear-one-reads
-use Rattle.shelf.proofs.declared_count.Reads as declared-count-reads
 
 abbrev Inv-loop : tie.InvT-loop
-Inv-loop s₀ heard store₀ cell end each₀ copies₀ addressed₀ i₀ s store each copies addressed i = ?
+Inv-loop s₀ heard store₀ cell end each₀ copies₀ addressed₀ i₀ s store each copies addressed i =
+    (i ≤ end)
+    × (end ≤ 32)
+    × (copies ≤ i)
+    × (length s ≡ 2048)
+    × (length store ≡ length store₀)
+    × ((j : ℕ) → i ≤ j → j < end → Housed j (unitIn s j) (length store₀))
+    × (heededBy heard cell s₀ store₀ ≡ turns heard cell i (end - i) (scene s store each copies addressed))
 
 abbrev μ-loop : tie.MeasureT-loop
-μ-loop s₀ heard store₀ cell end each₀ copies₀ addressed₀ i₀ s store each copies addressed i = ?
+μ-loop s₀ heard store₀ cell end each₀ copies₀ addressed₀ i₀ s store each copies addressed i = end - i
 
--- src/lib.rt:100:37
 slice-read-declared-count : tie.Need-slice-read-declared-count Inv-loop μ-loop
-slice-read-declared-count c = ?
+slice-read-declared-count c = search needs
 
--- src/lib.rt:100:9
 declared-count-requires : tie.Need-declared-count-requires Inv-loop μ-loop
-declared-count-requires c κs = ?
+declared-count-requires c κs = search needs
 
--- src/lib.rt:105:5
 loop-holds : tie.Need-loop-holds Inv-loop μ-loop
-loop-holds c = ?
+loop-holds c =
+    let s = c .before .before .before .before in
+    let a = s .args in
+    let e = c .declared-count .ensures in
+    let n : min (getD (a .s .now) 805 0) 32 ≡ c .declared-count .result - 0 = omega arith in
+    (omega arith, omega arith, omega arith, s .pre .0, refl, λ j h l. s .pre .1 j (omega arith), ap (λ k. turns (a .heard) (a .cell) 0 k (scene (a .s .now) (a .store .now) (replicate 32 0) 0 false)) n)
 
--- src/lib.rt:106:51
 slice-aggregate-hear-one : tie.Need-slice-aggregate-hear-one Inv-loop μ-loop
-slice-aggregate-hear-one c = ?
+slice-aggregate-hear-one c = search needs
 
--- src/lib.rt:106:13
 hear-one-requires : tie.Need-hear-one-requires Inv-loop μ-loop
-hear-one-requires c κs = ?
+hear-one-requires c κs =
+    let a = c .before .before .before .before .before .before .before .before .before .args in
+    let l = c .before .before .before .before .loop in
+    let full : length (a .cell) ≡ 56 = search needs in
+    (l .inv .3, full, subst (λ n. Housed (l .i) (unitIn (l .s) (l .i)) n) (sym (l .inv .4)) (l .inv .5 (l .i) (omega arith) (omega arith)))
 
--- src/lib.rt:107:19
 hearing-rises-requires : tie.Need-hearing-rises-requires Inv-loop μ-loop
-hearing-rises-requires c κs = ?
+hearing-rises-requires c κs = search needs
 
--- src/lib.rt:107:9
 mul-each : tie.Need-mul-each Inv-loop μ-loop
-mul-each c = ?
+mul-each c = search needs
 
--- src/lib.rt:107:9
 array-write-each : tie.Need-array-write-each Inv-loop μ-loop
-array-write-each c = ?
+array-write-each c = search needs
 
--- src/lib.rt:108:27
 queued-one-requires : tie.Need-queued-one-requires Inv-loop μ-loop
-queued-one-requires c κs = ?
+queued-one-requires c κs = search needs
 
--- src/lib.rt:108:18
 add-copies : tie.Need-add-copies Inv-loop μ-loop
-add-copies c = ?
+add-copies c = let w = c .before .before .before .before .before .before .before .before .before .before .before .loop .inv in let q = c .queued-one .ensures .1 in omega (arith, w .0, w .1, w .2, q)
 
--- src/lib.rt:109:33
 is-addressed-requires : tie.Need-is-addressed-requires Inv-loop μ-loop
-is-addressed-requires c κs = ?
+is-addressed-requires c κs = search needs
 
--- src/lib.rt:110:9
 add-i : tie.Need-add-i Inv-loop μ-loop
-add-i c = ?
+add-i c = search needs
 
--- src/lib.rt:105:5
 loop-less : tie.Need-loop-less Inv-loop μ-loop
-loop-less c = ?
+loop-less c = search needs
 
--- src/lib.rt:105:5
 loop-again : tie.Need-loop-again Inv-loop μ-loop
-loop-again c = ?
+loop-again c =
+    let l = c .before .before .before .before .before .before .before .before .before .before .before .before .loop in
+    let a = c .before .before .before .before .before .before .before .before .before .before .before .before .before .before .before .before .before .args in
+    let w = c .before .before .before .before .before .before .before .hear-one in
+    let n = c .before .before .before .before .before .before .before .before .before .before .before .before .before .declared-count .result in
+    let u = unitIn (l .s) (l .i) in
+    let p = planOf u (a .heard) in
+    let f = w .ensures .0 in
+    let es = w .ensures .1 .0 in
+    let et = w .ensures .1 .1 in
+    let long : length (w .last .1 .1 .1 .1 .0) ≡ length (l .store) = search needs in
+    let less : l .i < n = search needs in (
+      omega arith,
+      l .inv .1,
+      omega (arith, l .inv .2, c .before .queued-one .ensures .1),
+      ap length es ∙ state-long p (l .s) (l .i) ∙ l .inv .3,
+      long ∙ l .inv .4,
+      λ j hj lj. subst (λ x. Housed j x (length (a .store .now))) (sym (ap (λ b. unitIn b j) es ∙ state-there p (l .s) (l .i) (plan-queue u (a .heard)) (omega (arith, l .inv .1, less)) (l .inv .3) j (omega (arith, l .inv .1, lj)) (λ e. absurd (omega arith)))) (l .inv .5 j (omega arith) lj),
+      l .inv .6 ∙ turns-step (a .heard) (a .cell) (l .i) n _ _ less (λ t.
+          scene (sym es t) (sym et t) (set (l .each) (l .i) (sym (c .before .before .hearing-rises .ensures ∙ ap hearingRises f) t)) (l .copies + sym (c .before .queued-one .ensures .0 ∙ ap queuedOne f) t) (l .addressed || sym (c .is-addressed .ensures ∙ ap isAddressed f) t)),
+    )
 
--- src/lib.rt:94:1
 same-length : tie.Need-same-length Inv-loop μ-loop
-same-length c = ?
+same-length c = c .before .loop .inv .3 ∙ sym (c .before .before .before .before .before .before .pre .0)
 
--- src/lib.rt:94:1
 same-length-2 : tie.Need-same-length-2 Inv-loop μ-loop
-same-length-2 c = ?
+same-length-2 c = c .before .loop .inv .4
 
--- src/lib.rt:94:1
 returns : tie.Need-returns Inv-loop μ-loop
-returns c = ?
+returns c =
+    let l = c .before .loop in
+    let a = c .before .before .before .before .before .before .args in
+    let e = sym (l .inv .6 ∙ turns-end (a .heard) (a .cell) (l .i) _ (scene (l .s) (l .store) (l .each) (l .copies) (l .addressed)) (omega arith)) in
+    (λ t. e t .tally, (λ t. e t .bytes, λ t. e t .store))
 
 pub hear-all-spec : {M : Type 1} → statement M
 hear-all-spec =
