@@ -97,17 +97,17 @@ module _ (b store : List ℕ) (long : length b ≡ 2048) where
   unfolding sentState
   sent-formed =
       sending (λ x. formedAll x ≡ formedAll b) refl (λ place h.
-          heeded-formed (heard (f place)) (take 56 (f place)) (outState b place) store
-          ∙ formed-ring b 14 15 place (popped (unitIn b place .inlet) 4) (omega arith) (omega arith) (omega arith) (omega arith) (omega arith))
+      heeded-formed (heard (f place)) (take 56 (f place)) (outState b place) store
+      ∙ formed-ring b 14 15 place (popped (unitIn b place .inlet) 4) (omega arith) (omega arith) (omega arith) (omega arith) (omega arith))
 
   sent-other : (k : ℕ) → ((j c : ℕ) → j < 32 → j < getD b 805 0 → 14 ≤ c → c < 24 → k ≡ c * 32 + j → ⊥) → getD (stateBy (sender (shelfIn b)) b store) k 0 ≡ getD b k 0
   unfolding sentState
   sent-other k ne =
       sending (λ x. getD x k 0 ≡ getD b k 0) refl (λ place h.
-          let r = popped (unitIn b place .inlet) 4 in
-          let count = ring-other b 14 15 place r 805 (λ e. omega arith) (λ e. omega arith) in
-          heeded-other (heard (f place)) (take 56 (f place)) (outState b place) store k (λ j c hj lj. ne j c hj (omega (arith, count)))
-          ∙ ring-other b 14 15 place r k (ne place 14 (omega arith) (omega arith) (omega arith) (omega arith)) (ne place 15 (omega arith) (omega arith) (omega arith) (omega arith)))
+      let r = popped (unitIn b place .inlet) 4 in
+      let count = ring-other b 14 15 place r 805 (λ e. omega arith) (λ e. omega arith) in
+      heeded-other (heard (f place)) (take 56 (f place)) (outState b place) store k (λ j c hj lj. ne j c hj (omega (arith, count)))
+      ∙ ring-other b 14 15 place r k (ne place 14 (omega arith) (omega arith) (omega arith) (omega arith)) (ne place 15 (omega arith) (omega arith) (omega arith) (omega arith)))
 
   sent-decodes : shelfIn (stateBy (sender (shelfIn b)) b store) ≡ listenedOf (shelfIn b) store .shelf
   unfolding stateBy listenedBy

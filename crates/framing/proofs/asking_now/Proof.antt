@@ -64,9 +64,9 @@ met c =
     ⊎-elim
     (λ w. w .4 ∙ (λ k. set (l .now) (n k) ((w .3 .ensures ∙ (λ t. asking (w .1 .ensures t) (w .2 .ensures t) (eqb (n t) (shelfIn b .granted)))) k)))
     (λ w.
-      let m = l .inv .1 .0 in
-      let h = w .0 .left in
-      w .1 ∙ sym (set-out (l .now) (col b (l .i) 0) (asksNow (shelfIn b .granted) (col b (l .i) 0) (col b (l .i) 4) (col b (l .i) 15)) (omega (arith, n))))
+    let m = l .inv .1 .0 in
+    let h = w .0 .left in
+    w .1 ∙ sym (set-out (l .now) (col b (l .i) 0) (asksNow (shelfIn b .granted) (col b (l .i) 0) (col b (l .i) 4) (col b (l .i) 15)) (omega (arith, n))))
     (c .if1 .came)
 
 add-i : tie.Need-add-i Inv-loop μ-loop

@@ -1,5 +1,6 @@
 -- `framing::frame_on` meets its contract. Assumes nothing.
 use Prim.Native.Nat.{_+_, _%_, _^_}
+use native.Mathlib.Omega.{arith}
 use mathlib.Core.Path.{_≡_, ap, _∙_}
 use mathlib.Core.Bool.{false}
 use lib.ListN.{length, getD}
@@ -35,7 +36,7 @@ put-turn-requires : tie.Need-put-turn-requires
 put-turn-requires c κs = search needs
 
 cast-t31 : tie.Need-cast-t31
-cast-t31 c = search needs
+cast-t31 c = omega (arith, c .before .before .before .before .before .before .before .before .before .before .before .before .before .before .before .before .before .before .before .before .slice-known5 .given 805)
 
 same-length : tie.Need-same-length
 same-length c = search needs
@@ -54,10 +55,10 @@ returns c =
     let w = c .before .before .before .before .before .before .before .before .before .before .before .before .before .before .send-granted .ensures in
     let next = c .before .before .before .wrapping-add-u16 .ensures ∙ ap (λ k. (k + 1) % 2 ^ 16) n in (
       (λ i.
-        record {
-          answer = Framed (n i) (getD b 803 0) (g i .unit) (w .0 i .copies);
-          rises = record { from = 0; to = getD b 805 0; anew = false; each = w .0 i .each };
-        }),
+          record {
+            answer = Framed (n i) (getD b 803 0) (g i .unit) (w .0 i .copies);
+            rises = record { from = 0; to = getD b 805 0; anew = false; each = w .0 i .each };
+          }),
       (c .before .before .put-turn .ensures ∙ (λ i. withTurn (w .1 .0 i) (g i .arbiter) (g i .unit) (next i)), w .1 .1),
     )
 

@@ -41,7 +41,7 @@ loop-holds c =
     let a = s .args in
     let e = c .declared-count .ensures in
     let n : min (getD (a .s .now) 805 0) 32 ≡ c .declared-count .result - 0 = omega arith in
-    (omega arith, omega arith, omega arith, s .pre .0, refl, λ j h l. s .pre .1 j (omega arith), ap (λ k. turns (a .heard) (a .cell) 0 k (scene (a .s .now) (a .store .now) (replicate 32 0) 0 false)) n)
+    (omega arith, omega arith, omega arith, s .pre .0, refl, λ j h l. s .pre .1 j (omega arith), ap (λ k. turns (a .heard) (a .t3) 0 k (scene (a .s .now) (a .store .now) (replicate 32 0) 0 false)) n)
 
 slice-aggregate-hear-one : tie.Need-slice-aggregate-hear-one Inv-loop μ-loop
 slice-aggregate-hear-one c = search needs
@@ -50,7 +50,7 @@ hear-one-requires : tie.Need-hear-one-requires Inv-loop μ-loop
 hear-one-requires c κs =
     let a = c .before .before .before .before .before .before .before .before .before .args in
     let l = c .before .before .before .before .loop in
-    let full : length (a .cell) ≡ 56 = search needs in
+    let full : length (a .t3) ≡ 56 = search needs in
     (l .inv .3, full, subst (λ n. Housed (l .i) (unitIn (l .s) (l .i)) n) (sym (l .inv .4)) (l .inv .5 (l .i) (omega arith) (omega arith)))
 
 hearing-rises-requires : tie.Need-hearing-rises-requires Inv-loop μ-loop
@@ -96,7 +96,7 @@ loop-again c =
       ap length es ∙ state-long p (l .s) (l .i) ∙ l .inv .3,
       long ∙ l .inv .4,
       λ j hj lj. subst (λ x. Housed j x (length (a .store .now))) (sym (ap (λ b. unitIn b j) es ∙ state-there p (l .s) (l .i) (plan-queue u (a .heard)) (omega (arith, l .inv .1, less)) (l .inv .3) j (omega (arith, l .inv .1, lj)) (λ e. absurd (omega arith)))) (l .inv .5 j (omega arith) lj),
-      l .inv .6 ∙ turns-step (a .heard) (a .cell) (l .i) n _ _ less (λ t.
+      l .inv .6 ∙ turns-step (a .heard) (a .t3) (l .i) n _ _ less (λ t.
           scene (sym es t) (sym et t) (set (l .each) (l .i) (sym (c .before .before .hearing-rises .ensures ∙ ap hearingRises f) t)) (l .copies + sym (c .before .queued-one .ensures .0 ∙ ap queuedOne f) t) (l .addressed || sym (c .is-addressed .ensures ∙ ap isAddressed f) t)),
     )
 
@@ -110,7 +110,7 @@ returns : tie.Need-returns Inv-loop μ-loop
 returns c =
     let l = c .before .loop in
     let a = c .before .before .before .before .before .before .args in
-    let e = sym (l .inv .6 ∙ turns-end (a .heard) (a .cell) (l .i) _ (scene (l .s) (l .store) (l .each) (l .copies) (l .addressed)) (omega arith)) in
+    let e = sym (l .inv .6 ∙ turns-end (a .heard) (a .t3) (l .i) _ (scene (l .s) (l .store) (l .each) (l .copies) (l .addressed)) (omega arith)) in
     (λ t. e t .tally, (λ t. e t .bytes, λ t. e t .store))
 
 pub hear-all-spec : {M : Type 1} → statement M

@@ -25,7 +25,7 @@ below : (c : tie.Start) → c .args .place < 32
 below c = housed c .below
 
 ring-at-requires : tie.Need-ring-at-requires
-ring-at-requires c κs = (c .before .before .before .before .before .pre .0, omega arith, omega arith, below (c .before .before .before .before .before))
+ring-at-requires c κs = let s = c .before .before .before .before in (s .pre .0, omega arith, omega arith, below s)
 
 inlet-at-requires : tie.Need-inlet-at-requires
 inlet-at-requires c κs = below (c .before .before .before .before .before .before)
