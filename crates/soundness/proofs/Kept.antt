@@ -1,14 +1,16 @@
--- Bytes that say links, modes and marks go on saying them: where those columns and the count are as they were, and so after a ring is written. Assumes nothing.
+-- Bytes that say links, modes and marks go on saying them: where those columns and the count are as they were, and so after a ring is written, and after a frame's end. Assumes nothing.
 use mathlib.Core.Path.{_≡_, refl, ap, _∙_}
 use mathlib.Core.Bool.{Bool, _&&_, _||_}
 use mathlib.Core.List.{List}
-use Prim.Native.Nat.{ℕ, zero, suc, _+_, _≤_, _<_}
+use Prim.Native.Nat.{ℕ, zero, suc, _+_, _*_, _≤_, _<_}
 use native.Mathlib.Omega.{arith}
 use lib.Dec.{leb}
-use lib.ListN.{getD}
+use lib.ListN.{length, getD}
 use Rattle.outlet.specs.declared.Ring.{Ring}
-use Rattle.state.specs.Bytes.{col, withRing}
+use Rattle.arbiter.specs.declared.Arbiter.{Arbiter}
+use Rattle.state.specs.Bytes.{col, withRing, withTurn}
 use Rattle.state.proofs.Kept.{ring-behind, ring-column}
+use Rattle.state.proofs.Turn.{turn-before, turn-between}
 use Rattle.soundness.specs.Lanes.{formed, lanes}
 use Rattle.soundness.specs.Soundings.{formedAll}
 
@@ -35,3 +37,8 @@ formed-ring b h c i r lh hh lc hc hi =
       ring-column b h c i r hh hc hi j 5 hj (λ e. omega arith) (λ e. omega arith),
       ring-column b h c i r hh hc hi j 9 hj (λ e. omega arith) (λ e. omega arith),
     ))
+
+pub formed-turn : (b : List ℕ) (a : Arbiter) (g n : ℕ) → length b ≡ 2048 → length (a .asks) ≡ 32 → formedAll (withTurn b a g n) ≡ formedAll b
+formed-turn b a g n long all =
+    formed-same (withTurn b a g n) b (turn-between b a g n long all 805 (omega arith) (omega arith)) (λ j h.
+    (turn-before b a g n long all (1 * 32 + j) (omega arith), turn-before b a g n long all (5 * 32 + j) (omega arith), turn-before b a g n long all (9 * 32 + j) (omega arith)))
