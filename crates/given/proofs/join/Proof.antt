@@ -1,56 +1,42 @@
--- `given::join` meets its contract. Assumes nothing.
-use mathlib.Core.Path.{_≡_, sym, ap, _∙_}
-use lib.ListN.{length}
-use Rattle.outlet.proofs.Laws.{length-mapped}
-use Rattle.verdict.proofs.Owning.{found-in}
-use Rattle.told.specs.Told.{joinAt}
-use Rattle.given.proofs.Leaves.{hearing-more, joined}
-use native.Mathlib.Omega.{arith}
 use borrow.Author.Needs.{needs}
 use Rattle.given.proofs.join.Statement.{statement}
 use Rattle.given.proofs.join.Tie as tie
+use Rattle.given.proofs.join.Reads as reads
+use Rattle.given.proofs.join.Lts as lts
+use Rattle.state.proofs.find.Reads as find-reads
+use Rattle.state.proofs.join.Reads as join-reads
 
-long : (c : tie.Start) → length (c .args .t1 .units) ≡ 32
-long c = search (needs, length-mapped)
-
+-- src/lib.rt:112:24
 find-requires : tie.Need-find-requires
 find-requires c κs = search needs
 
+-- src/lib.rt:112:19
 enum-known-i : tie.Need-enum-known-i
 enum-known-i c = search needs
 
+-- src/lib.rt:113:9
 enum-told : tie.Need-enum-told
 enum-told c = search needs
 
+-- src/lib.rt:113:9
+same-length : tie.Need-same-length
+same-length c = search needs
+
+-- src/lib.rt:113:9
 returns : tie.Need-returns
-unfolding joinAt
-returns c =
-    let a = c .before .before .before .args in
-    ap (λ f. joinAt (a .t1) f (a .session)) (sym (sym (c .before .before .find .ensures) ∙ c .enum-told .given .1))
+returns c = ?
 
-mul-unit : tie.Need-mul-unit
-mul-unit c = omega (arith, found-in (c .before .before .before .before .args .t1) (c .before .before .before .before .args .number) (c .before .i .given .0 .0) (long (c .before .before .before .before)) (sym (c .before .before .before .find .ensures) ∙ c .before .i .given .1))
+-- src/lib.rt:115:5
+join-requires : tie.Need-join-requires
+join-requires c κs = ?
 
-element-copy-out-unit : tie.Need-element-copy-out-unit
-element-copy-out-unit c = found-in (c .before .before .before .before .args .t1) (c .before .before .before .before .args .number) (c .before .i .given .0 .0) (long (c .before .before .before .before)) (sym (c .before .before .before .find .ensures) ∙ c .before .i .given .1)
+-- src/lib.rt:108:1
+same-length-2 : tie.Need-same-length-2
+same-length-2 c = search needs
 
-with-session-requires : tie.Need-with-session-requires
-with-session-requires c κs = search needs
-
-mul-unit-2 : tie.Need-mul-unit-2
-mul-unit-2 c = omega (arith, found-in (c .before .before .before .before .before .before .before .args .t1) (c .before .before .before .before .before .before .before .args .number) (c .before .before .before .before .i .given .0 .0) (long (c .before .before .before .before .before .before .before)) (sym (c .before .before .before .before .before .before .find .ensures) ∙ c .before .before .before .before .i .given .1))
-
-element-set-from-unit : tie.Need-element-set-from-unit
-element-set-from-unit c = found-in (c .before .before .before .before .before .before .before .args .t1) (c .before .before .before .before .before .before .before .args .number) (c .before .before .before .before .i .given .0 .0) (long (c .before .before .before .before .before .before .before)) (sym (c .before .before .before .before .before .before .find .ensures) ∙ c .before .before .before .before .i .given .1)
-
+-- src/lib.rt:108:1
 returns-2 : tie.Need-returns-2
-unfolding hearing-more
-returns-2 c =
-    let a = c .before .before .before .before .before .before .before .args in
-    let l = long (c .before .before .before .before .before .before .before) in
-    let i = c .before .before .before .before .i .given in
-    let e = sym (c .before .before .before .before .before .before .find .ensures) ∙ i .1 in
-    joined (a .t1) (a .number) (i .0 .0) (a .session) _ _ e (omega (arith, found-in (a .t1) (a .number) (i .0 .0) l e)) (c .with-session .ensures)
+returns-2 c = ?
 
 pub join-spec : {M : Type 1} → statement M
 join-spec =
@@ -59,10 +45,8 @@ join-spec =
     find-requires
     enum-known-i
     enum-told
+    same-length
     returns
-    mul-unit
-    element-copy-out-unit
-    with-session-requires
-    mul-unit-2
-    element-set-from-unit
+    join-requires
+    same-length-2
     returns-2)
