@@ -1,42 +1,45 @@
+-- `given::join` meets its contract. Assumes nothing.
+use mathlib.Core.Path.{sym, ap, _∙_}
+use Rattle.state.specs.Bytes.{shelfIn}
+use Rattle.state.proofs.Laws.{units-length}
+use Rattle.verdict.proofs.Owning.{found-in}
+use Rattle.given.specs.InPlace.{joinedAt}
 use borrow.Author.Needs.{needs}
 use Rattle.given.proofs.join.Statement.{statement}
 use Rattle.given.proofs.join.Tie as tie
-use Rattle.given.proofs.join.Reads as reads
-use Rattle.given.proofs.join.Lts as lts
-use Rattle.state.proofs.find.Reads as find-reads
-use Rattle.state.proofs.join.Reads as join-reads
 
--- src/lib.rt:112:24
 find-requires : tie.Need-find-requires
 find-requires c κs = search needs
 
--- src/lib.rt:112:19
 enum-known-i : tie.Need-enum-known-i
 enum-known-i c = search needs
 
--- src/lib.rt:113:9
 enum-told : tie.Need-enum-told
 enum-told c = search needs
 
--- src/lib.rt:113:9
 same-length : tie.Need-same-length
 same-length c = search needs
 
--- src/lib.rt:113:9
 returns : tie.Need-returns
-returns c = ?
+unfolding joinedAt
+returns c =
+    let a = c .before .before .before .before .before .args in
+    ap (λ f. joinedAt (a .s .now) f (a .session)) (sym (sym (c .before .before .find .ensures) ∙ c .enum-told .given .1))
 
--- src/lib.rt:115:5
 join-requires : tie.Need-join-requires
-join-requires c κs = ?
+join-requires c κs =
+    let s = c .before .before .before .before .before .before .before in
+    let b = s .args .s .now in
+    (s .pre, found-in (shelfIn b) (s .args .number) (c .before .before .i .given .0 .0) (units-length b 0 32) (sym (c .before .before .before .before .find .ensures) ∙ c .before .before .i .given .1))
 
--- src/lib.rt:108:1
 same-length-2 : tie.Need-same-length-2
 same-length-2 c = search needs
 
--- src/lib.rt:108:1
 returns-2 : tie.Need-returns-2
-returns-2 c = ?
+unfolding joinedAt
+returns-2 c =
+    let a = c .before .before .before .before .before .before .before .before .before .before .args in
+    c .before .before .join .ensures ∙ ap (λ f. joinedAt (a .s .now) f (a .session)) (sym (sym (c .before .before .before .before .before .before .before .find .ensures) ∙ c .before .before .before .before .before .i .given .1))
 
 pub join-spec : {M : Type 1} → statement M
 join-spec =

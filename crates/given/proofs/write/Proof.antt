@@ -1,12 +1,10 @@
+-- `given::write` meets its contract. Assumes nothing.
+use mathlib.Core.Path.{_∙_}
+use Rattle.record.specs.declared.Record.the-variants.{Drop, Route, Page}
+use Rattle.told.specs.Enact.{putBy, putVc, memoryBy}
 use borrow.Author.Needs.{needs}
 use Rattle.given.proofs.write.Statement.{statement}
 use Rattle.given.proofs.write.Tie as tie
-use Rattle.given.proofs.write.Reads as reads
-use Rattle.given.proofs.write.Lts as lts
-use Rattle.given.proofs.put_circuit.Reads as put-circuit-reads
-use Rattle.given.proofs.put_path.Reads as put-path-reads
-use Rattle.routing.proofs.write.Reads as write-reads
-use Rattle.verdict.proofs.find_owner.Reads as find-owner-reads
 
 enum-told : tie.Need-enum-told
 enum-told c = search needs
@@ -14,108 +12,107 @@ enum-told c = search needs
 enum-told-2 : tie.Need-enum-told-2
 enum-told-2 c = search needs
 
--- src/lib.rt:56:13
 enum-known-line : tie.Need-enum-known-line
 enum-known-line c = search needs
 
--- src/lib.rt:62:17
 write-requires : tie.Need-write-requires
 write-requires c κs = search needs
 
--- src/lib.rt:68:36
 find-owner-requires : tie.Need-find-owner-requires
 find-owner-requires c κs = search needs
 
--- src/lib.rt:68:13
 put-path-requires : tie.Need-put-path-requires
 put-path-requires c κs = search needs
 
--- src/lib.rt:70:22
 enum-known-line-2 : tie.Need-enum-known-line-2
 enum-known-line-2 c = search needs
 
--- src/lib.rt:74:17
 find-owner-requires-2 : tie.Need-find-owner-requires-2
 find-owner-requires-2 c κs = search needs
 
--- src/lib.rt:71:13
 put-path-requires-2 : tie.Need-put-path-requires-2
 put-path-requires-2 c κs = search needs
 
--- src/lib.rt:79:22
 enum-known-line-3 : tie.Need-enum-known-line-3
 enum-known-line-3 c = search needs
 
--- src/lib.rt:81:36
 find-owner-requires-3 : tie.Need-find-owner-requires-3
 find-owner-requires-3 c κs = search needs
 
--- src/lib.rt:81:13
 put-path-requires-3 : tie.Need-put-path-requires-3
 put-path-requires-3 c κs = search needs
 
--- src/lib.rt:84:13
 enum-known-line-4 : tie.Need-enum-known-line-4
 enum-known-line-4 c = search needs
 
--- src/lib.rt:92:17
 write-requires-2 : tie.Need-write-requires-2
 write-requires-2 c κs = search needs
 
--- src/lib.rt:98:39
 find-owner-requires-4 : tie.Need-find-owner-requires-4
 find-owner-requires-4 c κs = search needs
 
--- src/lib.rt:98:13
 put-circuit-requires : tie.Need-put-circuit-requires
 put-circuit-requires c κs = search needs
 
 enum-told-3 : tie.Need-enum-told-3
 enum-told-3 c = search needs
 
--- src/lib.rt:45:1
 returns : tie.Need-returns
-returns c = ?
+unfolding memoryBy
+returns c = rw (c .enum-told .given .1)
 
--- src/lib.rt:45:1
 returns-2 : tie.Need-returns-2
-returns-2 c = ?
+unfolding memoryBy
+returns-2 c = rw (c .enum-told2 .given .1)
 
--- src/lib.rt:45:1
 same-length : tie.Need-same-length
 same-length c = search needs
 
--- src/lib.rt:45:1
 returns-3 : tie.Need-returns-3
-returns-3 c = ?
+unfolding memoryBy
+returns-3 c =
+    let a = c .before .before .before .before .before .before .before .before .before .before .before .args in
+    let l = c .before .before .before .before .before .before .before .line .given in
+    c .before .before .put-path .ensures
+    ∙ (λ i. putBy (a .card) (a .memory .now) (c .before .before .before .find-owner .ensures i) (l .0 .1 .0) (Route (c .before .before .before .before .before .write .ensures i) (l .0 .1 .1 .1 .1 .0) 0))
+    ∙ rw (l .1)
 
--- src/lib.rt:45:1
 same-length-2 : tie.Need-same-length-2
 same-length-2 c = search needs
 
--- src/lib.rt:45:1
 returns-4 : tie.Need-returns-4
-returns-4 c = ?
+unfolding memoryBy
+returns-4 c =
+    let a = c .before .before .before .before .before .before .before .before .before .before .args in
+    let l = c .before .before .before .before .before .before .line2 .given in
+    c .before .before .put-path2 .ensures ∙ (λ i. putBy (a .card) (a .memory .now) (c .before .before .before .find-owner2 .ensures i) (l .0 .1 .0) Drop) ∙ rw (l .1)
 
--- src/lib.rt:45:1
 same-length-3 : tie.Need-same-length-3
 same-length-3 c = search needs
 
--- src/lib.rt:45:1
 returns-5 : tie.Need-returns-5
-returns-5 c = ?
+unfolding memoryBy
+returns-5 c =
+    let a = c .before .before .before .before .before .before .before .before .before .before .args in
+    let l = c .before .before .before .before .before .before .line3 .given in
+    c .before .before .put-path3 .ensures
+    ∙ (λ i. putBy (a .card) (a .memory .now) (c .before .before .before .find-owner3 .ensures i) (l .0 .1 .0) (Page (l .0 .1 .1 .0) (a .used))) ∙ rw (l .1)
 
--- src/lib.rt:45:1
 same-length-4 : tie.Need-same-length-4
 same-length-4 c = search needs
 
--- src/lib.rt:45:1
 returns-6 : tie.Need-returns-6
-returns-6 c = ?
+unfolding memoryBy
+returns-6 c =
+    let a = c .before .before .before .before .before .before .before .before .before .before .before .args in
+    let l = c .before .before .before .before .before .before .before .line4 .given in
+    c .before .before .put-circuit .ensures
+    ∙ (λ i. putVc (a .card) (a .memory .now) (c .before .before .before .find-owner4 .ensures i) (l .0 .1 .0) (l .0 .1 .1 .0) (Route (c .before .before .before .before .before .write2 .ensures i) (l .0 .1 .1 .1 .1 .1 .0) (l .0 .1 .1 .1 .1 .1 .1 .0)))
+    ∙ rw (l .1)
 
--- src/lib.rt:45:1
 returns-7 : tie.Need-returns-7
-returns-7 c = ?
+unfolding memoryBy
+returns-7 c = rw (c .enum-told3 .given .1)
 
 pub write-spec : {M : Type 1} → statement M
 write-spec =
