@@ -1,99 +1,169 @@
+-- `table::read_lines` meets its contract. Assumes nothing.
+use mathlib.Core.Path.{_≡_, refl, sym, ap, subst, subst₂, _∙_}
+use mathlib.Core.List.{List, []}
+use Prim.Native.Nat.{_+_, _-_}
+use lib.ListN.{length}
+use borrow.Author.Tests.{eq-eqb, not-true, not-false}
+use Rattle.record.specs.Record.{usable}
+use Rattle.state.specs.Bytes.{shelfIn}
+use Rattle.line.specs.declared.Line.{Line}
+use Rattle.verdict.specs.declared.Verdict.the-variants.{Fine}
+use Rattle.verdict.specs.Verdicts.{isFine}
+use Rattle.told.specs.Told.{total, memoryOf}
+use Rattle.told.specs.Enact.{Places}
+use Rattle.told.proofs.Memory.{memory-none}
+use Rattle.table.specs.Load.{progressBy, memoryAfter, verdictIn, progressOf, toldIn, ranOf}
+use Rattle.table.specs.InPlace.{stateAfter, stateOf}
+use Rattle.table.proofs.Turns.{Between, at-start, at-end, used-most, lines-most, state-long, step-places, stop-progress, stop-memory, stop-state, on}
+use native.Mathlib.Omega.{arith}
+use borrow.Author.Needs.{needs}
 use Rattle.table.proofs.read_lines.Statement.{statement}
 use Rattle.table.proofs.read_lines.Tie as tie
-use Rattle.table.proofs.read_lines.Reads as reads
-use Rattle.table.proofs.read_lines.Lts as lts
-use Rattle.line.proofs.read.Reads as read-reads
-use Rattle.table.proofs.begin.Reads as begin-reads
-use Rattle.table.proofs.step.Reads as step-reads
-use Rattle.table.proofs.usable.Reads as usable-reads
-use Rattle.text.proofs.field_end.Reads as field-end-reads
-use Rattle.verdict.proofs.is_fine.Reads as is-fine-reads
 
 abbrev Inv-loop : tie.InvT-loop
-Inv-loop card text memory₀ s₀ room p₀ from₀ memory s p from = ?
+Inv-loop card text memory₀ s₀ room p₀ from₀ memory s p from =
+    (told : List Line) × Between card memory₀ text told from p memory s × (length memory ≡ length memory₀) × (length s ≡ length s₀)
 
 abbrev μ-loop : tie.MeasureT-loop
-μ-loop card text memory₀ s₀ room p₀ from₀ memory s p from = ?
+μ-loop card text memory₀ s₀ room p₀ from₀ memory s p from = length text + 1 - from
 
--- src/lib.rt:125:9
 returns : tie.Need-returns Inv-loop μ-loop
-returns c = ?
+unfolding ranOf total stateOf
+returns c =
+    let a = c .before .before .before .before .args in
+    let z = eq-eqb (length (a .text .now)) 0 (c .if1 .taken) in
+    let p = c .before .before .before .before .pre in
+    (rw z, (p .1 ∙ sym (memory-none (a .card) (a .memory .now)) ∙ rw z, p .2 ∙ rw z))
 
--- src/lib.rt:131:9
 usable-requires : tie.Need-usable-requires Inv-loop μ-loop
-usable-requires c κs = ?
+usable-requires c κs = search needs
 
--- src/lib.rt:132:9
 begin-requires : tie.Need-begin-requires Inv-loop μ-loop
-begin-requires c κs = ?
+begin-requires c κs = search needs
 
--- src/lib.rt:134:5
 loop-holds : tie.Need-loop-holds Inv-loop μ-loop
-loop-holds c = ?
+loop-holds c =
+    let a = c .before .before .before .before .before .before .args in
+    let p = c .before .before .before .before .before .before .pre in
+    ([], subst₂ (λ q s. Between (a .card) (a .memory .now) (a .text .now) [] 0 q (a .memory .now) s) (sym (c .begin .ensures)) (sym (p .2)) (at-start (a .card) (a .memory .now) (a .text .now) (p .1) (c .before .before .if1 .left)), refl, refl)
 
--- src/lib.rt:135:13
 field-end-requires : tie.Need-field-end-requires Inv-loop μ-loop
-field-end-requires c κs = ?
+field-end-requires c κs = c .before .loop .inv .1 .inside
 
--- src/lib.rt:136:34
 sub-read : tie.Need-sub-read Inv-loop μ-loop
-sub-read c = ?
+sub-read c = omega (arith, c .field-end .ensures .0)
 
--- src/lib.rt:136:34
 part-read-start : tie.Need-part-read-start Inv-loop μ-loop
-part-read-start c = ?
+part-read-start c = omega (arith, c .field-end .ensures .0)
 
--- src/lib.rt:136:34
 part-read-end : tie.Need-part-read-end Inv-loop μ-loop
-part-read-end c = ?
+part-read-end c = omega (arith, c .field-end .ensures .1)
 
--- src/lib.rt:136:13
 read-requires : tie.Need-read-requires Inv-loop μ-loop
-read-requires c κs = ?
+read-requires c κs = search needs
 
--- src/lib.rt:137:9
 step-requires : tie.Need-step-requires Inv-loop μ-loop
-step-requires c κs = ?
+step-requires c κs =
+    let a = c .before .before .before .before .before .before .before .before .before .before .before .before .before .args in
+    let l = c .before .before .before .before .before .before .loop in
+    let told = l .inv .0 in
+    let b = l .inv .1 in
+    let e = c .before .before .before .before .field-end .result in
+    let q = c .before .before .before .before .field-end .ensures .0 in
+    let h = c .before .before .before .before .before .loop-test .taken in
+    let r = c .before .before .read .result in
+    let k = c .before .before .read .ensures in
+    let room = c .before .before .before .before .before .before .before .before .usable .ensures in
+    let m = a .memory .now in
+    let t = a .text .now in
+    let w = shelfIn (l .s) in (
+      (state-long (a .card) m t told (l .from) (l .p) (l .memory) (l .s) b, used-most (a .card) m t told (l .from) (l .p) (l .memory) (l .s) b, lines-most (a .card) m t told (l .from) (l .p) (l .memory) (l .s) b (c .before .before .before .before .before .before .before .before .before .before .before .before .before .pre .0)),
+      subst (λ n. verdictIn (a .card) n (l .memory) w (l .p) r ≡ Fine → Places w r) (sym room) (step-places (a .card) m t told (l .from) (l .p) (l .memory) (l .s) b e q h r k),
+    )
 
--- src/lib.rt:139:13
 is-fine-requires : tie.Need-is-fine-requires Inv-loop μ-loop
-is-fine-requires c κs = ?
+is-fine-requires c κs = search needs
 
--- src/lib.rt:140:13
 same-length : tie.Need-same-length Inv-loop μ-loop
-same-length c = ?
+same-length c = c .before .before .before .before .before .before .step .kept .1 .1 .0 ∙ c .before .before .before .before .before .before .before .before .before .before .before .before .before .loop .inv .2
 
--- src/lib.rt:140:13
 same-length-2 : tie.Need-same-length-2 Inv-loop μ-loop
-same-length-2 c = ?
+same-length-2 c = c .before .before .before .before .before .before .step .kept .1 .1 .1 .0 ∙ c .before .before .before .before .before .before .before .before .before .before .before .before .before .loop .inv .3
 
--- src/lib.rt:140:13
 returns-2 : tie.Need-returns-2 Inv-loop μ-loop
-returns-2 c = ?
+unfolding progressBy
+returns-2 c =
+    let a = c .before .before .before .before .before .before .before .before .before .before .before .before .before .before .before .before .before .before .before .before .args in
+    let l = c .before .before .before .before .before .before .before .before .before .before .before .before .before .loop in
+    let told = l .inv .0 in
+    let b = l .inv .1 in
+    let e = c .before .before .before .before .before .before .before .before .before .before .before .field-end .result in
+    let q = c .before .before .before .before .before .before .before .before .before .before .before .field-end .ensures .0 in
+    let h = c .before .before .before .before .before .before .before .before .before .before .before .before .loop-test .taken in
+    let r = c .before .before .before .before .before .before .before .before .before .read .result in
+    let k = c .before .before .before .before .before .before .before .before .before .read .ensures in
+    let room = c .before .before .before .before .before .before .before .before .before .before .before .before .before .before .before .usable .ensures in
+    let m = a .memory .now in
+    let t = a .text .now in
+    let w = shelfIn (l .s) in
+    let s = c .before .before .before .before .before .before .step in
+    let s₁ = subst (λ n. s .result ≡ progressBy (verdictIn (a .card) n (l .memory) w (l .p) r) (l .p) r) room (s .ensures .0) in
+    let s₂ = subst (λ n. s .last .1 .1 .0 ≡ memoryAfter (a .card) (l .memory) w (verdictIn (a .card) n (l .memory) w (l .p) r) (l .p) r) room (s .ensures .1 .0) in
+    let s₃ = subst (λ n. s .last .1 .1 .1 .0 ≡ stateAfter (l .s) (verdictIn (a .card) n (l .memory) w (l .p) r) (l .p) r) room (s .ensures .1 .1) in
+    let f = sym (ap isFine (ap (λ p. p .verdict) s₁)) ∙ sym (c .before .is-fine .ensures) ∙ not-true _ (c .if2 .taken) in (
+      s₁ ∙ stop-progress (a .card) m t told (l .from) (l .p) (l .memory) (l .s) b e q h r k f,
+      (s₂ ∙ stop-memory (a .card) m t told (l .from) (l .p) (l .memory) (l .s) b e q h r k f,
+      s₃ ∙ stop-state (a .card) m t told (l .from) (l .p) (l .memory) (l .s) b e q h r k f),
+    )
 
--- src/lib.rt:142:16
 add-from : tie.Need-add-from Inv-loop μ-loop
-add-from c = ?
+add-from c = omega (arith, c .before .before .before .before .before .before .before .before .before .before .before .field-end .ensures .1)
 
--- src/lib.rt:134:5
 loop-less : tie.Need-loop-less Inv-loop μ-loop
-loop-less c = ?
+loop-less c = omega (arith, c .before .before .before .before .before .before .before .before .before .before .before .field-end .ensures .0)
 
--- src/lib.rt:134:5
 loop-again : tie.Need-loop-again Inv-loop μ-loop
-loop-again c = ?
+unfolding progressBy
+loop-again c =
+    let a = c .before .before .before .before .before .before .before .before .before .before .before .before .before .before .before .before .before .before .before .before .args in
+    let l = c .before .before .before .before .before .before .before .before .before .before .before .before .before .loop in
+    let told = l .inv .0 in
+    let b = l .inv .1 in
+    let e = c .before .before .before .before .before .before .before .before .before .before .before .field-end .result in
+    let q = c .before .before .before .before .before .before .before .before .before .before .before .field-end .ensures .0 in
+    let h = c .before .before .before .before .before .before .before .before .before .before .before .before .loop-test .taken in
+    let r = c .before .before .before .before .before .before .before .before .before .read .result in
+    let k = c .before .before .before .before .before .before .before .before .before .read .ensures in
+    let room = c .before .before .before .before .before .before .before .before .before .before .before .before .before .before .before .usable .ensures in
+    let m = a .memory .now in
+    let t = a .text .now in
+    let w = shelfIn (l .s) in
+    let s = c .before .before .before .before .before .before .step in
+    let s₁ = subst (λ n. s .result ≡ progressBy (verdictIn (a .card) n (l .memory) w (l .p) r) (l .p) r) room (s .ensures .0) in
+    let s₂ = subst (λ n. s .last .1 .1 .0 ≡ memoryAfter (a .card) (l .memory) w (verdictIn (a .card) n (l .memory) w (l .p) r) (l .p) r) room (s .ensures .1 .0) in
+    let s₃ = subst (λ n. s .last .1 .1 .1 .0 ≡ stateAfter (l .s) (verdictIn (a .card) n (l .memory) w (l .p) r) (l .p) r) room (s .ensures .1 .1) in
+    let f = sym (ap isFine (ap (λ p. p .verdict) s₁)) ∙ sym (c .before .is-fine .ensures) ∙ not-false _ (c .if2 .left) in
+    let o = on (a .card) m t told (l .from) (l .p) (l .memory) (l .s) b e q h r k f in (
+      o .0,
+      subst (λ x. Between (a .card) m t (o .0) (e + 1) (s .result) (s .last .1 .1 .0) x) (sym s₃) (subst₂ (λ p y. Between (a .card) m t (o .0) (e + 1) p y (stateAfter (l .s) (verdictIn (a .card) (usable m) (l .memory) w (l .p) r) (l .p) r)) (sym s₁) (sym s₂) (o .1)),
+      s .kept .1 .1 .0 ∙ l .inv .2,
+      s .kept .1 .1 .1 .0 ∙ l .inv .3,
+    )
 
--- src/lib.rt:118:1
 same-length-3 : tie.Need-same-length-3 Inv-loop μ-loop
-same-length-3 c = ?
+same-length-3 c = c .before .loop .inv .2
 
--- src/lib.rt:118:1
 same-length-4 : tie.Need-same-length-4 Inv-loop μ-loop
-same-length-4 c = ?
+same-length-4 c = c .before .loop .inv .3
 
--- src/lib.rt:118:1
 returns-3 : tie.Need-returns-3 Inv-loop μ-loop
-returns-3 c = ?
+returns-3 c =
+    let a = c .before .before .before .before .before .before .before .before .args in
+    let l = c .before .loop in
+    let told = l .inv .0 in
+    let b = l .inv .1 in
+    let d = at-end (a .card) (a .memory .now) (a .text .now) told (l .from) (l .p) (l .memory) (l .s) b (c .loop-test .left) in
+    (b .come ∙ ap progressOf (sym d), (b .holding ∙ ap (λ x. memoryOf (a .card) (a .memory .now) (toldIn x)) (sym d), b .standing ∙ ap (λ x. stateOf (toldIn x)) (sym d)))
 
 pub read-lines-spec : {M : Type 1} → statement M
 read-lines-spec =

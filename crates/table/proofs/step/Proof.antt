@@ -1,41 +1,58 @@
+-- `table::step` meets its contract. Assumes nothing.
+use mathlib.Core.Path.{_≡_, sym, ap, subst, _∙_}
+use Rattle.state.specs.Bytes.{shelfIn}
+use Rattle.verdict.specs.declared.Verdict.the-variants.{Fine}
+use Rattle.told.specs.Enact.{Places}
+use Rattle.table.specs.Load.{progressBy, memoryAfter, verdictIn}
+use Rattle.table.specs.InPlace.{stateAfter}
 use borrow.Author.Needs.{needs}
 use Rattle.table.proofs.step.Statement.{statement}
 use Rattle.table.proofs.step.Tie as tie
-use Rattle.table.proofs.step.Reads as reads
-use Rattle.table.proofs.step.Lts as lts
-use Rattle.table.proofs.enact.Reads as enact-reads
 
--- src/lib.rt:86:23
 enum-known-reading : tie.Need-enum-known-reading
 enum-known-reading c = search needs
 
--- src/lib.rt:86:32
 enact-requires : tie.Need-enact-requires
-enact-requires c κs = ?
+enact-requires c κs =
+    let s = c .before .before .before .before .before .before .before in
+    let a = s .args in
+    (s .pre .0, subst (λ r. verdictIn (a .card) (a .room) (a .memory .now) (shelfIn (a .s .now)) (a .p) r ≡ Fine → Places (shelfIn (a .s .now)) r) (c .before .before .before .reading .given .1) (s .pre .1))
 
--- src/lib.rt:87:22
 enum-known-reading-2 : tie.Need-enum-known-reading-2
 enum-known-reading-2 c = search needs
 
--- src/lib.rt:89:20
 add-t14 : tie.Need-add-t14
 add-t14 c = search needs
 
--- src/lib.rt:71:1
 same-length : tie.Need-same-length
 same-length c = search needs
 
--- src/lib.rt:71:1
 same-length-2 : tie.Need-same-length-2
 same-length-2 c = search needs
 
--- src/lib.rt:71:1
 returns : tie.Need-returns
-returns c = ?
+returns c =
+    let a = c .before .before .before .before .before .before .before .before .before .before .before .before .args in
+    let e = sym (c .before .before .before .before .before .before .before .before .reading .given .1) in
+    let m = a .memory .now in
+    let h = shelfIn (a .s .now) in
+    let k = c .before .before .before .before .enact .ensures in (
+      k .0 ∙ ap (λ r. progressBy (verdictIn (a .card) (a .room) m h (a .p) r) (a .p) r) e,
+      (k .1 .0 ∙ ap (λ r. memoryAfter (a .card) m h (verdictIn (a .card) (a .room) m h (a .p) r) (a .p) r) e,
+      k .1 .1 ∙ ap (λ r. stateAfter (a .s .now) (verdictIn (a .card) (a .room) m h (a .p) r) (a .p) r) e),
+    )
 
--- src/lib.rt:71:1
 returns-2 : tie.Need-returns-2
-returns-2 c = ?
+unfolding progressBy
+returns-2 c =
+    let a = c .before .before .before .before .before .before .args in
+    let e = sym (c .before .before .reading2 .given .1) in
+    let m = a .memory .now in
+    let h = shelfIn (a .s .now) in (
+      ap (λ r. progressBy (verdictIn (a .card) (a .room) m h (a .p) r) (a .p) r) e,
+      (ap (λ r. memoryAfter (a .card) m h (verdictIn (a .card) (a .room) m h (a .p) r) (a .p) r) e,
+      ap (λ r. stateAfter (a .s .now) (verdictIn (a .card) (a .room) m h (a .p) r) (a .p) r) e),
+    )
 
 pub step-spec : {M : Type 1} → statement M
 step-spec =
