@@ -14,7 +14,7 @@ ghost use Rattle.state.specs.Placing.{freshBytes};
 ghost use Rattle.told.specs.Told.{memoryOf};
 ghost use Rattle.told.specs.Lines.{done};
 ghost use Rattle.told.specs.Enact.{Places};
-ghost use Rattle.table.specs.Load.{progressBy, memoryAfter, verdictIn, progressOf, toldIn, ranOf, load as loadingOf, loaded};
+ghost use Rattle.table.specs.Load.{progressBy, memoryAfter, verdictIn, progressOf, toldIn, ranOf, tooLittle, load as loadingOf, loaded};
 ghost use Rattle.table.specs.InPlace.{stateAfter, stateOf, stateLoaded};
 
 // The longest text that is read.
@@ -156,6 +156,15 @@ fn refused(memory: &mut [u8], s: &mut [u8], number: u8, line: u32) -> Outcome
     Outcome::Refused { number, line }
 }
 
+// Whether a declared unit lacks its part of the store or its row.
+fn too_little(s: &[u8], store: usize, rows: usize) -> bool
+    requires { ⌜ length (now s) ≡ 2048 ⌝ }
+    ensures { λ r. ⌜ r ≡ tooLittle (shelfIn (now (s .entry))) store rows ⌝ }
+{
+    let units = s[805] as usize;
+    (store < store::PART * units) | (rows < units)
+}
+
 // Loads a table; the answer, the memory that holds its records, and the state with its units.
 pub fn load(
     card: Card,
@@ -180,8 +189,7 @@ pub fn load(
     if !verdict::is_fine(verdict) {
         return refused(memory, s, verdict::number(verdict), p.lines);
     }
-    let units = s[805] as usize;
-    if (store < store::PART * units) | (rows < units) {
+    if too_little(s, store, rows) {
         return refused(memory, s, 7, 0);
     }
     Outcome::Loaded(p.used)

@@ -1,106 +1,128 @@
+-- `table::load` meets its contract. Assumes nothing.
+use mathlib.Core.Path.{sym, ap, ap₂, _∙_}
+use borrow.Author.Tests.{not-true, not-false}
+use Rattle.record.specs.Record.{usable, cleared}
+use Rattle.told.specs.Told.{memoryOf}
+use Rattle.table.specs.Load.{progressOf, toldIn, ranOf}
+use Rattle.table.specs.InPlace.{stateOf}
+use Rattle.table.specs.declared.Outcome.the-variants.{Refused}
+use Rattle.table.proofs.Cleared.{cleared-usable, cleared-twice, memory-cleared, after-long, after-stopped, after-little, after-done}
 use borrow.Author.Needs.{needs}
 use Rattle.table.proofs.load.Statement.{statement}
 use Rattle.table.proofs.load.Tie as tie
-use Rattle.table.proofs.load.Reads as reads
-use Rattle.table.proofs.load.Lts as lts
-use Rattle.record.proofs.clear.Reads as clear-reads
-use Rattle.state.proofs.fresh.Reads as fresh-reads
-use Rattle.table.proofs.read_lines.Reads as read-lines-reads
-use Rattle.table.proofs.refused.Reads as refused-reads
-use Rattle.verdict.proofs.is_fine.Reads as is-fine-reads
-use Rattle.verdict.proofs.number.Reads as number-reads
 
--- src/lib.rt:174:9
 refused-requires : tie.Need-refused-requires
 refused-requires c κs = search needs
 
--- src/lib.rt:174:9
 same-length : tie.Need-same-length
 same-length c = search needs
 
--- src/lib.rt:174:9
 same-length-2 : tie.Need-same-length-2
 same-length-2 c = search needs
 
--- src/lib.rt:174:9
 returns : tie.Need-returns
-returns c = ?
+returns c =
+    let a = c .before .before .before .before .before .before .before .before .before .before .before .args in
+    let e = c .before .before .before .before .refused .ensures in
+    let o = after-long (a .card) (a .text .now) (a .memory .now) (a .store) (a .rows) (c .before .before .before .before .before .before .before .if1 .taken) in
+    (e .0 ∙ o .0, (e .1 .0 ∙ o .1, e .1 .1 ∙ o .2))
 
--- src/lib.rt:176:5
 clear-requires : tie.Need-clear-requires
 clear-requires c κs = search needs
 
--- src/lib.rt:177:5
 fresh-requires : tie.Need-fresh-requires
 fresh-requires c κs = search needs
 
--- src/lib.rt:178:9
 read-lines-requires : tie.Need-read-lines-requires
-read-lines-requires c κs = ?
+read-lines-requires c κs =
+    let e = c .before .before .before .before .before .before .before .before .clear .ensures in
+    (c .before .before .before .before .before .before .before .before .before .before .if1 .left, e ∙ sym (cleared-twice _) ∙ ap cleared (sym e), c .before .before .before .before .fresh .ensures)
 
--- src/lib.rt:180:9
 is-fine-requires : tie.Need-is-fine-requires
 is-fine-requires c κs = search needs
 
--- src/lib.rt:181:35
 number-requires : tie.Need-number-requires
 number-requires c κs = search needs
 
--- src/lib.rt:181:9
 refused-requires-2 : tie.Need-refused-requires-2
 refused-requires-2 c κs = search needs
 
--- src/lib.rt:181:9
 same-length-3 : tie.Need-same-length-3
 same-length-3 c = search needs
 
--- src/lib.rt:181:9
 same-length-4 : tie.Need-same-length-4
 same-length-4 c = search needs
 
--- src/lib.rt:181:9
 returns-2 : tie.Need-returns-2
-returns-2 c = ?
+returns-2 c =
+    let a = c .before .before .before .before .before .before .before .before .before .before .before .before .before .before .before .before .before .before .before .before .before .before .before .before .before .before .before .before .before .args in
+    let m = a .memory .now in
+    let t = a .text .now in
+    let k = c .before .before .before .before .before .before .before .before .before .before .before .before .before .before .before .before .before .before .before .before .before .before .before .clear .ensures in
+    let l = c .before .before .before .before .before .before .before .before .before .before .before .before .before .before .read-lines in
+    let p = l .result in
+    let r = ap (λ x. ranOf (a .card) (usable x) t) k ∙ ap (λ n. ranOf (a .card) n t) (cleared-usable m) in
+    let come = l .ensures .0 ∙ ap progressOf r in
+    let holding = l .ensures .1 .0 ∙ ap₂ (λ x y. memoryOf (a .card) x (toldIn y)) k r ∙ memory-cleared (a .card) m (toldIn (ranOf (a .card) (usable m) t)) in
+    let standing = l .ensures .1 .1 ∙ ap (λ y. stateOf (toldIn y)) r in
+    let short = c .before .before .before .before .before .before .before .before .before .before .before .before .before .before .before .before .before .before .before .before .before .before .before .before .before .if1 .left in
+    let f = sym (c .before .before .before .before .before .before .before .before .before .is-fine .ensures) in
+    let o = after-stopped (a .card) t m (a .store) (a .rows) short p come _ _ holding standing (f ∙ not-true _ (c .before .before .before .before .before .before .before .before .if2 .taken)) in
+    let e = c .before .before .before .before .refused2 .ensures in
+    (e .0 ∙ ap (λ n. Refused n (p .lines)) (c .before .before .before .before .before .number .ensures) ∙ o .0, (e .1 .0 ∙ o .1, e .1 .1 ∙ o .2))
 
--- src/lib.rt:183:17
-slice-read-units : tie.Need-slice-read-units
-slice-read-units c = search needs
+too-little-requires : tie.Need-too-little-requires
+too-little-requires c κs = search needs
 
--- src/lib.rt:183:17
-cast-units : tie.Need-cast-units
-cast-units c = ?
-
--- src/lib.rt:184:17
-mul-if3 : tie.Need-mul-if3
-mul-if3 c = ?
-
--- src/lib.rt:185:9
 refused-requires-3 : tie.Need-refused-requires-3
 refused-requires-3 c κs = search needs
 
--- src/lib.rt:185:9
 same-length-5 : tie.Need-same-length-5
 same-length-5 c = search needs
 
--- src/lib.rt:185:9
 same-length-6 : tie.Need-same-length-6
 same-length-6 c = search needs
 
--- src/lib.rt:185:9
 returns-3 : tie.Need-returns-3
-returns-3 c = ?
+returns-3 c =
+    let a = c .before .before .before .before .before .before .before .before .before .before .before .before .before .before .before .before .before .before .before .before .before .before .before .before .before .before .before .before .before .before .before .args in
+    let m = a .memory .now in
+    let t = a .text .now in
+    let k = c .before .before .before .before .before .before .before .before .before .before .before .before .before .before .before .before .before .before .before .before .before .before .before .before .before .clear .ensures in
+    let l = c .before .before .before .before .before .before .before .before .before .before .before .before .before .before .before .before .read-lines in
+    let p = l .result in
+    let r = ap (λ x. ranOf (a .card) (usable x) t) k ∙ ap (λ n. ranOf (a .card) n t) (cleared-usable m) in
+    let come = l .ensures .0 ∙ ap progressOf r in
+    let holding = l .ensures .1 .0 ∙ ap₂ (λ x y. memoryOf (a .card) x (toldIn y)) k r ∙ memory-cleared (a .card) m (toldIn (ranOf (a .card) (usable m) t)) in
+    let standing = l .ensures .1 .1 ∙ ap (λ y. stateOf (toldIn y)) r in
+    let short = c .before .before .before .before .before .before .before .before .before .before .before .before .before .before .before .before .before .before .before .before .before .before .before .before .before .before .before .if1 .left in
+    let f = sym (c .before .before .before .before .before .before .before .before .before .before .before .is-fine .ensures) in
+    let o = after-little (a .card) t m (a .store) (a .rows) short p come _ _ holding standing (f ∙ not-false _ (c .before .before .before .before .before .before .before .before .before .before .if2 .left)) (sym (c .before .before .before .before .before .before .before .before .too-little .ensures) ∙ c .before .before .before .before .before .before .before .if3 .taken) in
+    let e = c .before .before .before .before .refused3 .ensures in
+    (e .0 ∙ o .0, (e .1 .0 ∙ o .1, e .1 .1 ∙ o .2))
 
--- src/lib.rt:160:1
 same-length-7 : tie.Need-same-length-7
 same-length-7 c = search needs
 
--- src/lib.rt:160:1
 same-length-8 : tie.Need-same-length-8
 same-length-8 c = search needs
 
--- src/lib.rt:160:1
 returns-4 : tie.Need-returns-4
-returns-4 c = ?
+returns-4 c =
+    let a = c .before .before .before .before .before .before .before .before .before .before .before .before .before .before .before .before .before .before .before .before .before .before .before .before .args in
+    let m = a .memory .now in
+    let t = a .text .now in
+    let k = c .before .before .before .before .before .before .before .before .before .before .before .before .before .before .before .before .before .before .clear .ensures in
+    let l = c .before .before .before .before .before .before .before .before .before .read-lines in
+    let p = l .result in
+    let r = ap (λ x. ranOf (a .card) (usable x) t) k ∙ ap (λ n. ranOf (a .card) n t) (cleared-usable m) in
+    let come = l .ensures .0 ∙ ap progressOf r in
+    let holding = l .ensures .1 .0 ∙ ap₂ (λ x y. memoryOf (a .card) x (toldIn y)) k r ∙ memory-cleared (a .card) m (toldIn (ranOf (a .card) (usable m) t)) in
+    let standing = l .ensures .1 .1 ∙ ap (λ y. stateOf (toldIn y)) r in
+    let short = c .before .before .before .before .before .before .before .before .before .before .before .before .before .before .before .before .before .before .before .before .if1 .left in
+    let f = sym (c .before .before .before .before .is-fine .ensures) in
+    let o = after-done (a .card) t m (a .store) (a .rows) short p come _ _ holding standing (f ∙ not-false _ (c .before .before .before .if2 .left)) (sym (c .before .too-little .ensures) ∙ c .if3 .left) in
+    (o .0, (o .1, o .2))
 
 pub load-spec : {M : Type 1} → statement M
 load-spec =
@@ -119,9 +141,7 @@ load-spec =
     same-length-3
     same-length-4
     returns-2
-    slice-read-units
-    cast-units
-    mul-if3
+    too-little-requires
     refused-requires-3
     same-length-5
     same-length-6
