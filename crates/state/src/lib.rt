@@ -10,10 +10,11 @@ use shelf::Settings;
 use shelf::Unit;
 ghost use mathlib.Core.Path.{_≡_};
 ghost use Prim.Native.Nat.{_+_, _*_, _<_};
-ghost use lib.ListN.{length};
+ghost use lib.ListN.{length, getD};
 ghost use Rattle.octets.specs.Octets.{part};
 ghost use Rattle.shelf.specs.Shelves.{declared, findIn};
 ghost use Rattle.state.specs.Bytes.{col, linkOf, modeOf, settingsBy, limitsBy, ringBy, outletBy, placeBy, unitIn, shelfIn, withRing, withTurn};
+ghost use Rattle.state.specs.Placing.{zeros, freshBytes, linkByte, modeByte, markByte, columnsOf, puts, declaredBy, joined};
 
 pub fn link_of(b: u8) -> Link
     ensures { λ r. ⌜ r ≡ linkOf b ⌝ }
@@ -196,4 +197,130 @@ pub fn put_turn(s: &mut [u8], arbiter: Arbiter, granted: u8, frame: u16)
     s[803] = granted;
     s[806] = (frame / 256) as u8;
     s[807] = (frame % 256) as u8;
+}
+
+// Zeroes every byte.
+fn clear(s: &mut [u8])
+    requires { ⌜ length (now s) ≡ 2048 ⌝ }
+    ensures { λ _. ⌜ now (s .exit) ≡ zeros ⌝ }
+{
+    let mut i: usize = 0;
+    while i < s.len() {
+        s[i] = 0;
+        i += 1;
+    }
+}
+
+// A bus without a unit, whatever the bytes were.
+pub fn fresh(s: &mut [u8], bus: u8)
+    requires { ⌜ length (now s) ≡ 2048 ⌝ }
+    ensures { λ _. ⌜ now (s .exit) ≡ freshBytes bus ⌝ }
+{
+    clear(s);
+    s[800] = arbiter::NOBODY;
+    s[801] = arbiter::NOBODY;
+    s[802] = arbiter::NOBODY;
+    s[803] = arbiter::NOBODY;
+    s[804] = bus;
+}
+
+fn link_byte(link: Link) -> u8
+    ensures { λ r. ⌜ r ≡ linkByte link ⌝ }
+{
+    match link {
+        Link::Uni => 0,
+        Link::Nni => 1,
+    }
+}
+
+fn mode_byte(mode: Mode) -> u8
+    ensures { λ r. ⌜ r ≡ modeByte mode ⌝ }
+{
+    match mode {
+        Mode::One => 0,
+        Mode::Four => 1,
+    }
+}
+
+fn mark_byte(mark: bool) -> u8
+    ensures { λ r. ⌜ r ≡ markByte mark ⌝ }
+{
+    if mark { 1 } else { 0 }
+}
+
+// The bytes of a unit with an empty inlet, one for each column.
+fn columns_of(settings: Settings, outlet: Outlet, place: u32) -> [u8; 24]
+    ensures { λ r. ⌜ r ≡ columnsOf settings outlet place ⌝ }
+{
+    let link = settings.link;
+    let top = settings.top;
+    let limits = outlet.limits;
+    let mode = limits.mode;
+    let high = place / 65536;
+    let low = place % 65536;
+    let queues = outlet.queues;
+    let q0 = queues[0];
+    let q1 = queues[1];
+    let q2 = queues[2];
+    let q3 = queues[3];
+    [
+        settings.number,
+        link_byte(link),
+        (top / 256) as u8,
+        (top % 256) as u8,
+        settings.priority,
+        mode_byte(mode),
+        limits.cbrlength,
+        limits.cbrlimit,
+        limits.vbrlimit,
+        mark_byte(limits.mark),
+        (high / 256) as u8,
+        (high % 256) as u8,
+        (low / 256) as u8,
+        (low % 256) as u8,
+        0,
+        0,
+        q0.head,
+        q1.head,
+        q2.head,
+        q3.head,
+        q0.count,
+        q1.count,
+        q2.count,
+        q3.count,
+    ]
+}
+
+fn put_columns(s: &mut [u8], i: usize, columns: [u8; 24])
+    requires { ⌜ (length (now s) ≡ 2048) × (i < 32) ⌝ }
+    ensures { λ _. ⌜ now (s .exit) ≡ puts (now (s .entry)) i 0 columns ⌝ }
+{
+    let mut c: usize = 0;
+    while c < 24 {
+        s[c * 32 + i] = columns[c];
+        c += 1;
+    }
+}
+
+// One unit more, at the next place.
+pub fn declare(s: &mut [u8], settings: Settings, outlet: Outlet, place: u32)
+    requires { ⌜ (length (now s) ≡ 2048) × (getD (now s) 805 0 < 32) ⌝ }
+    ensures { λ _. ⌜ now (s .exit) ≡ declaredBy (now (s .entry)) settings outlet place ⌝ }
+{
+    let count = s[805];
+    let i = count as usize;
+    put_columns(s, i, columns_of(settings, outlet, place));
+    let none = [0; 32];
+    octets::copy(&none, s, 1024 + 32 * i);
+    s[805] = count + 1;
+}
+
+// The unit in a place hears a session more.
+pub fn join(s: &mut [u8], i: usize, session: u8)
+    requires { ⌜ (length (now s) ≡ 2048) × (i < 32) ⌝ }
+    ensures { λ _. ⌜ now (s .exit) ≡ joined (now (s .entry)) i session ⌝ }
+{
+    let at = 1024 + 32 * i + (session / 8) as usize;
+    let bit = session % 8;
+    s[at] = s[at] | (1u8 << bit);
 }
