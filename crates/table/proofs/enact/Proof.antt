@@ -32,8 +32,10 @@ returns c =
     let e = c .before .before .judge .ensures in
     let f = sym (c .before .is-fine .ensures) ∙ not-true _ (c .if1 .taken) in (
       step-stopped (a .card) (a .memory .now) (a .s .now) h (a .p) (Good (a .line)) _ _ e f,
-      (memory-kept (a .card) (a .memory .now) (a .s .now) h (a .p) (Good (a .line)) _ _ e f,
-      state-kept (a .card) (a .memory .now) (a .s .now) h (a .p) (Good (a .line)) _ _ e f),
+      (
+        memory-kept (a .card) (a .memory .now) (a .s .now) h (a .p) (Good (a .line)) _ _ e f,
+        state-kept (a .card) (a .memory .now) (a .s .now) h (a .p) (Good (a .line)) _ _ e f,
+      ),
     )
 
 write-requires : tie.Need-write-requires
@@ -69,8 +71,10 @@ returns-2 c =
     let e = c .before .before .before .before .before .before .before .before .before .before .before .before .judge .ensures in
     let f = sym (c .before .before .before .before .before .before .before .before .before .before .before .is-fine .ensures) ∙ not-false _ (c .before .before .before .before .before .before .before .before .before .before .if1 .left) in (
       step-fine (a .card) (a .memory .now) (a .s .now) h (a .p) (Good (a .line)) _ _ e _ f (ap (λ n. a .p .used + size * n) (c .takes .ensures .0)),
-      (memory-enacted (a .card) (a .memory .now) (a .s .now) h (a .p) (Good (a .line)) _ _ e _ f (c .before .before .before .before .before .before .before .write .ensures),
-      state-enacted (a .card) (a .memory .now) (a .s .now) h (a .p) (Good (a .line)) _ _ e _ f (c .before .before .before .enter .ensures)),
+      (
+        memory-enacted (a .card) (a .memory .now) (a .s .now) h (a .p) (Good (a .line)) _ _ e _ f (c .before .before .before .before .before .before .before .write .ensures),
+        state-enacted (a .card) (a .memory .now) (a .s .now) h (a .p) (Good (a .line)) _ _ e _ f (c .before .before .before .enter .ensures),
+      ),
     )
 
 pub enact-spec : {M : Type 1} → statement M

@@ -112,8 +112,10 @@ returns-2 c =
     let s₃ = subst (λ n. s .last .1 .1 .1 .0 ≡ stateAfter (l .s) (verdictIn (a .card) n (l .memory) w (l .p) r) (l .p) r) room (s .ensures .1 .1) in
     let f = sym (ap isFine (ap (λ p. p .verdict) s₁)) ∙ sym (c .before .is-fine .ensures) ∙ not-true _ (c .if2 .taken) in (
       s₁ ∙ stop-progress (a .card) m t told (l .from) (l .p) (l .memory) (l .s) b e q h r k f,
-      (s₂ ∙ stop-memory (a .card) m t told (l .from) (l .p) (l .memory) (l .s) b e q h r k f,
-      s₃ ∙ stop-state (a .card) m t told (l .from) (l .p) (l .memory) (l .s) b e q h r k f),
+      (
+        s₂ ∙ stop-memory (a .card) m t told (l .from) (l .p) (l .memory) (l .s) b e q h r k f,
+        s₃ ∙ stop-state (a .card) m t told (l .from) (l .p) (l .memory) (l .s) b e q h r k f,
+      ),
     )
 
 add-from : tie.Need-add-from Inv-loop μ-loop

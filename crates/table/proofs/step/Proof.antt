@@ -38,8 +38,10 @@ returns c =
     let h = shelfIn (a .s .now) in
     let k = c .before .before .before .before .enact .ensures in (
       k .0 ∙ ap (λ r. progressBy (verdictIn (a .card) (a .room) m h (a .p) r) (a .p) r) e,
-      (k .1 .0 ∙ ap (λ r. memoryAfter (a .card) m h (verdictIn (a .card) (a .room) m h (a .p) r) (a .p) r) e,
-      k .1 .1 ∙ ap (λ r. stateAfter (a .s .now) (verdictIn (a .card) (a .room) m h (a .p) r) (a .p) r) e),
+      (
+        k .1 .0 ∙ ap (λ r. memoryAfter (a .card) m h (verdictIn (a .card) (a .room) m h (a .p) r) (a .p) r) e,
+        k .1 .1 ∙ ap (λ r. stateAfter (a .s .now) (verdictIn (a .card) (a .room) m h (a .p) r) (a .p) r) e,
+      ),
     )
 
 returns-2 : tie.Need-returns-2
@@ -50,8 +52,10 @@ returns-2 c =
     let m = a .memory .now in
     let h = shelfIn (a .s .now) in (
       ap (λ r. progressBy (verdictIn (a .card) (a .room) m h (a .p) r) (a .p) r) e,
-      (ap (λ r. memoryAfter (a .card) m h (verdictIn (a .card) (a .room) m h (a .p) r) (a .p) r) e,
-      ap (λ r. stateAfter (a .s .now) (verdictIn (a .card) (a .room) m h (a .p) r) (a .p) r) e),
+      (
+        ap (λ r. memoryAfter (a .card) m h (verdictIn (a .card) (a .room) m h (a .p) r) (a .p) r) e,
+        ap (λ r. stateAfter (a .s .now) (verdictIn (a .card) (a .room) m h (a .p) r) (a .p) r) e,
+      ),
     )
 
 pub step-spec : {M : Type 1} → statement M
