@@ -1,7 +1,7 @@
 -- `entry::hear` meets its contract: a walk of its MIR, by hand. It is four calls, and all that it knows of the callees is that each meets its contract. Assumes nothing.
-use Rattle.entry.proofs.Walking.{_≡_, refl, subst, none, ℕ, _≤_, List, [], _∷_, _++_, length, URA, named, mut, w8, w64, tyUnit, tyRef, Val, vunit, vint, vptr, SProp, ent, emp, id⊢, via, fst∗, Lft, Share, flft, Memory, Routine, Heap, Env, WpFn, Tables, Atoms, Fun, givenOf, tables, tablesOf, Given, Item, ‵, raw, runs, atRet, Sq, _$_, _∵_, !, qed, by, move, keep, drop, join, use1, fsplit, fjoin, feqL, suffices, frame, done, ⋆, look, init, stop, hop, fld, from, load, addr, of-opd, and-then, no-more, assigns, land, returns, enter, alloc1, alloc0, params1, pass1, pass0, agg, whole, sub, look-in, fmOf, WpFn-mono, owns, Is, uint-makes, uint-vals, uint-tells, u8, usize, sliceTy, finally, slice-vals, mut-slice-tells, shr-slice-tells, owned, nothing, ptr-vals, mut-tells, alive, onEntry, Meets, tripleOf, Contract, Triple, entered, cited, says, Stays, stay-dropped, gave-slice, gave-ref, walkOf, goes-dropped, goes-gave-slice, goes-gave-ref, Walks, ends-at, walked, walk-meets, yes, plain, shrSlice}
+use Rattle.entry.proofs.Walking.{_≡_, refl, subst, none, ℕ, _≤_, List, [], _∷_, _++_, length, URA, named, mut, w8, w64, tyUnit, tyRef, Val, vunit, vint, vptr, SProp, ent, emp, id⊢, via, fst∗, Lft, Share, flft, Memory, Routine, Heap, Env, WpFn, Tables, Atoms, toks, Fun, givenOf, tables, tablesOf, Given, Item, ‵, raw, runs, atRet, Sq, _$_, _∵_, !, qed, by, move, keep, drop, join, use1, fsplit, fjoin, feqL, suffices, frame, done, ⋆, look, init, stop, hop, fld, from, load, addr, of-opd, and-then, no-more, assigns, land, returns, enter, alloc1, alloc0, params1, pass1, pass0, agg, whole, sub, look-in, fmOf, WpFn-mono, owns, Is, uint-makes, uint-vals, uint-tells, u8, usize, sliceTy, finally, slice-vals, mut-slice-tells, shr-slice-tells, owned, nothing, ptr-vals, mut-tells, onEntry, Meets, tripleOf, Contract, Triple, entered, cited, says, Stays, stay-dropped, gave-slice, gave-ref, walkOf, goes-dropped, goes-gave-slice, goes-gave-ref, Walks, ends-at, walked, walk-meets, yes, plain, shrSlice}
 use Rattle.entry.proofs.Arguments.{Got, Lent, taken, val, byte, word, row, shared, lent, again, Arg, the-card, the-state, State, Whole, all-of, finally-state, bytes, the-unit, is-read, is-written, the-rows, kinds, args, valss, machine, tokens-of, lifetimes, shares, numbered, Cell, cells, passed, card-vals, card-tells, card-typed, byte-typed, done-typed, rises-typed, answer-typed}
-use Rattle.entry.proofs.Entering.{each, tokens, held, parted, packed, untied, tied, freed, told, unasked, places, answer-owned, Risen, Replied, Settle, risen, replied, settles}
+use Rattle.entry.proofs.Entering.{each, tokens, held, parted, packed, untied, tied, living, lived, freed, told, unasked, places, answer-owned, Risen, Replied, Settle, risen, replied, settles}
 use Rattle.counters.proofs.Calls.{Of, calls-of}
 use Rattle.counters.specs.declared.Counters.{Counters}
 use Rattle.answer.specs.declared.Outcome.{Outcome}
@@ -41,24 +41,24 @@ module _ {M : Type 1} (𝓤 : URA M) (H : Heap 𝓤) (A : Atoms 𝓤) (mem : Mem
   abbrev Core : Contract 𝓤
   Core = Of 𝓤 H A core.ended (core.clauses 𝓤 H A mem run)
 
-module _ {M : Type 1} (𝓤 : URA M) (H : Heap 𝓤) (A : Atoms 𝓤) (W : Given 𝓤 H A) (mem : Memory → SProp 𝓤) (run : Routine → Fun 𝓤) (κ₀ κ₁ κ₂ κ₃ : Lft) (q₀ q₁ q₂ q₃ : Share) (card : Got C.the-row) (state : Whole) (store : Lent u8) (rows : Lent T.the-row) (unit : Got u8) (heard : Lent u8) where
+module _ {M : Type 1} (𝓤 : URA M) (H : Heap 𝓤) (A : Atoms 𝓤) (W : Given 𝓤 H A) (mem : Memory → SProp 𝓤) (run : Routine → Fun 𝓤) (κ₀ κ₁ κ₂ κ₃ : Lft) (q₀ q₁ q₂ q₃ : Share) (card : Got C.the-row) (state : Whole) (store : Lent u8) (rows : Lent T.the-row) (unit : Got u8) (handed : Lent u8) where
   abbrev n : ℕ
   n = length (rows .at)
 
   -- what is done
   abbrev d : Outcome
-  d = hearOut (card .x) (state .at) (length (store .at)) n (unit .x) (heard .at)
+  d = hearOut (card .x) (state .at) (length (store .at)) n (unit .x) (handed .at)
 
   -- the bytes of the state afterwards
   abbrev state′ : List ℕ
-  state′ = hearState (card .x) (state .at) (length (store .at)) n (unit .x) (heard .at)
+  state′ = hearState (card .x) (state .at) (length (store .at)) n (unit .x) (handed .at)
 
   -- the bytes of the store afterwards
   abbrev store′ : List ℕ
-  store′ = hearStoreIn (card .x) (state .at) (store .at) n (unit .x) (heard .at)
+  store′ = hearStoreIn (card .x) (state .at) (store .at) n (unit .x) (handed .at)
 
   abbrev xs : List Arg
-  xs = the-card card ∷ the-state κ₀ q₀ state ∷ is-written κ₁ q₁ store ∷ the-rows κ₂ q₂ rows ∷ the-unit unit ∷ is-read κ₃ q₃ heard ∷ []
+  xs = the-card card ∷ the-state κ₀ q₀ state ∷ is-written κ₁ q₁ store ∷ the-rows κ₂ q₂ rows ∷ the-unit unit ∷ is-read κ₃ q₃ handed ∷ []
 
   abbrev ts : List (Lft × Share)
   ts = tokens-of xs
@@ -87,7 +87,7 @@ module _ {M : Type 1} (𝓤 : URA M) (H : Heap 𝓤) (A : Atoms 𝓤) (W : Given
       → ent 𝓤 (⋆ 𝓤 H A (Left zs₀ zs₁ zs₂)) (Post v)
   exits v ok zs₀ e₀ zs₁ e₁ m₁ zs₂ e₂ m₂ =
       qed W (Left zs₀ zs₁ zs₂) ∵ suffices ! _ (ends-at 𝓤 H A hear.ended stayed (hear.clauses 𝓤 H A mem run) W bound v (d .answer) (tt, (zs₀, (zs₁, (zs₂, (tt, (tt, tt)))))) (tt, (tt, (m₁, (m₂, (tt, (tt, tt))))))) $
-      says ! (refl, (e₀, (e₁, e₂))) $ tied ! ts $ use1 W (raw (alive 𝓤 H A hear.signature (lifetimes ts) (shares ts))) (id⊢ 𝓤 _) $ frame ! $
+      says ! (refl, (e₀, (e₁, e₂))) $ tied ! ts $ use1 W (raw (toks 𝓤 A (length ts) (lifetimes ts) (shares ts))) (living 𝓤 H A ts) $ frame ! $
       -- what is had of the parameters, the last first
       nothing ! $ nothing ! $ fjoin ! $ nothing ! $ fjoin ! $ move ! (1 ∷ 0 ∷ []) $ fjoin ! $ move ! (1 ∷ 0 ∷ []) $ fjoin ! $ move ! (1 ∷ 0 ∷ []) $ fjoin ! $ nothing ! $ fjoin ! $ answer-owned ! (d .answer) _ ok $ move ! (1 ∷ 0 ∷ []) $ done !
 
@@ -111,11 +111,11 @@ module _ {M : Type 1} (𝓤 : URA M) (H : Heap 𝓤) (A : Atoms 𝓤) (W : Given
           assigns ! (addr ! (from ! (fld ! refl (hop ! (look-in ! 26 (sub ! 0 refl (whole !))) (stop !))))) (from ! (stop !)) (init ! 10 refl (tt, tt)) $
           assigns ! (agg ! (and-then ! (load ! (from ! (stop !)) (look ! 10 refl)) (and-then ! (load ! (from ! (fld ! refl (stop !))) (look-in ! 26 (sub ! 1 refl (whole !)))) (no-more !)))) (from ! (stop !)) (init ! 8 refl (tt, (tt, (record { fits = store .room .0 }, tt)))) $
           -- what the parameters own, the last first; the tokens, the last first; the locals
-          untied ! ts $ move ! (4 ∷ []) $ parted ! (each (kinds 0 xs) (args 0 xs) (valss 0 xs)) $ owned ! usize (Is usize) (uint-makes 𝓤 H A W w64) n _ (refl, rows .room .0) $ move ! (1 ∷ 2 ∷ 0 ∷ 4 ∷ 5 ∷ 6 ∷ []) $ packed ! (each (kinds 0 xs′) (args 0 xs′) (valss 0 xs′)) $ move ! (2 ∷ 4 ∷ 5 ∷ 0 ∷ 3 ∷ 1 ∷ []) $ tied ! ts′ $ join ! $
+          untied ! ts $ move ! (4 ∷ []) $ parted ! (each (kinds 0 xs) (args 0 xs) (valss 0 xs)) $ owned ! usize (Is usize) (uint-makes 𝓤 H A W w64) n _ (refl, rows .room .0) $ move ! (1 ∷ 2 ∷ 0 ∷ 4 ∷ 5 ∷ 6 ∷ []) $ packed ! (each (kinds 0 xs′) (args 0 xs′) (valss 0 xs′)) $ move ! (2 ∷ 4 ∷ 5 ∷ 0 ∷ 3 ∷ 1 ∷ []) $ tied ! ts′ $ use1 W (raw (toks 𝓤 A (length ts′) (lifetimes ts′) (shares ts′))) (living 𝓤 H A ts′) $ join ! $
           -- the covered function: [what it asks; the rows' token; the rows; _15 @3 … _0 @33]
           calls-of ! (fmOf 𝓤 H (W .laws) 𝓣) core.ended (core.clauses 𝓤 H A mem run) known-core to-core (unasked 𝓤 _)
           (and-then ! (load ! (from ! (stop !)) (look ! 31 refl)) (and-then ! (load ! (from ! (stop !)) (look ! 13 refl)) (and-then ! (load ! (from ! (stop !)) (look ! 9 refl)) (and-then ! (load ! (from ! (stop !)) (look ! 19 refl)) (and-then ! (load ! (from ! (stop !)) (look ! 23 refl)) (and-then ! (load ! (from ! (stop !)) (look ! 21 refl)) (no-more !))))))) (λ dv r ws.
-          told ! ts′ D.the-row r dv ((r ≡ d) × ((ws .1 .0 ≡ state′) × (ws .1 .1 .0 ≡ store′))) ((r .rises .to ≤ 32) × (r .rises .to ≤ n)) (id⊢ 𝓤 _) (id⊢ 𝓤 _) (λ e fits r-ok.
+          told ! ts′ D.the-row r dv ((r ≡ d) × ((ws .1 .0 ≡ state′) × (ws .1 .1 .0 ≡ store′))) ((r .rises .to ≤ 32) × (r .rises .to ≤ n)) (lived 𝓤 H A ts′) (id⊢ 𝓤 _) (λ e fits r-ok.
           let d-ok : Is D.the-row d (dv ∷ []) = subst (λ (h : Outcome). Is D.the-row h (dv ∷ [])) (e .0) r-ok in
           -- [the tokens; the last values; the rows' token; the rows; _15 @6 … _0 @36]
           land ! (from ! (stop !)) (init ! 20 refl (done-typed W d _ d-ok)) $
@@ -137,7 +137,7 @@ module _ {M : Type 1} (𝓤 : URA M) (H : Heap 𝓤) (A : Atoms 𝓤) (W : Given
     walk =
         qed W (tokens ts ∷ ‵ (owns (kinds 0 xs) (args 0 xs) (valss 0 xs)) ∷ []) ∵ enter ! (𝓣 .C) (𝓣 .Λ) code.function (machine xs) _ $
         alloc1 ! (λ l₀. alloc1 ! (λ l₁. alloc1 ! (λ l₂. alloc1 ! (λ l₃. alloc1 ! (λ l₄. alloc1 ! (λ l₅. alloc1 ! (λ l₆. alloc1 ! (λ l₇. alloc1 ! (λ l₈. alloc1 ! (λ l₉. alloc1 ! (λ l₁₀. alloc1 ! (λ l₁₁. alloc1 ! (λ l₁₂. alloc1 ! (λ l₁₃. alloc1 ! (λ l₁₄. alloc1 ! (λ l₁₅. alloc0 ! $ params1 ! $
-        pass1 ! (init ! 28 refl (card-typed W (card .x) (card .v) (card .ok))) $ pass1 ! (init ! 26 refl (tt, tt)) $ pass1 ! (init ! 24 refl (tt, (tt, (record { fits = store .room .0 }, tt)))) $ pass1 ! (init ! 22 refl (tt, (tt, (record { fits = rows .room .0 }, tt)))) $ pass1 ! (init ! 20 refl (byte-typed W (unit .x) (unit .v) (unit .ok))) $ pass1 ! (init ! 18 refl (tt, (tt, (record { fits = heard .room .0 }, tt)))) $ pass0 ! $
+        pass1 ! (init ! 28 refl (card-typed W (card .x) (card .v) (card .ok))) $ pass1 ! (init ! 26 refl (tt, tt)) $ pass1 ! (init ! 24 refl (tt, (tt, (record { fits = store .room .0 }, tt)))) $ pass1 ! (init ! 22 refl (tt, (tt, (record { fits = rows .room .0 }, tt)))) $ pass1 ! (init ! 20 refl (byte-typed W (unit .x) (unit .v) (unit .ok))) $ pass1 ! (init ! 18 refl (tt, (tt, (record { fits = handed .room .0 }, tt)))) $ pass0 ! $
         move ! (32 ∷ 33 ∷ []) $ begins l₀ l₁ l₂ l₃ l₄ l₅ l₆ l₇ l₈ l₉ l₁₀ l₁₁ l₁₂ l₁₃ l₁₄ l₁₅))))))))))))))))
 
 module _ {M : Type 1} (𝓤 : URA M) (H : Heap 𝓤) (A : Atoms 𝓤) (W : Given 𝓤 H A) (mem : Memory → SProp 𝓤) (run : Routine → Fun 𝓤) (𝓣 : Tables 𝓤 H) (known-core : Triple 𝓤 (𝓣 .C #core) (Core 𝓤 H A mem run)) (known-rises : Triple 𝓤 (𝓣 .C #rises) (Risen 𝓤 H A mem run)) (known-settle : Triple 𝓤 (𝓣 .C #settle) (Settle 𝓤 H A mem run)) (known-reply : Triple 𝓤 (𝓣 .C #reply) (Replied 𝓤 H A mem run)) where
