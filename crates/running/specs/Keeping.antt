@@ -11,6 +11,7 @@ use Rattle.counters.specs.declared.Counters as C
 use Rattle.loading.specs.Loads.{loadDone, loadMemory}
 use Rattle.document.specs.Events.{Event, numberSaid}
 use Rattle.running.specs.Events.{World, happens}
+use Rattle.running.specs.Lent.{does, runIn, loadedIn}
 
 -- whether no event on this world is refused as State
 abbrev pub soundIn : Card → World → Bool
@@ -34,4 +35,5 @@ loaded card text memory store rows =
 -- from any load on, over every sequence of events, none is refused as State
 abbrev pub NeverState : Type 0
 NeverState =
-    (card : Card) (text memory store : List ℕ) (rows : List C.Counters) (es : List Event) (e : Event) → numberSaid (happens card (run card (loaded card text memory store rows) es) e .said) ≡ 8 → ⊥
+    (card : Card) (text memory store : List ℕ) (rows : List C.Counters) (es : List Event) (e : Event) →
+    numberSaid (does card (runIn card (loadedIn card text memory store rows) es) e .said) ≡ 8 → ⊥
