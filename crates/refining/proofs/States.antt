@@ -55,6 +55,7 @@ use Rattle.table.specs.Load.{tooLittle, ranOf}
 use Rattle.table.specs.InPlace.{stateOf, stateRan, stateLoaded}
 use Rattle.loading.specs.InPlace.{loadState}
 use Rattle.loading.proofs.InPlace.{load-formed, load-long}
+use Rattle.promise.specs.Readings.{linesOf}
 use Rattle.promise.specs.Refusals.{Accepts}
 use Rattle.promise.proofs.Runs.{done-iff-good, ran-lines}
 use Rattle.promise.proofs.Refusals.{all-fine, accepts-units}
