@@ -38,7 +38,6 @@ use Rattle.running.proofs.Tables.{table-refused, refused-is}
 use Rattle.running.proofs.Kept.{soundness-kept}
 use Rattle.running.proofs.InPlace.{same, formed-after, long-after, loaded-seen, runs-in-place}
 use Rattle.soundness.specs.Soundings.{formedAll}
-use Rattle.state.specs.Bytes.{shelfIn}
 use Rattle.refining.specs.Refines.{gives, Refines, CountersAreHistory}
 use Rattle.refining.specs.Cards.{Equal, TooWide, SameCard}
 use Rattle.refining.proofs.Alike.{WorldAlike}

@@ -1,11 +1,11 @@
 -- Two cards on equal bytes that say and give back the same leave equal bytes. Assumes nothing.
-use Prim.Native.Nat.{ℕ, zero, suc, _+_, _*_, _%_, _^_, _<_}
+use Prim.Native.Nat.{ℕ, zero, suc, _+_, _*_, _%_, _^_}
 use mathlib.Core.Path.{_≡_, refl, sym, ap, subst, _∙_}
 use mathlib.Core.Bool.{Bool, true, false, cond, _&&_}
 use mathlib.Core.List.{List, [], _∷_}
 use native.Mathlib.Omega.{arith}
 use lib.Dec.{eqb}
-use lib.ListN.{length, getD, take, drop}
+use lib.ListN.{length, getD, take}
 use borrow.Author.Tests.{le-ltb}
 use Rattle.octets.specs.Octets.{four}
 use Rattle.card.specs.declared.Card.{Card}
@@ -31,7 +31,7 @@ use Rattle.soundness.specs.State.{soundOf}
 use Rattle.soundness.specs.Soundings.{formedAll, soundIn}
 use Rattle.counters.specs.declared.Counters as C
 use Rattle.answer.specs.Answers.{refusedWith, refused}
-use Rattle.answer.specs.Done.{Done, outcomeOf}
+use Rattle.answer.specs.Done.{outcomeOf}
 use Rattle.answer.specs.declared.Answer as N
 use Rattle.answer.specs.declared.Answer.the-variants.{Arrived}
 use Rattle.answer.specs.declared.Arrival as A
@@ -46,7 +46,6 @@ use Rattle.arriving.specs.declared.Way.{Way}
 use Rattle.arriving.specs.declared.Way.the-variants.{Bus, Lost}
 use Rattle.hearing.specs.Hearings.{planOf}
 use Rattle.hearing.specs.InPlace as hearing·
-use Rattle.taking.specs.InPlace as taking·
 use Rattle.framing.specs.Sending.{sentFrame}
 use Rattle.framing.specs.Frames as framing
 use Rattle.framing.specs.Scenes.{Scene, turns, heededBy}
@@ -59,8 +58,7 @@ use Rattle.promise.specs.Readings.{linesOf}
 use Rattle.promise.specs.Refusals.{Accepts}
 use Rattle.promise.proofs.Runs.{done-iff-good, ran-lines}
 use Rattle.promise.proofs.Refusals.{all-fine, accepts-units}
-use Rattle.document.specs.Events.{Event, arrive, frame, hear, take-cell, count, answers, Said, Back}
-use Rattle.running.specs.Events.{World}
+use Rattle.document.specs.Events.{Event, arrive, frame, hear, take-cell, count, answers, Back}
 use Rattle.running.specs.Keeping as keeping
 use Rattle.running.specs.Lent.{Lent, Long, does, runIn, loadedIn, seen}
 use Rattle.running.proofs.Kept.{soundness-kept, loads-sound}

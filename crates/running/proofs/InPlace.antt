@@ -1,8 +1,8 @@
 -- An event in lent bytes is the event on the shelf that they are. Assumes nothing.
-use Prim.Native.Nat.{ℕ, _%_, _<_, _≤_}
+use Prim.Native.Nat.{ℕ, _≤_}
 use native.Mathlib.Omega.{arith}
-use mathlib.Core.Path.{_≡_, refl, sym, ap, subst, _∙_}
-use mathlib.Core.Logic.{_⊎_, inl, inr, ⊎-elim}
+use mathlib.Core.Path.{_≡_, refl, sym, ap, _∙_}
+use mathlib.Core.Logic.{inl, inr}
 use mathlib.Core.Bool.{Bool, true, false, cond, _&&_, false≢true}
 use mathlib.Core.List.{List, [], _∷_}
 use lib.Dec.{eqb}
@@ -11,7 +11,6 @@ use Rattle.card.specs.declared.Card.{Card}
 use Rattle.shelf.specs.Shelves.{declared, findIn, isAt}
 use Rattle.shelf.specs.declared.Found as F
 use Rattle.shelf.specs.declared.Found.the-variants as found
-use Rattle.state.specs.Bytes.{shelfIn}
 use Rattle.soundness.specs.State.{soundOf}
 use Rattle.soundness.specs.Soundings.{formedAll, soundIn}
 use Rattle.counters.specs.Counting.{settled, settledTo}
@@ -39,12 +38,12 @@ use Rattle.loading.proofs.InPlace.{load-decodes, load-formed, load-long, load-f
 use Rattle.entry.specs.Counts.{countOf, counted}
 use Rattle.paper.specs.State.{Formed}
 use Rattle.paper.proofs.State.{formed-iff}
-use Rattle.document.specs.Events.{Event, arrive, frame, hear, take-cell, count, bytesOf, answers, numberSaid}
-use Rattle.running.specs.Events.{World, Outcome, countSaid, happens}
+use Rattle.document.specs.Events.{Event, arrive, frame, hear, take-cell, count, bytesOf, answers}
+use Rattle.running.specs.Events.{World, countSaid, happens}
 use Rattle.running.specs.Keeping.{run, loaded}
 use Rattle.running.specs.Refusing.{known, fits, refusal}
-use Rattle.running.specs.Lent.{Lent, Long, Came, does, runIn, loadedIn, seen, shown}
-use Rattle.running.specs.InPlace.{Untouched, Tied, InPlace, RunsTied, RunsInPlace}
+use Rattle.running.specs.Lent.{Lent, Long, does, runIn, loadedIn, seen, shown}
+use Rattle.running.specs.InPlace.{Untouched, Tied, InPlace, RunsInPlace}
 use Rattle.running.proofs.Refused.{refusal-changes-nothing}
 
 module _ (card : Card) (l : Lent) where

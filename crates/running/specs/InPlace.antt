@@ -3,7 +3,7 @@ use Prim.Native.Nat.{ℕ, _%_, _<_, _≤_}
 use mathlib.Core.Path.{_≡_}
 use mathlib.Core.Logic.{_⊎_}
 use mathlib.Core.List.{List}
-use lib.ListN.{length, getD}
+use lib.ListN.{getD}
 use Rattle.card.specs.declared.Card.{Card}
 use Rattle.counters.specs.declared.Counters as C
 use Rattle.answer.specs.declared.Answer.the-variants as answer
