@@ -138,7 +138,7 @@ fn a_wrong_refusal_is_found_and_shortened() {
 fn a_fault_of_long_runs_is_found_and_shortened() {
     // Wraps the frame number one too early.
     let line = |line: &[u8]| match line {
-        b"state\tframe\t0\t65535" => b"state\tframe\t0\t0".to_vec(),
+        b"poke\tstate\t806\tFFFF" => b"poke\tstate\t806\t0000".to_vec(),
         _ => line.to_vec(),
     };
     let faulty = Faulty { line, answer: |answer, _| answer };
