@@ -82,7 +82,7 @@ fn tops_links_and_priorities() {
     assert!(!is_sound_on("narrow", &["link 0 1"]));
     assert!(is_sound_on("narrow", &["bus 0 32", "number 0 31"]));
     assert!(is_sound_on("narrow", &["link 2 1"]));
-    assert_sides(&[], &["mark 0 1", "place 0 4294967295", "sessions 3 18446744073709551615", "frame 0 65535"], &[]);
+    assert_sides(&[], &["mark 0 1", "place 0 4294967295", "byte 1055 255", "frame 0 65535"], &[]);
 }
 
 #[test]

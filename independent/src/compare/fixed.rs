@@ -250,8 +250,9 @@ fn units_shown(script: &mut Script) {
 fn pokes(script: &mut Script) {
     stage(script, LISTING);
     for (part, length) in [("memory", 16_384), ("store", 32_768), ("state", STATE_BYTES)] {
+        let end = length - 1;
         for (at, bytes) in
-            [(length - 1, "5A"), (length - 1, "5a5A"), (length, "00"), (length, ""), (0, ""), (5, "aBcD")]
+            [(end, "5A"), (end, "5a5A"), (length, "00"), (length, ""), (length + 1, ""), (0, ""), (5, "aBcD")]
         {
             script.say(&format!("poke {part} {at} {bytes}"));
         }
