@@ -1,4 +1,5 @@
 // The state of a shelf as 2,048 lent bytes (docs/STATE.md): each part of a unit read by value, a ring put back, a unit found.
+use arbiter::Arbiter;
 use header::Link;
 use outlet::Limits;
 use outlet::Mode;
@@ -12,7 +13,7 @@ ghost use Prim.Native.Nat.{_+_, _*_, _<_};
 ghost use lib.ListN.{length, getD};
 ghost use Rattle.octets.specs.Octets.{part};
 ghost use Rattle.shelf.specs.Shelves.{declared, findIn};
-ghost use Rattle.state.specs.Bytes.{col, linkOf, modeOf, settingsBy, limitsBy, ringBy, outletBy, placeBy, unitIn, shelfIn, withRing};
+ghost use Rattle.state.specs.Bytes.{col, linkOf, modeOf, settingsBy, limitsBy, ringBy, outletBy, placeBy, unitIn, shelfIn, withRing, withTurn};
 ghost use Rattle.state.specs.Placing.{zeros, freshBytes, linkByte, modeByte, markByte, columnsOf, puts, declaredBy, joined};
 
 pub fn link_of(b: u8) -> Link
@@ -53,7 +54,7 @@ pub fn settings_at(s: &[u8], i: usize) -> Settings
     }
 }
 
-fn limits_at(s: &[u8], i: usize) -> Limits
+pub fn limits_at(s: &[u8], i: usize) -> Limits
     requires { ⌜ (length (now s) ≡ 2048) × (i < 32) ⌝ }
     ensures { λ r. ⌜ r ≡ limitsBy (col (now (s .entry)) i) ⌝ }
 {
@@ -66,7 +67,7 @@ fn limits_at(s: &[u8], i: usize) -> Limits
     }
 }
 
-fn ring_at(s: &[u8], h: usize, c: usize, i: usize) -> Ring
+pub fn ring_at(s: &[u8], h: usize, c: usize, i: usize) -> Ring
     requires { ⌜ (length (now s) ≡ 2048) × (h < 32) × (c < 32) × (i < 32) ⌝ }
     ensures { λ r. ⌜ r ≡ ringBy (col (now (s .entry)) i) h c ⌝ }
 {
@@ -90,7 +91,7 @@ pub fn outlet_at(s: &[u8], i: usize) -> Outlet
     Outlet { limits, queues }
 }
 
-fn place_at(s: &[u8], i: usize) -> u32
+pub fn place_at(s: &[u8], i: usize) -> u32
     requires { ⌜ (length (now s) ≡ 2048) × (i < 32) ⌝ }
     ensures { λ r. ⌜ r ≡ placeBy (col (now (s .entry)) i) ⌝ }
 {
@@ -150,6 +151,52 @@ pub fn find(s: &[u8], number: u8) -> Found
         i += 1;
     }
     Found::Nothing
+}
+
+// What each unit number asks at.
+pub fn asks_at(s: &[u8]) -> [u8; 32]
+    requires { ⌜ length (now s) ≡ 2048 ⌝ }
+    ensures { λ r. ⌜ r ≡ part (now (s .entry)) 768 32 ⌝ }
+{
+    let from: usize = 768;
+    let end: usize = 800;
+    let mut asks = [0; 32];
+    octets::copy(&s[from..end], &mut asks, 0);
+    asks
+}
+
+// The arbiter.
+pub fn arbiter_at(s: &[u8]) -> Arbiter
+    requires { ⌜ length (now s) ≡ 2048 ⌝ }
+    ensures { λ r. ⌜ r ≡ shelfIn (now (s .entry)) .arbiter ⌝ }
+{
+    let asks = asks_at(s);
+    let last = [s[800], s[801], s[802]];
+    Arbiter { last, asks }
+}
+
+// The number of the next frame.
+pub fn frame_at(s: &[u8]) -> u16
+    requires { ⌜ length (now s) ≡ 2048 ⌝ }
+    ensures { λ r. ⌜ r ≡ shelfIn (now (s .entry)) .frame ⌝ }
+{
+    two_of(s[806], s[807])
+}
+
+// What a frame leaves is written: the arbiter, the open grant, the next frame's number.
+pub fn put_turn(s: &mut [u8], arbiter: Arbiter, granted: u8, frame: u16)
+    requires { ⌜ length (now s) ≡ 2048 ⌝ }
+    ensures { λ _. ⌜ now (s .exit) ≡ withTurn (now (s .entry)) arbiter granted frame ⌝ }
+{
+    let asks = arbiter.asks;
+    let last = arbiter.last;
+    octets::copy(&asks, s, 768);
+    s[800] = last[0];
+    s[801] = last[1];
+    s[802] = last[2];
+    s[803] = granted;
+    s[806] = (frame / 256) as u8;
+    s[807] = (frame % 256) as u8;
 }
 
 // Zeroes every byte.

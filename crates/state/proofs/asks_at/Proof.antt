@@ -1,37 +1,28 @@
--- `sounding::asks_at` meets its contract. Assumes nothing.
+-- `state::asks_at` meets its contract. Assumes nothing.
 use mathlib.Core.Path.{_≡_, _∙_}
 use native.Mathlib.Omega.{arith}
 use lib.ListN.{length, length-take, length-drop}
 use Rattle.octets.specs.Octets.{part}
 use Rattle.state.proofs.Laws.{filled}
 use borrow.Author.Needs.{needs}
-use Rattle.soundness.proofs.asks_at.Statement.{statement}
-use Rattle.soundness.proofs.asks_at.Tie as tie
-use Rattle.soundness.proofs.asks_at.Reads as reads
-use Rattle.soundness.proofs.asks_at.Lts as lts
-use Rattle.octets.proofs.copy.Reads as copy-reads
+use Rattle.state.proofs.asks_at.Statement.{statement}
+use Rattle.state.proofs.asks_at.Tie as tie
 
--- src/lib.rt:15:18
 sub-copy : tie.Need-sub-copy
 sub-copy c = search needs
 
--- src/lib.rt:15:18
 part-copy-start : tie.Need-part-copy-start
 part-copy-start c = search needs
 
--- src/lib.rt:15:18
 part-copy-end : tie.Need-part-copy-end
 part-copy-end c = search needs
 
--- src/lib.rt:15:33
 slice-aggregate-copy : tie.Need-slice-aggregate-copy
 slice-aggregate-copy c = search needs
 
--- src/lib.rt:15:5
 copy-requires : tie.Need-copy-requires
 copy-requires c κs = search needs
 
--- src/lib.rt:8:1
 returns : tie.Need-returns
 returns c =
     let a = c .before .before .before .before .before .args in
