@@ -65,7 +65,7 @@ fn limits_at(s: &[u8], i: usize) -> Limits
     }
 }
 
-fn ring_at(s: &[u8], h: usize, c: usize, i: usize) -> Ring
+pub fn ring_at(s: &[u8], h: usize, c: usize, i: usize) -> Ring
     requires { ⌜ (length (now s) ≡ 2048) × (h < 32) × (c < 32) × (i < 32) ⌝ }
     ensures { λ r. ⌜ r ≡ ringBy (col (now (s .entry)) i) h c ⌝ }
 {
@@ -89,7 +89,7 @@ pub fn outlet_at(s: &[u8], i: usize) -> Outlet
     Outlet { limits, queues }
 }
 
-fn place_at(s: &[u8], i: usize) -> u32
+pub fn place_at(s: &[u8], i: usize) -> u32
     requires { ⌜ (length (now s) ≡ 2048) × (i < 32) ⌝ }
     ensures { λ r. ⌜ r ≡ placeBy (col (now (s .entry)) i) ⌝ }
 {
