@@ -26,8 +26,11 @@ modeText byte = cond (eqb byte 0) (tMode ++ tOne) (cond (eqb byte 1) (tMode ++ t
 abbrev pub settingsText : (ℕ → ℕ) → List ℕ
 settingsText f = ((column tShowUnit (f 0) ++ linkText (f 1)) ++ column tTop (f 2 * 256 + f 3)) ++ column tPriority (f 4)
 
+abbrev pub cbrText : (ℕ → ℕ) → List ℕ
+cbrText f = column tCbrlength (f 6) ++ column tCbrlimit (f 7)
+
 abbrev pub limitsText : (ℕ → ℕ) → List ℕ
-limitsText f = (((modeText (f 5) ++ column tCbrlength (f 6)) ++ column tCbrlimit (f 7)) ++ column tVbrlimit (f 8)) ++ column tMark (f 9)
+limitsText f = ((modeText (f 5) ++ cbrText f) ++ column tVbrlimit (f 8)) ++ column tMark (f 9)
 
 abbrev pub inletText : (ℕ → ℕ) → List ℕ
 inletText f = (column tPlace (placeBy f) ++ column tInlethead (f 14)) ++ column tInletcount (f 15)

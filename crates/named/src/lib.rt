@@ -1,13 +1,13 @@
 // One unit for a person, its fields by name: `show unit` (docs/CONSOLE.md). Each function writes from a place on and says where it ends.
 use shelf::Found;
 ghost use mathlib.Core.Path.{_≡_};
-ghost use Prim.Native.Nat.{_+_, _≤_, _<_};
+ghost use Prim.Native.Nat.{_+_, _*_, _≤_, _<_};
 ghost use mathlib.Core.List.{_++_};
 ghost use lib.ListN.{length};
 ghost use Rattle.hex.specs.Writing.{Wrote};
 ghost use Rattle.words.specs.Decimals.{numberField};
 ghost use Rattle.state.specs.Bytes.{col, placeBy};
-ghost use Rattle.named.specs.Named.{linkText, modeText, settingsText, limitsText, inletText, fourText, sessionText, sessionsText, frontText, ringsText, placeText, unitText};
+ghost use Rattle.named.specs.Named.{linkText, modeText, settingsText, cbrText, limitsText, inletText, fourText, sessionText, sessionsText, frontText, ringsText, placeText, unitText};
 
 // A name and the byte of a column.
 fn put_column(out: &mut [u8], at: usize, name: &[u8], s: &[u8], column: usize, i: usize) -> usize
@@ -64,13 +64,20 @@ fn put_settings(out: &mut [u8], at: usize, s: &[u8], i: usize) -> usize
     put_column(out, topped, b"\tpriority", s, 4, i)
 }
 
+fn put_cbr(out: &mut [u8], at: usize, s: &[u8], i: usize) -> usize
+    requires { ⌜ (length (now s) ≡ 2048) × (i < 32) × (at + 70 ≤ length (now out)) ⌝ }
+    ensures { λ r. ⌜ Wrote (now (out .entry)) at (cbrText (col (now (s .entry)) i)) r (now (out .exit)) × (r ≤ at + 70) ⌝ }
+{
+    let long = put_column(out, at, b"\tcbrlength", s, 6, i);
+    put_column(out, long, b"\tcbrlimit", s, 7, i)
+}
+
 fn put_limits(out: &mut [u8], at: usize, s: &[u8], i: usize) -> usize
     requires { ⌜ (length (now s) ≡ 2048) × (i < 32) × (at + 160 ≤ length (now out)) ⌝ }
     ensures { λ r. ⌜ Wrote (now (out .entry)) at (limitsText (col (now (s .entry)) i)) r (now (out .exit)) × (r ≤ at + 160) ⌝ }
 {
     let moded = put_mode(out, at, state::at(s, 5, i));
-    let long = put_column(out, moded, b"\tcbrlength", s, 6, i);
-    let limited = put_column(out, long, b"\tcbrlimit", s, 7, i);
+    let limited = put_cbr(out, moded, s, i);
     let full = put_column(out, limited, b"\tvbrlimit", s, 8, i);
     put_column(out, full, b"\tmark", s, 9, i)
 }
