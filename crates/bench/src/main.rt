@@ -4,14 +4,7 @@ use card::Card;
 use counters::Counters;
 use entry::Counted;
 use event::Event;
-use shelf::Shelf;
 use written::Outcome;
-
-// A shelf and its counter rows.
-struct World {
-    shelf: Shelf,
-    rows: [Counters; 40],
-}
 
 // How much of the line that is being read is held, and whether it is too long to be an event.
 struct Held {
@@ -21,16 +14,13 @@ struct Held {
 
 // What the input so far came to, and whether it goes on.
 struct Fed {
-    world: World,
+    rows: [Counters; 40],
     held: Held,
     more: bool,
 }
 
-fn kept(after: owned::After) -> World {
-    let reply = after.reply;
-    let shelf = reply.shelf;
-    let rows = after.rows;
-    World { shelf, rows }
+fn kept(after: owned::After) -> [Counters; 40] {
+    after.rows
 }
 
 // Prints the line of an event.
@@ -43,8 +33,7 @@ fn say(event: Event, outcome: Outcome, cell: &[u8]) {
 }
 
 fn said(after: owned::After) -> Outcome {
-    let reply = after.reply;
-    let answer = reply.answer;
+    let answer = after.answer;
     Outcome::Answered(answer)
 }
 
@@ -56,59 +45,84 @@ fn cell_of(header: u32, check: u8, byte: u8) -> [u8; 53] {
     cell
 }
 
-fn arrive(w: World, memory: &[u8], store: &mut [u8], event: Event, unit: u8, cell: &[u8]) -> World {
-    let shelf = w.shelf;
-    let rows = w.rows;
-    let after = owned::arrive(Card::Wide, shelf, memory, store, rows, unit, cell);
+fn arrive(
+    rows: [Counters; 40],
+    state: &mut [u8; 2048],
+    memory: &[u8],
+    store: &mut [u8],
+    event: Event,
+    unit: u8,
+    cell: &[u8],
+) -> [Counters; 40] {
+    let after = owned::arrive(Card::Wide, state, memory, store, rows, 40, unit, cell);
     say(event, said(after), cell);
     kept(after)
 }
 
-fn frame(w: World, store: &mut [u8], event: Event) -> World {
-    let shelf = w.shelf;
-    let rows = w.rows;
+fn frame(
+    rows: [Counters; 40],
+    state: &mut [u8; 2048],
+    store: &mut [u8],
+    event: Event,
+) -> [Counters; 40] {
     let mut buffer = [0u8; 57];
-    let after = owned::frame(Card::Wide, shelf, store, rows, &mut buffer);
+    let after = owned::frame(Card::Wide, state, store, rows, 40, &mut buffer);
     say(event, said(after), b"");
     kept(after)
 }
 
-fn take(w: World, store: &[u8], event: Event, unit: u8) -> World {
-    let shelf = w.shelf;
-    let rows = w.rows;
+fn take(
+    rows: [Counters; 40],
+    state: &mut [u8; 2048],
+    store: &[u8],
+    event: Event,
+    unit: u8,
+) -> [Counters; 40] {
     let mut buffer = [0u8; 53];
-    let after = owned::take(Card::Wide, shelf, store, rows, unit, &mut buffer);
+    let after = owned::take(Card::Wide, state, store, rows, 40, unit, &mut buffer);
     say(event, said(after), &buffer);
     kept(after)
 }
 
-fn count(w: World, store: &[u8], event: Event, unit: u8) {
-    let shelf = w.shelf;
-    let rows = w.rows;
-    match owned::count(Card::Wide, shelf, store, rows, unit) {
+fn count(rows: [Counters; 40], state: &[u8; 2048], store: &[u8], event: Event, unit: u8) {
+    match owned::count(Card::Wide, state, store, rows, 40, unit) {
         Counted::Counters(c) => say(event, Outcome::Counted(c), b""),
         Counted::Refused(number) => say(event, Outcome::Answered(Answer::Refused(number)), b""),
     }
 }
 
 // One event.
-fn happen(w: World, memory: &[u8], store: &mut [u8], event: Event) -> World {
+fn happen(
+    rows: [Counters; 40],
+    state: &mut [u8; 2048],
+    memory: &[u8],
+    store: &mut [u8],
+    event: Event,
+) -> [Counters; 40] {
     match event {
         Event::Arrive {
             unit,
             header,
             check,
             byte,
-        } => arrive(w, memory, store, event, unit, &cell_of(header, check, byte)),
-        Event::Frame => frame(w, store, event),
-        Event::Take(unit) => take(w, store, event, unit),
+        } => arrive(
+            rows,
+            state,
+            memory,
+            store,
+            event,
+            unit,
+            &cell_of(header, check, byte),
+        ),
+        Event::Frame => frame(rows, state, store, event),
+        Event::Take(unit) => take(rows, state, store, event, unit),
         Event::Count(unit) => {
-            count(w, store, event, unit);
-            w
+            count(rows, state, store, event, unit);
+            rows
         }
         Event::Bad => {
             say(event, Outcome::Nothing, b"");
-            w
+            rows
         }
     }
 }
@@ -145,14 +159,14 @@ fn event_in(line: &[u8], held: Held) -> Event {
 
 // All lines that a part of the input ends, and the beginning of the next.
 fn feed(
-    w: World,
+    mut rows: [Counters; 40],
+    state: &mut [u8; 2048],
     memory: &[u8],
     store: &mut [u8],
     line: &mut [u8],
     held: Held,
     part: &[u8],
 ) -> Fed {
-    let mut world = w;
     let mut so_far = held;
     let mut from: usize = 0;
     while from < part.len() {
@@ -160,7 +174,7 @@ fn feed(
         so_far = keep(line, so_far, &part[from..end]);
         if end < part.len() {
             from = end + 1;
-            world = happen(world, memory, store, event_in(line, so_far));
+            rows = happen(rows, state, memory, store, event_in(line, so_far));
             so_far = Held {
                 length: 0,
                 long: false,
@@ -170,33 +184,45 @@ fn feed(
         }
     }
     Fed {
-        world,
+        rows,
         held: so_far,
         more: true,
     }
 }
 
 // Reads once, and does what came.
-fn feed_some(fed: Fed, memory: &[u8], store: &mut [u8], line: &mut [u8]) -> Fed {
-    let w = fed.world;
+fn feed_some(
+    fed: Fed,
+    state: &mut [u8; 2048],
+    memory: &[u8],
+    store: &mut [u8],
+    line: &mut [u8],
+) -> Fed {
+    let rows = fed.rows;
     let held = fed.held;
     let mut part = io::large_buffer();
     let got = libc::read(0, &mut part);
     if got <= 0 {
         return Fed {
-            world: w,
+            rows,
             held,
             more: false,
         };
     }
     let n = io::count(got, &part);
-    feed(w, memory, store, line, held, &part[..n])
+    feed(rows, state, memory, store, line, held, &part[..n])
 }
 
 // Reads to the end of the input. A proved loop has to end, so it counts its turns down from a number that no run uses up.
-fn feed_all(w: World, memory: &[u8], store: &mut [u8], line: &mut [u8]) -> Fed {
+fn feed_all(
+    rows: [Counters; 40],
+    state: &mut [u8; 2048],
+    memory: &[u8],
+    store: &mut [u8],
+    line: &mut [u8],
+) -> Fed {
     let mut fed = Fed {
-        world: w,
+        rows,
         held: Held {
             length: 0,
             long: false,
@@ -205,7 +231,7 @@ fn feed_all(w: World, memory: &[u8], store: &mut [u8], line: &mut [u8]) -> Fed {
     };
     let mut turns = u64::MAX;
     while 0 < turns {
-        fed = feed_some(fed, memory, store, line);
+        fed = feed_some(fed, state, memory, store, line);
         if !fed.more {
             return fed;
         }
@@ -215,18 +241,18 @@ fn feed_all(w: World, memory: &[u8], store: &mut [u8], line: &mut [u8]) -> Fed {
 }
 
 // All events; a last line without its newline is read too.
-fn run(w: World, memory: &[u8], store: &mut [u8]) {
+fn run(rows: [Counters; 40], state: &mut [u8; 2048], memory: &[u8], store: &mut [u8]) {
     let mut line = io::large_buffer();
-    let fed = feed_all(w, memory, store, &mut line);
+    let fed = feed_all(rows, state, memory, store, &mut line);
     let held = fed.held;
-    let world = fed.world;
+    let counted = fed.rows;
     let n = held.length;
     if held.long {
-        happen(world, memory, store, Event::Bad);
+        happen(counted, state, memory, store, Event::Bad);
         return;
     }
     if 0 < n {
-        happen(world, memory, store, event_in(&line, held));
+        happen(counted, state, memory, store, event_in(&line, held));
     }
 }
 
@@ -272,20 +298,22 @@ fn say_table(answer: Answer) {
 
 // Loads the table and, if it is good, goes through the events.
 fn bench(text: &[u8]) {
+    let mut state = [0u8; 2048];
     let mut memory = [0u8; 16384];
     let mut store = [0u8; 32768];
     let after = owned::load(
         Card::Wide,
         text,
         &mut memory,
+        &mut state,
         &store,
         [Counters::zero(); 40],
+        40,
     );
-    let reply = after.reply;
-    let answer = reply.answer;
+    let answer = after.answer;
     say_table(answer);
     if let Answer::Loaded(_) = answer {
-        run(kept(after), &memory, &mut store);
+        run(kept(after), &mut state, &memory, &mut store);
     }
 }
 
