@@ -6,6 +6,11 @@ use entry::Counted;
 use event::Event;
 use written::Outcome;
 
+// The counter rows; an array by itself cannot take a call's result.
+struct Tally {
+    rows: [Counters; 40],
+}
+
 // How much of the line that is being read is held, and whether it is too long to be an event.
 struct Held {
     length: usize,
@@ -14,13 +19,14 @@ struct Held {
 
 // What the input so far came to, and whether it goes on.
 struct Fed {
-    rows: [Counters; 40],
+    tally: Tally,
     held: Held,
     more: bool,
 }
 
-fn kept(after: owned::After) -> [Counters; 40] {
-    after.rows
+fn kept(after: owned::After) -> Tally {
+    let rows = after.rows;
+    Tally { rows }
 }
 
 // Prints the line of an event.
@@ -46,45 +52,38 @@ fn cell_of(header: u32, check: u8, byte: u8) -> [u8; 53] {
 }
 
 fn arrive(
-    rows: [Counters; 40],
+    tally: Tally,
     state: &mut [u8; 2048],
     memory: &[u8],
     store: &mut [u8],
     event: Event,
     unit: u8,
     cell: &[u8],
-) -> [Counters; 40] {
+) -> Tally {
+    let rows = tally.rows;
     let after = owned::arrive(Card::Wide, state, memory, store, rows, 40, unit, cell);
     say(event, said(after), cell);
     kept(after)
 }
 
-fn frame(
-    rows: [Counters; 40],
-    state: &mut [u8; 2048],
-    store: &mut [u8],
-    event: Event,
-) -> [Counters; 40] {
+fn frame(tally: Tally, state: &mut [u8; 2048], store: &mut [u8], event: Event) -> Tally {
+    let rows = tally.rows;
     let mut buffer = [0u8; 57];
     let after = owned::frame(Card::Wide, state, store, rows, 40, &mut buffer);
     say(event, said(after), b"");
     kept(after)
 }
 
-fn take(
-    rows: [Counters; 40],
-    state: &mut [u8; 2048],
-    store: &[u8],
-    event: Event,
-    unit: u8,
-) -> [Counters; 40] {
+fn take(tally: Tally, state: &mut [u8; 2048], store: &[u8], event: Event, unit: u8) -> Tally {
+    let rows = tally.rows;
     let mut buffer = [0u8; 53];
     let after = owned::take(Card::Wide, state, store, rows, 40, unit, &mut buffer);
     say(event, said(after), &buffer);
     kept(after)
 }
 
-fn count(rows: [Counters; 40], state: &[u8; 2048], store: &[u8], event: Event, unit: u8) {
+fn count(tally: Tally, state: &[u8; 2048], store: &[u8], event: Event, unit: u8) {
+    let rows = tally.rows;
     match owned::count(Card::Wide, state, store, rows, 40, unit) {
         Counted::Counters(c) => say(event, Outcome::Counted(c), b""),
         Counted::Refused(number) => say(event, Outcome::Answered(Answer::Refused(number)), b""),
@@ -93,12 +92,12 @@ fn count(rows: [Counters; 40], state: &[u8; 2048], store: &[u8], event: Event, u
 
 // One event.
 fn happen(
-    rows: [Counters; 40],
+    tally: Tally,
     state: &mut [u8; 2048],
     memory: &[u8],
     store: &mut [u8],
     event: Event,
-) -> [Counters; 40] {
+) -> Tally {
     match event {
         Event::Arrive {
             unit,
@@ -106,7 +105,7 @@ fn happen(
             check,
             byte,
         } => arrive(
-            rows,
+            tally,
             state,
             memory,
             store,
@@ -114,15 +113,15 @@ fn happen(
             unit,
             &cell_of(header, check, byte),
         ),
-        Event::Frame => frame(rows, state, store, event),
-        Event::Take(unit) => take(rows, state, store, event, unit),
+        Event::Frame => frame(tally, state, store, event),
+        Event::Take(unit) => take(tally, state, store, event, unit),
         Event::Count(unit) => {
-            count(rows, state, store, event, unit);
-            rows
+            count(tally, state, store, event, unit);
+            tally
         }
         Event::Bad => {
             say(event, Outcome::Nothing, b"");
-            rows
+            tally
         }
     }
 }
@@ -159,7 +158,7 @@ fn event_in(line: &[u8], held: Held) -> Event {
 
 // All lines that a part of the input ends, and the beginning of the next.
 fn feed(
-    mut rows: [Counters; 40],
+    tally: Tally,
     state: &mut [u8; 2048],
     memory: &[u8],
     store: &mut [u8],
@@ -167,6 +166,7 @@ fn feed(
     held: Held,
     part: &[u8],
 ) -> Fed {
+    let mut counted = tally;
     let mut so_far = held;
     let mut from: usize = 0;
     while from < part.len() {
@@ -174,7 +174,7 @@ fn feed(
         so_far = keep(line, so_far, &part[from..end]);
         if end < part.len() {
             from = end + 1;
-            rows = happen(rows, state, memory, store, event_in(line, so_far));
+            counted = happen(counted, state, memory, store, event_in(line, so_far));
             so_far = Held {
                 length: 0,
                 long: false,
@@ -184,7 +184,7 @@ fn feed(
         }
     }
     Fed {
-        rows,
+        tally: counted,
         held: so_far,
         more: true,
     }
@@ -198,31 +198,31 @@ fn feed_some(
     store: &mut [u8],
     line: &mut [u8],
 ) -> Fed {
-    let rows = fed.rows;
+    let tally = fed.tally;
     let held = fed.held;
     let mut part = io::large_buffer();
     let got = libc::read(0, &mut part);
     if got <= 0 {
         return Fed {
-            rows,
+            tally,
             held,
             more: false,
         };
     }
     let n = io::count(got, &part);
-    feed(rows, state, memory, store, line, held, &part[..n])
+    feed(tally, state, memory, store, line, held, &part[..n])
 }
 
 // Reads to the end of the input. A proved loop has to end, so it counts its turns down from a number that no run uses up.
 fn feed_all(
-    rows: [Counters; 40],
+    tally: Tally,
     state: &mut [u8; 2048],
     memory: &[u8],
     store: &mut [u8],
     line: &mut [u8],
 ) -> Fed {
     let mut fed = Fed {
-        rows,
+        tally,
         held: Held {
             length: 0,
             long: false,
@@ -241,11 +241,11 @@ fn feed_all(
 }
 
 // All events; a last line without its newline is read too.
-fn run(rows: [Counters; 40], state: &mut [u8; 2048], memory: &[u8], store: &mut [u8]) {
+fn run(tally: Tally, state: &mut [u8; 2048], memory: &[u8], store: &mut [u8]) {
     let mut line = io::large_buffer();
-    let fed = feed_all(rows, state, memory, store, &mut line);
+    let fed = feed_all(tally, state, memory, store, &mut line);
     let held = fed.held;
-    let counted = fed.rows;
+    let counted = fed.tally;
     let n = held.length;
     if held.long {
         happen(counted, state, memory, store, Event::Bad);
