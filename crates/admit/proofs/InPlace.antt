@@ -5,18 +5,20 @@ use mathlib.Core.Bool.{Bool, true, false, cond, _&&_}
 use mathlib.Core.Logic.{Iff·rfl}
 use mathlib.Core.List.{List}
 use native.Mathlib.Omega.{arith}
+use lib.ListN.{getD, length-take}
 use Rattle.card.specs.declared.Card.{Card}
 use Rattle.outlet.proofs.Truth.{and-iff}
 use Rattle.shelf.specs.Shelves.{declared, blank, findIn}
 use Rattle.shelf.specs.declared.Found.the-variants as found
+use Rattle.shelf.proofs.Finding.{find-at}
 use Rattle.state.specs.Bytes.{unitIn, shelfIn}
 use Rattle.state.proofs.Laws.{unit-at}
 use Rattle.soundness.specs.State.{soundOf}
 use Rattle.soundness.specs.Soundings.{formedAll, soundIn}
-use Rattle.admit.specs.Admission.{atUnit, admitted, admittedIn, unitAt, Housed}
+use Rattle.admit.specs.Admission.{atUnit, admitted, admittedIn, formedOr, decided, unitAt, Housed}
 use Rattle.admit.specs.declared.Admitted as A
 use Rattle.admit.specs.declared.Admitted.the-variants.{At, Refused}
-use Rattle.admit.proofs.Laws.{unsound, stranger, misfit, let-in, LetIn, at-let-in, let-in-housed}
+use Rattle.admit.proofs.Laws.{unsound, stranger, misfit, let-in, LetIn, at-let-in, let-in-housed, decided-at, decided-refused}
 
 -- bytes that are a state, and a sound one
 pub sound-in : (card : Card) (b : List ℕ) (store rows : ℕ) → soundIn card b store rows ≡ true → (formedAll b ≡ true) × (soundOf card (shelfIn b) store rows ≡ true)
@@ -81,6 +83,29 @@ module _ (card : Card) (b : List ℕ) (store rows unit : ℕ) (right : Bool) (i 
           }
       pick false ef h = absurd (let z : _≡_ {A = ℕ} 0 1 = cc in omega arith)
 
+  pub below-count : LetInPlace card b store rows unit right i → i < getD b 805 0
+  below-count l =
+      let e = find-at unit (declared (shelfIn b)) i .0 (l .let-in .found) .inside in
+      omega (arith, length-take (getD b 805 0) (shelfIn b .units))
+
   -- and one that is refused with a number
   pub refused-place : (n : ℕ) → admittedIn card b store rows unit right ≡ Refused n → (formedAll b ≡ true → admitted card (shelfIn b) store rows unit right ≡ Refused n) × (formedAll b ≡ false → n ≡ 8)
   refused-place n e = (λ f. sym (formed-in card b store rows unit right f) ∙ e, λ f. let q : Refused 8 ≡ Refused n = sym (unformed-in card b store rows unit right f) ∙ e in cc)
+
+-- what comes of an event by the shelf that lent bytes are, where the bytes let it in at a place, and where they do not
+module _ {X Y : Type 0} (f : X → Y) (inside outside : ℕ → X) (bad : Y) (card : Card) (b : List ℕ) (store rows unit : ℕ) (right : Bool) where
+  by-shelf : formedAll b ≡ true → f (decided (admitted card (shelfIn b) store rows unit right) inside outside) ≡ formedOr b (f (decided (admitted card (shelfIn b) store rows unit right) inside outside)) bad
+  by-shelf e = rw e
+
+  pub came-in : (i : ℕ) → admittedIn card b store rows unit right ≡ At i → f (inside i) ≡ formedOr b (f (decided (admitted card (shelfIn b) store rows unit right) inside outside)) bad
+  came-in i e = let w = in-place card b store rows unit right i e in ap f (decided-at inside outside _ i (w .shelf)) ∙ by-shelf (w .formed)
+
+  pub kept-out : (n : ℕ) → admittedIn card b store rows unit right ≡ Refused n → f (outside 8) ≡ bad → f (outside n) ≡ formedOr b (f (decided (admitted card (shelfIn b) store rows unit right) inside outside)) bad
+  kept-out n e h = pick (formedAll b) refl
+    where
+      w : (formedAll b ≡ true → admitted card (shelfIn b) store rows unit right ≡ Refused n) × (formedAll b ≡ false → n ≡ 8)
+      w = refused-place card b store rows unit right 0 n e
+
+      pick : (t : Bool) → formedAll b ≡ t → f (outside n) ≡ cond t (f (decided (admitted card (shelfIn b) store rows unit right) inside outside)) bad
+      pick true t = ap f (decided-refused inside outside _ n (w .0 t))
+      pick false t = ap (λ m. f (outside m)) (w .1 t) ∙ h

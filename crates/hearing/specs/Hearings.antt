@@ -30,7 +30,11 @@ use Rattle.admit.specs.declared.Admitted as D
 use Rattle.admit.specs.Admission.{admitted, decided, unitAt, withUnit, withQueue}
 use Rattle.hearing.specs.declared.Plan.{Plan}
 use Rattle.hearing.specs.declared.Plan.the-variants.{Queue, Lost}
-use Rattle.hearing.specs.declared.Copy.{Copy}
+
+-- a unit after it has heard a frame, and the fate of the frame there
+pub record Copy : Type 0 where
+  pub unit : U.Unit
+  pub fate : A.Hearing
 
 -- "address 8 (unit, session, or 0 for broadcast)", "`mc` unit, session: the unit hears that session", "All declared units hear a broadcast, the
 -- sender too."

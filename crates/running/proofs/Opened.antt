@@ -173,7 +173,7 @@ module _ (card : Card) (room store rows : ℕ) (told : List Line) (good : Good c
 
       go : (o : Option ℕ) → topOf told (ofUnit n) ≡ o → Heard i
       go none k = absurd (nothing-at (sym (w .gone n k) ∙ found))
-      go (some top) k = let s = w .here n top k in subst Heard (at-is (sym (s .found) ∙ found)) (s .four, s .hearing)
+      go (some top) k = let s = w .here n top k in subst Heard (at-is (sym (s .found) ∙ found)) (s .all, s .hearing)
 
   declared-as : (after : List Line) (settings : Settings) (limits : Limits) (before : List Line) → told ≡ after ++ (L·Unit settings limits ∷ before) →
       Declared told settings limits (8 * recordsOf before) (getD (shelf .units) (unitLines before) noUnit)

@@ -4,3 +4,4 @@ pub mod Judged
 pub mod Sounding
 pub mod Facts
 pub mod Witness
+pub mod Kept

@@ -34,7 +34,7 @@ lanes-at good count k (suc n) i t h l c =
     let w = and-iff (or-iff (le-iff count k) (Iff·rfl {A = good k ≡ true})) (Iff·rfl {A = lanes good count (suc k) n ≡ true}) .0 t in
     ⊎-elim (λ e. subst (λ j. good j ≡ true) e (⊎-elim (λ m. absurd (omega arith)) (λ g. g) (w .0))) (λ m. lanes-at good count (suc k) n i (w .1) m (omega arith) c) (split k i h)
 
-lanes-all : (good : ℕ → Bool) (count k n : ℕ) → ((i : ℕ) → k ≤ i → i < k + n → i < count → good i ≡ true) → lanes good count k n ≡ true
+pub lanes-all : (good : ℕ → Bool) (count k n : ℕ) → ((i : ℕ) → k ≤ i → i < k + n → i < count → good i ≡ true) → lanes good count k n ≡ true
 unfolding lanes
 lanes-all good count k zero g = refl
 lanes-all good count k (suc n) g =

@@ -9,7 +9,6 @@ ghost use Prim.Native.Nat.{_-_, _<_};
 ghost use mathlib.Core.Bool.{false, _&&_, _||_};
 ghost use lib.Dec.{eqb, leb, ltb};
 ghost use lib.ListN.{length, getD};
-ghost use Rattle.octets.specs.Octets.{part};
 ghost use Rattle.outlet.specs.Outlets.{between, outletFits};
 ghost use Rattle.state.specs.Bytes.{col, outletBy};
 ghost use Rattle.soundness.specs.State.{roomy as roomyIn, waitsAt, nobodyOr, asksKnown, arbiterKnown};
@@ -189,17 +188,6 @@ fn arbiter_known(seen: [bool; 32], granted: u8, last: [u8; 3], asks: [u8; 32]) -
         & asks_known(seen, asks)
 }
 
-fn asks_at(s: &[u8]) -> [u8; 32]
-    requires { ⌜ length (now s) ≡ 2048 ⌝ }
-    ensures { λ r. ⌜ r ≡ part (now (s .entry)) 768 32 ⌝ }
-{
-    let from: usize = 768;
-    let end: usize = 800;
-    let mut asks = [0; 32];
-    octets::copy(&s[from..end], &mut asks, 0);
-    asks
-}
-
 // First each unit by itself, all places at once; then what is left: no number twice, what each waits for, the arbiter.
 pub fn sound(card: Card, s: &[u8], store: usize, rows: usize) -> bool
     requires { ⌜ length (now s) ≡ 2048 ⌝ }
@@ -215,7 +203,7 @@ pub fn sound(card: Card, s: &[u8], store: usize, rows: usize) -> bool
     }
     let end = count as usize;
     let granted = s[803];
-    let asks = asks_at(s);
+    let asks = state::asks_at(s);
     let mut seen = [false; 32];
     let mut i: usize = 0;
     while i < end {

@@ -1,10 +1,10 @@
 -- The shelf that 2,048 lent bytes are: a column of 32 bytes for each field of a unit, then the rest, then the sessions. Assumes nothing.
-use Prim.Native.Nat.{ℕ, zero, suc, _+_, _*_}
+use Prim.Native.Nat.{ℕ, zero, suc, _+_, _*_, _/_, _%_}
 use mathlib.Core.Bool.{Bool, cond}
 use mathlib.Core.List.{List, [], _∷_}
 use lib.Dec.{eqb}
 use lib.ListN.{getD, set, take, drop}
-use Rattle.octets.specs.Octets.{part}
+use Rattle.octets.specs.Octets.{part, splice}
 use Rattle.header.specs.declared.Link.{Link}
 use Rattle.header.specs.declared.Link.the-variants.{Uni, Nni}
 use Rattle.outlet.specs.declared.Mode.{Mode}
@@ -12,6 +12,7 @@ use Rattle.outlet.specs.declared.Mode.the-variants.{One, Four}
 use Rattle.outlet.specs.declared.Limits.{Limits}
 use Rattle.outlet.specs.declared.Ring.{Ring}
 use Rattle.outlet.specs.declared.Outlet.{Outlet}
+use Rattle.arbiter.specs.declared.Arbiter.{Arbiter}
 use Rattle.shelf.specs.declared.Settings.{Settings}
 use Rattle.shelf.specs.declared.Unit as U
 use Rattle.shelf.specs.Shelf.{Shelf}
@@ -87,3 +88,15 @@ queuePut u q ring =
       place = u .place;
       sessions = u .sessions;
     }
+
+-- what a frame's end makes of the bytes: the arbiter, the open grant and the next frame's number are written
+unfoldable pub withTurn : List ℕ → Arbiter → ℕ → ℕ → List ℕ
+withTurn b arbiter granted frame =
+    set
+    (set (set (set (set (set (splice b 768 (arbiter .asks)) 800 (getD (arbiter .last) 0 0)) 801 (getD (arbiter .last) 1 0)) 802 (getD (arbiter .last) 2 0)) 803 granted) 806 (frame / 256))
+    807
+    (frame % 256)
+
+-- a shelf with another arbiter, open grant and number of the next frame
+abbrev pub turnPut : Shelf → Arbiter → ℕ → ℕ → Shelf
+turnPut s arbiter granted frame = record { bus = s .bus; count = s .count; units = s .units; arbiter = arbiter; granted = granted; frame = frame }

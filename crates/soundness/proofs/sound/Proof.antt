@@ -19,7 +19,6 @@ use Rattle.soundness.proofs.sound.Statement.{statement}
 use Rattle.soundness.proofs.sound.Tie as tie
 use Rattle.soundness.proofs.sound.Reads as reads
 use Rattle.soundness.proofs.sound.Lts as lts
-use Rattle.soundness.proofs.asks_at.Reads as asks-at-reads
 use Rattle.soundness.proofs.arbiter_known.Reads as arbiter-known-reads
 use Rattle.soundness.proofs.roomy.Reads as roomy-reads
 use Rattle.soundness.proofs.waits.Reads as waits-reads
