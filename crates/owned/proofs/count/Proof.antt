@@ -1,12 +1,12 @@
--- `owned::count_among` meets its contract. Assumes nothing.
+-- `owned::count` meets its contract. Assumes nothing.
 use mathlib.Core.Path.{_≡_, _∙_}
 use native.Mathlib.Omega.{arith}
 use lib.ListN.{length}
 use Rattle.outlet.proofs.Laws.{length-mapped}
 use Rattle.owned.proofs.Found.{found, past}
 use borrow.Author.Needs.{needs}
-use Rattle.owned.proofs.count_among.Statement.{statement}
-use Rattle.owned.proofs.count_among.Tie as tie
+use Rattle.owned.proofs.count.Statement.{statement}
+use Rattle.owned.proofs.count.Tie as tie
 
 counted-requires : tie.Need-counted-requires
 counted-requires c κs = search needs
@@ -40,8 +40,8 @@ returns-2 c =
     c .counted-at2 .ensures ∙
     past (c .before .before .before .before .before .before .args .t4) _ _ (c .before .before .before .before .counted .ensures) _ (c .before .before .before .row-at .ensures) (omega arith) _ (c .before .zero .ensures)
 
-pub count-among-spec : {M : Type 1} → statement M
-count-among-spec =
+pub count-spec : {M : Type 1} → statement M
+count-spec =
     tie.close
     (tie.spec
     counted-requires

@@ -1,4 +1,4 @@
--- `partly::settle` meets its contract. Assumes nothing.
+-- `owned::settle` meets its contract. Assumes nothing.
 use mathlib.Core.Path.{_≡_, sym, ap, _∙_}
 use mathlib.Core.Logic.{_⊎_, inl, inr}
 use Prim.Native.Nat.{_≤_, _<_, _-_}
@@ -6,17 +6,17 @@ use lib.ListN.{length}
 use Rattle.counters.specs.Counting.{rowBy, settledTo, settled}
 use Rattle.counters.proofs.Settling.{row-by, settled-none, settled-end}
 use Rattle.outlet.proofs.Laws.{length-mapped}
-use Rattle.partly.proofs.Laws.{turned}
+use Rattle.owned.proofs.Laws.{turned}
 use native.Mathlib.Omega.{arith}
 use borrow.Author.Needs.{needs}
-use Rattle.partly.proofs.settle.Statement.{statement}
-use Rattle.partly.proofs.settle.Tie as tie
+use Rattle.owned.proofs.settle.Statement.{statement}
+use Rattle.owned.proofs.settle.Tie as tie
 
 abbrev Inv-loop : tie.InvT-loop
-Inv-loop done rs₀ rises n i₀ rs i = (n ≤ 32) × (n ≡ rises .to) × (rises .from ≤ i) × ((i ≤ rises .to) ⊎ (i ≤ rises .from)) × (rs ≡ settledTo rs₀ rises i)
+Inv-loop o rs₀ rises n i₀ rs i = (n ≤ 32) × (n ≡ rises .to) × (rises .from ≤ i) × ((i ≤ rises .to) ⊎ (i ≤ rises .from)) × (rs ≡ settledTo rs₀ rises i)
 
 abbrev μ-loop : tie.MeasureT-loop
-μ-loop done rs₀ rises n i₀ rs i = n - i
+μ-loop o rs₀ rises n i₀ rs i = n - i
 
 rises-of-requires : tie.Need-rises-of-requires Inv-loop μ-loop
 rises-of-requires c κs = search needs
@@ -32,7 +32,7 @@ loop-holds c =
     let r = c .before .before .rises-of .ensures in
     let n = c .before .last .ensures in
     let f = c .first .ensures in
-    let t : c .before .before .rises-of .result .to ≡ c .before .before .before .args .done .rises .to = ap (λ x. x .to) r in
+    let t : c .before .before .rises-of .result .to ≡ c .before .before .before .args .o .rises .to = ap (λ x. x .to) r in
     (omega (arith, c .before .before .before .pre), n, omega arith, inr (omega arith), sym (settled-none _ _ _ (omega arith)))
 
 mul-c : tie.Need-mul-c Inv-loop μ-loop
@@ -66,8 +66,8 @@ loop-again c =
     let g : l .i < length (c .before .before .before .before .before .before .before .before .args .rows) = omega arith in
     (l .inv .0, l .inv .1, omega arith, inl (omega arith), turned _ _ _ _ _ _ (l .inv .2) g (l .inv .4) (c .row-by .ensures ∙ ap (rowBy _) (c .before .rise-at .ensures) ∙ row-by _ _ _))
 
-reply-of-requires : tie.Need-reply-of-requires Inv-loop μ-loop
-reply-of-requires c κs = search needs
+answer-of-requires : tie.Need-answer-of-requires Inv-loop μ-loop
+answer-of-requires c κs = search needs
 
 joined-requires : tie.Need-joined-requires Inv-loop μ-loop
 joined-requires c κs = search needs
@@ -75,7 +75,7 @@ joined-requires c κs = search needs
 returns : tie.Need-returns Inv-loop μ-loop
 returns c =
     let l = c .before .before .before .loop in
-    (c .joined .ensures .0 ∙ c .before .reply-of .ensures, c .joined .ensures .1 ∙ (l .inv .4 ∙ settled-end _ _ _ (omega arith) (l .inv .3)) ∙ ap (settled (c .before .before .before .before .before .before .before .args .rows)) (c .before .before .before .before .before .before .rises-of .ensures))
+    (c .joined .ensures .0 ∙ c .before .answer-of .ensures, c .joined .ensures .1 ∙ (l .inv .4 ∙ settled-end _ _ _ (omega arith) (l .inv .3)) ∙ ap (settled (c .before .before .before .before .before .before .before .args .rows)) (c .before .before .before .before .before .before .rises-of .ensures))
 
 pub settle-spec : {M : Type 1} → statement M
 settle-spec =
@@ -96,6 +96,6 @@ settle-spec =
     add-i
     loop-less
     loop-again
-    reply-of-requires
+    answer-of-requires
     joined-requires
     returns)
