@@ -10,7 +10,7 @@ use Rattle.answer.specs.Done.{Done}
 use Rattle.answer.specs.Answers.{ends}
 use Rattle.table.specs.declared.Outcome as O
 use Rattle.table.specs.declared.Outcome.the-variants as outcome
-use Rattle.table.specs.declared.Loading.{Loading}
+use Rattle.table.specs.Loading.{Loading}
 use Rattle.table.specs.Load.{load, loaded}
 
 -- "`ok` and bytes used, or `refused`, number and line"
