@@ -245,7 +245,7 @@ fn refused_loads_zero_the_memory_and_touch_nothing_else() {
         let (shelf, outcome) = load(Card::Narrow, text.as_bytes(), &mut memory, 8_191, &mut rows);
         assert_eq!(outcome.map_err(|refusal| refusal.number()), Err(number));
         assert_eq!(shelf, Shelf::fresh(Card::Narrow));
-        assert_eq!((shelf.bus, shelf.count), (16, 0));
+        assert_eq!((shelf.state.bus(), shelf.state.count()), (16, 0));
         assert!(memory[..262_144].iter().all(|byte| *byte == 0));
         assert_eq!(memory[262_144], 0xEE);
         assert!(rows.iter().all(|row| row.arrived == 9));
@@ -270,8 +270,7 @@ fn good_load_zeroes_its_rows_and_no_others() {
     let mut rows = [Counters { taken: 9, ..Counters::default() }; 3];
     let (shelf, outcome) = load(Card::Wide, tabs(LISTING_TABLE).as_bytes(), &mut [0; 328], 16_384, &mut rows);
     assert_eq!(outcome, Ok(328));
-    assert_eq!((shelf.bus, shelf.declared().len()), (16, 2));
-    assert!(shelf.declared().iter().map(|unit| unit.number).eq([0, 3]));
+    assert_eq!((shelf.state.bus(), shelf.state.numbers()), (16, &[0, 3][..]));
     assert_eq!(rows.map(|row| row.taken), [0, 0, 9]);
 }
 

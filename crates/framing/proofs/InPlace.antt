@@ -9,7 +9,6 @@ use lib.ListN.{length, getD, take, length-take, length-drop}
 use Rattle.octets.specs.Octets.{part}
 use Rattle.card.specs.declared.Card.{Card}
 use Rattle.bus.specs.Frame.{heard}
-use Rattle.arbiter.specs.declared.Arbiter.{Arbiter}
 use Rattle.arbiter.proofs.Grants.{granted-length}
 use Rattle.arbiter.proofs.Requests.{renewed-many}
 use Rattle.store.specs.Rings.{popped}
@@ -17,14 +16,13 @@ use Rattle.shelf.specs.Shelves.{declared}
 use Rattle.shelf.specs.declared.Found as F
 use Rattle.shelf.specs.declared.Found.the-variants.{At, Nothing}
 use Rattle.shelf.proofs.Finding.{find-at, declared-length}
-use Rattle.state.specs.Bytes.{unitIn, shelfIn, withTurn, turnPut}
+use Rattle.state.specs.Bytes.{unitIn, shelfIn, turnPut}
 use Rattle.state.proofs.Laws.{units-length}
 use Rattle.state.proofs.Kept.{ring-other}
 use Rattle.state.proofs.Turn.{turn-long, turn-before, turn-behind, turn-shelf}
 use Rattle.soundness.specs.State.{soundOf}
 use Rattle.soundness.specs.Soundings.{formedAll, soundIn}
 use Rattle.soundness.proofs.Kept.{formed-ring, formed-turn}
-use Rattle.answer.specs.Done.{Done}
 use Rattle.answer.specs.Answers.{refused}
 use Rattle.admit.specs.Admission.{formedOr}
 use Rattle.admit.proofs.InPlace.{sound-in}

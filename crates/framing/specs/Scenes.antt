@@ -1,6 +1,6 @@
 -- Hearing by several units, of a state in lent bytes: what is written one place after the other. Assumes nothing.
 use Prim.Native.Nat.{ℕ, zero, suc, _+_, _<_, min}
-use mathlib.Core.Bool.{Bool, false, _||_}
+use mathlib.Core.Bool.{false, _||_}
 use mathlib.Core.List.{List}
 use lib.ListN.{getD, set, replicate}
 use Rattle.bus.specs.declared.Heard as H

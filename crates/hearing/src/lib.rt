@@ -14,7 +14,7 @@ ghost use lib.ListN.{length, take};
 ghost use Rattle.bus.specs.Frame.{heard as heardOf};
 ghost use Rattle.state.specs.Bytes.{unitIn};
 ghost use Rattle.admit.specs.Admission.{Housed};
-ghost use Rattle.hearing.specs.Hearings.{addressed as addressedTo, planFor, planOf, fateBy, storeBy, storeOf};
+ghost use Rattle.hearing.specs.Hearings.{addressed as addressedTo, planFor, planOf, fateBy, storeOf};
 ghost use Rattle.hearing.specs.InPlace.{stateBy, stateAt, outcomeAt, hearOut, hearState, hearStoreIn};
 
 // A copy is queued in this queue, or lost with this fate.

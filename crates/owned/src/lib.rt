@@ -129,10 +129,7 @@ pub fn load(
     if lent == 40 {
         return load_by_entry(card, text, memory, state, store, rows);
     }
-    settle(
-        rows,
-        loading::load(card, text, memory, state, store, lent),
-    )
+    settle(rows, loading::load(card, text, memory, state, store, lent))
 }
 
 pub fn arrive(
@@ -186,10 +183,7 @@ pub fn hear(
     if lent == 40 {
         return hear_by_entry(card, state, store, rows, unit, frame);
     }
-    settle(
-        rows,
-        hearing::hear(card, state, store, lent, unit, frame),
-    )
+    settle(rows, hearing::hear(card, state, store, lent, unit, frame))
 }
 
 pub fn take(
@@ -206,10 +200,7 @@ pub fn take(
     if lent == 40 {
         return take_by_entry(card, state, store, rows, unit, buffer);
     }
-    settle(
-        rows,
-        taking::take(card, state, store, lent, unit, buffer),
-    )
+    settle(rows, taking::take(card, state, store, lent, unit, buffer))
 }
 
 // The calls that `entry::count` makes: no rows are lent, which would be a walk by hand.

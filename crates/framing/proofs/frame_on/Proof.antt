@@ -1,9 +1,9 @@
 -- `framing::frame_on` meets its contract. Assumes nothing.
 use Prim.Native.Nat.{_+_, _%_, _^_}
 use native.Mathlib.Omega.{arith}
-use mathlib.Core.Path.{_≡_, ap, _∙_}
+use mathlib.Core.Path.{ap, _∙_}
 use mathlib.Core.Bool.{false}
-use lib.ListN.{length, getD}
+use lib.ListN.{getD}
 use Rattle.arbiter.specs.Arbitration.{grantedBy}
 use Rattle.state.specs.Bytes.{withTurn}
 use Rattle.answer.specs.declared.Answer.the-variants.{Framed}

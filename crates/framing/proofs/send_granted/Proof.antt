@@ -1,8 +1,7 @@
 -- `framing::send_granted` meets its contract. Assumes nothing.
-use Prim.Native.Nat.{_<_, min}
 use native.Mathlib.Omega.{arith}
-use mathlib.Core.Path.{_≡_, sym, ap, _∙_}
-use lib.ListN.{length, getD}
+use mathlib.Core.Path.{sym, ap, _∙_}
+use lib.ListN.{getD}
 use Rattle.shelf.specs.Shelves.{declared}
 use Rattle.shelf.proofs.Finding.{find-at, declared-length}
 use Rattle.state.specs.Bytes.{shelfIn}

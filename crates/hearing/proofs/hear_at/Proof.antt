@@ -2,7 +2,6 @@
 use mathlib.Core.Path.{sym, ap, _∙_}
 use lib.ListN.{take}
 use Rattle.answer.specs.declared.Answer.the-variants.{Heard}
-use Rattle.answer.specs.declared.Outcome.{Outcome}
 use Rattle.answer.specs.declared.Rises.{Rises}
 use Rattle.answer.specs.Answers.{row}
 use Rattle.state.specs.Bytes.{unitIn}

@@ -1,7 +1,7 @@
 -- `state::put_turn` meets its contract. Assumes nothing.
 use Prim.Native.Nat.{_/_, _%_}
 use native.Mathlib.Omega.{arith}
-use mathlib.Core.Path.{_≡_, ap, _∙_}
+use mathlib.Core.Path.{_≡_, ap}
 use lib.ListN.{length, length-set, getD, set}
 use Rattle.state.specs.Bytes.{withTurn}
 use borrow.Author.Needs.{needs}
