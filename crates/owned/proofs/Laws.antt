@@ -1,4 +1,4 @@
--- Rows settled by value: one row more; and rows lent in part, which is what the contracts say. Assumes nothing.
+-- Rows settled by value: one row more. Assumes nothing.
 use mathlib.Core.Path.{_≡_, refl, sym, ap, _∙_}
 use mathlib.Core.List.{List}
 use Prim.Native.Nat.{ℕ, _+_, _≤_, _<_}

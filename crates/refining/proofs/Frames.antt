@@ -42,7 +42,7 @@ use Rattle.hearing.specs.Hearings as hearing
 use Rattle.framing.specs.Requests as requests
 use Rattle.framing.specs.Sending as sending
 use Rattle.framing.specs.Frames as framing
-use Rattle.framing.specs.declared.Listened.{Listened}
+use Rattle.framing.specs.Sending.{Listened}
 use Rattle.framing.proofs.Sends.{out-housed}
 use Rattle.document.specs.Shelf as D
 use Rattle.document.specs.Hearing as paper

@@ -157,11 +157,11 @@ module _ (card : Card) (room store rows : ℕ) (told : List Line) (good : Good c
 
   -- a declared unit is found in its own place, and stands there as the lines have it
   hears-as : (i n : ℕ) → i < shelf .count → numberOf (getD (shelf .units) i blank) ≡ n →
-      (length (getD (shelf .units) i blank .sessions) ≡ 4) × ((s : ℕ) → s < 256 → hears (getD (shelf .units) i blank .sessions) s ≡ hearsIn told n s)
+      (length (getD (shelf .units) i blank .sessions) ≡ 32) × ((s : ℕ) → s < 256 → hears (getD (shelf .units) i blank .sessions) s ≡ hearsIn told n s)
   hears-as i n h e = go (topOf told (ofUnit n)) refl
     where
       Heard : ℕ → Type 0
-      Heard j = (length (getD (shelf .units) j blank .sessions) ≡ 4) × ((s : ℕ) → s < 256 → hears (getD (shelf .units) j blank .sessions) s ≡ hearsIn told n s)
+      Heard j = (length (getD (shelf .units) j blank .sessions) ≡ 32) × ((s : ℕ) → s < 256 → hears (getD (shelf .units) j blank .sessions) s ≡ hearsIn told n s)
 
       inside : i < length (declared shelf)
       inside = let c = w .counted in omega (arith, h, length-take (shelf .count) (shelf .units), w .long)

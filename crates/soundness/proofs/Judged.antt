@@ -7,6 +7,7 @@ use native.Mathlib.Numerals.{add-one}
 use native.Mathlib.Omega.{arith}
 use lib.Dec.{eqb, leb, ltb}
 use borrow.Author.Tests.{ne-eqb, lt-leb}
+use Rattle.outlet.proofs.Truth.{same, eq-iff, le-iff}
 use Rattle.card.specs.declared.Card.{Card}
 use Rattle.card.specs.declared.Card.the-variants.{Narrow, Wide}
 use Rattle.card.specs.Cards.{holds, narrowHolds}
@@ -43,6 +44,17 @@ not-one n = ne-eqb (suc (suc n)) 1 (λ e. absurd (omega arith))
 
 past-one : (n : ℕ) → leb (suc (suc n)) 1 ≡ false
 past-one n = lt-leb (suc (suc n)) 1 (omega arith)
+
+-- a top VPI by its high byte
+high-uni : (high low : ℕ) → low < 256 → eqb high 0 ≡ leb (high * 256 + low) 255
+high-uni high low h =
+    let l = le-iff (high * 256 + low) 255 in
+    same (eqb high 0) (leb (high * 256 + low) 255) (λ t. let e = eq-iff high 0 .0 t in l .1 (omega arith)) (λ t. let e = l .0 t in eq-iff high 0 .1 (omega arith))
+
+high-nni : (high low : ℕ) → low < 256 → leb high 15 ≡ leb (high * 256 + low) 4095
+high-nni high low h =
+    let l = le-iff (high * 256 + low) 4095 in
+    same (leb high 15) (leb (high * 256 + low) 4095) (λ t. let e = le-iff high 15 .0 t in l .1 (omega arith)) (λ t. let e = l .0 t in le-iff high 15 .1 (omega arith))
 
 -- an outlet: one in mode one, one in mode four, or none
 module _ (f : ℕ → ℕ) where
@@ -90,14 +102,15 @@ mix true true true false m k g r = sym (ap (λ b. (m && k) && b) (and-no g) ∙ 
 mix true true true true m k g r = refl
 
 -- all tests of a place together
-pub lane-by : (card : Card) (bus : ℕ) (b : List ℕ) (i : ℕ) →
+pub lane-by : (card : Card) (bus : ℕ) (b : List ℕ) (i : ℕ) → col b i 3 < 256 →
     let f = col b i in
-    ((ltb (f 0) bus && (((eqb (f 1) 0 && leb (f 2 * 256 + f 3) 255) || (eqb (f 1) 1 && isWide card && leb (f 2 * 256 + f 3) 4095)) && between 1 3 (f 4)))
+    ((ltb (f 0) bus && (((eqb (f 1) 0 && eqb (f 2) 0) || (eqb (f 1) 1 && isWide card && leb (f 2) 15)) && between 1 3 (f 4)))
     && ((ltb (f 14) 4 && leb (f 15) 4) && (leb (f 5) 1 && leb (f 9) 1 && outletFits (outletBy f)))) ≡ laneGood card bus b i
 unfolding unitBy unitFits outletFits ringFits
-lane-by card bus b i =
+lane-by card bus b i low =
     let f = col b i in
-    ap (λ s. (ltb (f 0) bus && s) && ((ltb (f 14) 4 && leb (f 15) 4) && (leb (f 5) 1 && leb (f 9) 1 && outletFits (outletBy f)))) (settings-by f card (f 1) refl)
+    ap (λ s. (ltb (f 0) bus && s) && ((ltb (f 14) 4 && leb (f 15) 4) && (leb (f 5) 1 && leb (f 9) 1 && outletFits (outletBy f))))
+    ((λ t. ((eqb (f 1) 0 && high-uni (f 2) (f 3) low t) || (eqb (f 1) 1 && isWide card && high-nni (f 2) (f 3) low t)) && between 1 3 (f 4)) ∙ settings-by f card (f 1) refl)
     ∙ mix (ltb (f 0) bus) (leb (f 1) 1) (settingsGiven card (settingsBy f)) (ltb (f 14) 4 && leb (f 15) 4) (leb (f 5) 1) (leb (f 9) 1) (given (limitsBy f)) (ringsFit (outletBy f))
 
 -- one place more

@@ -54,12 +54,13 @@ fn nothing(head: u8, count: u8) -> bool
     (head == 0) & (count == 0)
 }
 
-// Whether the bytes of a unit's settings are such as a `unit` line gives. All tests are made: many places are judged at once.
-fn settings_good(wide: bool, number: u8, link: u8, top: u16, priority: u8, bus: u8) -> bool
-    ensures { λ r. ⌜ r ≡ (ltb number bus && (((eqb link 0 && leb top 255) || (eqb link 1 && wide && leb top 4095)) && between 1 3 priority)) ⌝ }
+// Whether the bytes of a unit's settings are such as a `unit` line gives. All tests are made, and of bytes: many places are judged at once.
+// A top VPI to 255 has 0 in its high byte, one to 4,095 at most 15.
+fn settings_good(wide: bool, number: u8, link: u8, high: u8, priority: u8, bus: u8) -> bool
+    ensures { λ r. ⌜ r ≡ (ltb number bus && (((eqb link 0 && eqb high 0) || (eqb link 1 && wide && leb high 15)) && between 1 3 priority)) ⌝ }
 {
-    let uni = (link == 0) & (top <= 255);
-    let nni = (link == 1) & wide & (top <= 4095);
+    let uni = (link == 0) & (high == 0);
+    let nni = (link == 1) & wide & (high <= 15);
     (number < bus) & ((uni | nni) & ((1 <= priority) & (priority <= 3)))
 }
 
@@ -117,12 +118,11 @@ fn lane(s: &[u8], i: usize, card: Card, bus: u8) -> bool
     requires { ⌜ (length (now s) ≡ 2048) × (i < 32) ⌝ }
     ensures { λ r. ⌜ r ≡ laneGood card bus (now (s .entry)) i ⌝ }
 {
-    let top = state::two_of(state::at(s, 2, i), state::at(s, 3, i));
     settings_good(
         wide(card),
         state::at(s, 0, i),
         state::at(s, 1, i),
-        top,
+        state::at(s, 2, i),
         state::at(s, 4, i),
         bus,
     )
@@ -136,9 +136,11 @@ fn units_good(s: &[u8], card: Card, bus: u8, count: u8) -> bool
 {
     let mut good = true;
     let mut k: u8 = 0;
-    while k < 32 {
-        good = good & ((count <= k) | lane(s, k as usize, card, bus));
+    let mut i: usize = 0;
+    while i < 32 {
+        good = good & ((count <= k) | lane(s, i, card, bus));
         k += 1;
+        i += 1;
     }
     good
 }

@@ -1,4 +1,4 @@
--- `state::units_good` meets its contract. Assumes nothing.
+-- `soundness::units_good` meets its contract. Assumes nothing.
 use Prim.Native.Nat.{_≤_, _-_}
 use mathlib.Core.Path.{_≡_, refl, sym, ap, _∙_}
 use mathlib.Core.Bool.{_&&_, _||_}
@@ -14,46 +14,40 @@ use Rattle.soundness.proofs.units_good.Lts as lts
 use Rattle.soundness.proofs.lane.Reads as lane-reads
 
 abbrev Inv-loop : tie.InvT-loop
-Inv-loop s card bus count good₀ k₀ good k = (k ≤ 32) × (lanes (laneGood card bus s) count 0 32 ≡ (good && lanes (laneGood card bus s) count k (32 - k)))
+Inv-loop s card bus count good₀ k₀ i₀ good k i = (i ≤ 32) × (k ≡ i) × (lanes (laneGood card bus s) count 0 32 ≡ (good && lanes (laneGood card bus s) count i (32 - i)))
 
 abbrev μ-loop : tie.MeasureT-loop
-μ-loop s card bus count good₀ k₀ good k = 32 - k
+μ-loop s card bus count good₀ k₀ i₀ good k i = 32 - i
 
--- src/lib.rt:287:5
 loop-holds : tie.Need-loop-holds Inv-loop μ-loop
-loop-holds c = (omega arith, refl)
+loop-holds c = (omega arith, refl, refl)
 
--- src/lib.rt:288:47
-cast-lane : tie.Need-cast-lane Inv-loop μ-loop
-cast-lane c = search needs
-
--- src/lib.rt:288:39
 lane-requires : tie.Need-lane-requires Inv-loop μ-loop
 lane-requires c κs = search needs
 
--- src/lib.rt:289:9
 add-k : tie.Need-add-k Inv-loop μ-loop
 add-k c = search needs
 
--- src/lib.rt:287:5
+add-i : tie.Need-add-i Inv-loop μ-loop
+add-i c = search needs
+
 loop-less : tie.Need-loop-less Inv-loop μ-loop
 loop-less c = search needs
 
--- src/lib.rt:287:5
 loop-again : tie.Need-loop-again Inv-loop μ-loop
 loop-again c =
     let l = c .before .before in
     let a = l .before .before .args in (
       omega arith,
-      l .loop .inv .1 ∙ lanes-step (laneGood (a .card) (a .bus) (a .s .now)) (a .count) (l .loop .k) (l .loop .good) _ (omega arith) (ap (λ b. leb (a .count) (l .loop .k) || b) (c .lane .ensures)),
+      omega arith,
+      l .loop .inv .2 ∙ lanes-step (laneGood (a .card) (a .bus) (a .s .now)) (a .count) (l .loop .i) (l .loop .good) _ (omega arith) (λ t. leb (a .count) (l .loop .inv .1 t) || c .lane .ensures t),
     )
 
--- src/lib.rt:281:1
 returns : tie.Need-returns Inv-loop μ-loop
 returns c =
     let l = c .before in
     let a = l .before .before .args in
-    sym (l .loop .inv .1 ∙ lanes-end (laneGood (a .card) (a .bus) (a .s .now)) (a .count) (l .loop .k) (l .loop .good) (omega arith))
+    sym (l .loop .inv .2 ∙ lanes-end (laneGood (a .card) (a .bus) (a .s .now)) (a .count) (l .loop .i) (l .loop .good) (omega arith))
 
 pub units-good-spec : {M : Type 1} → statement M
 units-good-spec =
@@ -62,9 +56,9 @@ units-good-spec =
     Inv-loop
     μ-loop
     loop-holds
-    cast-lane
     lane-requires
     add-k
+    add-i
     loop-less
     loop-again
     returns)
