@@ -388,6 +388,34 @@ fn say_rows(w: World, out: &mut [u8], at: usize) -> usize
     shown::rows(out, at, n, rows)
 }
 
+fn say_card(w: World, card: Card, out: &mut [u8], at: usize) -> Step
+    requires { ⌜ at + 20000 ≤ length (now out) ⌝ }
+{
+    moved(with_card(w, card), words::put(out, at, b"card\tok"))
+}
+
+fn say_lend(
+    w: World,
+    memory: &mut [u8],
+    store: &mut [u8],
+    bank: Bank,
+    n: usize,
+    byte: u8,
+    out: &mut [u8],
+    at: usize,
+) -> Step
+    requires { ⌜ at + 20000 ≤ length (now out) ⌝ }
+{
+    let lent = with_bank(w, memory, store, bank, n, byte);
+    moved(lent, words::put(out, at, b"lend\tok"))
+}
+
+fn say_lend_rows(w: World, n: usize, value: u32, out: &mut [u8], at: usize) -> Step
+    requires { ⌜ at + 20000 ≤ length (now out) ⌝ }
+{
+    moved(with_rows(w, n, value), words::put(out, at, b"lend\tok"))
+}
+
 // A command. It goes from `act` on to `call`, `hand_out`, `poke` and `tell` until one of them knows it: one match over all of them takes the prover too long.
 fn act(
     w: World,
@@ -402,15 +430,11 @@ fn act(
     requires { ⌜ at + 20000 ≤ length (now out) ⌝ }
 {
     match command {
-        Command::Card(card) => moved(with_card(w, card), words::put(out, at, b"card\tok")),
-        Command::Lend { bank, length, byte } => moved(
-            with_bank(w, memory, store, bank, length as usize, byte),
-            words::put(out, at, b"lend\tok"),
-        ),
-        Command::LendRows { count, value } => moved(
-            with_rows(w, count as usize, value),
-            words::put(out, at, b"lend\tok"),
-        ),
+        Command::Card(card) => say_card(w, card, out, at),
+        Command::Lend { bank, length, byte } => {
+            say_lend(w, memory, store, bank, length as usize, byte, out, at)
+        }
+        Command::LendRows { count, value } => { say_lend_rows(w, count as usize, value, out, at) }
         _ => lend(w, state, memory, store, bytes, command, out, at),
     }
 }
