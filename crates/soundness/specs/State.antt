@@ -63,9 +63,6 @@ grantHeld granted number cells = not (eqb number granted) || leb 1 cells
 abbrev pub askHeld : ℕ → ℕ → ℕ → ℕ → ℕ → Bool
 askHeld granted ask number priority cells = eqb ask 0 || eqb ask priority && leb 1 (besides cells (eqb number granted))
 
-unfoldable pub waitsAt : ℕ → ℕ → ℕ → ℕ → ℕ → Bool
-waitsAt granted ask number priority cells = grantHeld granted number cells && askHeld granted ask number priority cells
-
 abbrev pub grantHasCell : ℕ → U.Unit → Bool
 grantHasCell granted u = grantHeld granted (numberOf u) (u .inlet .count)
 

@@ -2,17 +2,17 @@
 use arbiter::NOBODY;
 use card::Card;
 use outlet::Outlet;
-use shelf::Settings;
 use shelf::Unit;
 ghost use mathlib.Core.Path.{_≡_};
 ghost use Prim.Native.Nat.{_-_, _<_};
-ghost use mathlib.Core.Bool.{false, _&&_, _||_};
+ghost use mathlib.Core.Bool.{_&&_, _||_};
 ghost use lib.Dec.{eqb, leb, ltb};
-ghost use lib.ListN.{length, getD};
+ghost use lib.ListN.{length};
 ghost use Rattle.outlet.specs.Outlets.{between, outletFits};
 ghost use Rattle.state.specs.Bytes.{col, outletBy};
-ghost use Rattle.soundness.specs.State.{roomy as roomyIn, waitsAt, nobodyOr, asksKnown, arbiterKnown};
+ghost use Rattle.soundness.specs.State.{roomy as roomyIn, nobodyOr};
 ghost use Rattle.soundness.specs.Lanes.{isWide, ringsOne, ringsFour, laneGood, lanes};
+ghost use Rattle.soundness.specs.Numbered.{marks, asksHeld, grantIn, arbiterHeld};
 ghost use Rattle.soundness.specs.Soundings.{soundIn};
 
 // Whether the bus has a size, and there is room for its units.
@@ -145,52 +145,62 @@ fn units_good(s: &[u8], card: Card, bus: u8, count: u8) -> bool
     good
 }
 
-// Whether a unit has the cells that its grant and its request need.
-fn waits(granted: u8, ask: u8, settings: Settings, cells: u8) -> bool
-    ensures { λ r. ⌜ r ≡ waitsAt granted ask (settings .number) (settings .priority) cells ⌝ }
-{
-    let other = settings.number != granted;
-    if ask == 0 {
-        other | (1 <= cells)
-    } else {
-        (ask == settings.priority) & (1 <= cells) & (other | (2 <= cells))
-    }
-}
-
-// Whether it is nobody or one of those seen.
-fn nobody_or(seen: [bool; 32], number: u8) -> bool
-    ensures { λ r. ⌜ r ≡ nobodyOr (λ n. getD seen n false) number ⌝ }
+// Whether it is nobody or one with a priority.
+fn nobody_or(priorities: [u8; 32], number: u8) -> bool
+    ensures { λ r. ⌜ r ≡ nobodyOr (marks priorities) number ⌝ }
 {
     if number < 32 {
-        seen[number as usize]
+        priorities[number as usize] != 0
     } else {
         number == NOBODY
     }
 }
 
-// Whether only those seen ask.
-fn asks_known(seen: [bool; 32], asks: [u8; 32]) -> bool
-    ensures { λ r. ⌜ r ≡ asksKnown (λ n. getD seen n false) 0 asks ⌝ }
+// Whether nobody is granted, or one with a cell.
+fn grant_held(cells: [u8; 32], granted: u8) -> bool
+    ensures { λ r. ⌜ r ≡ grantIn cells granted ⌝ }
+{
+    if granted < 32 {
+        1 <= cells[granted as usize]
+    } else {
+        granted == NOBODY
+    }
+}
+
+// Whether each number that asks does so at its priority, with a cell besides a granted one.
+fn asks_held(priorities: [u8; 32], cells: [u8; 32], granted: u8, asks: [u8; 32]) -> bool
+    ensures { λ r. ⌜ r ≡ asksHeld priorities cells granted 0 asks ⌝ }
 {
     let mut good = true;
+    let mut k: u8 = 0;
     let mut i: usize = 0;
     while i < 32 {
-        good = good & ((asks[i] == 0) | seen[i]);
+        let left = (1 <= cells[i]) & ((k != granted) | (2 <= cells[i]));
+        good = good & ((asks[i] == 0) | ((asks[i] == priorities[i]) & left));
+        k += 1;
         i += 1;
     }
     good
 }
 
-// Whether no other is granted, was granted or asks than those seen.
-fn arbiter_known(seen: [bool; 32], granted: u8, last: [u8; 3], asks: [u8; 32]) -> bool
-    ensures { λ r. ⌜ r ≡ arbiterKnown (λ n. getD seen n false) granted last asks ⌝ }
+// Whether the units, by their numbers, could have the open grant, the last grants and the requests.
+fn arbiter_held(
+    priorities: [u8; 32],
+    cells: [u8; 32],
+    granted: u8,
+    last: [u8; 3],
+    asks: [u8; 32],
+) -> bool
+    ensures { λ r. ⌜ r ≡ arbiterHeld priorities cells granted last asks ⌝ }
 {
-    nobody_or(seen, granted)
-        & (nobody_or(seen, last[0]) & nobody_or(seen, last[1]) & nobody_or(seen, last[2]))
-        & asks_known(seen, asks)
+    grant_held(cells, granted)
+        & (nobody_or(priorities, last[0])
+            & nobody_or(priorities, last[1])
+            & nobody_or(priorities, last[2]))
+        & asks_held(priorities, cells, granted, asks)
 }
 
-// First each unit by itself, all places at once; then what is left: no number twice, what each waits for, the arbiter.
+// First each unit by itself, all places at once; then by number, 0 where none is declared: no number twice, and what the arbiter has.
 pub fn sound(card: Card, s: &[u8], store: usize, rows: usize) -> bool
     requires { ⌜ length (now s) ≡ 2048 ⌝ }
     ensures { λ r. ⌜ r ≡ soundIn card (now (s .entry)) store rows ⌝ }
@@ -204,19 +214,17 @@ pub fn sound(card: Card, s: &[u8], store: usize, rows: usize) -> bool
         return false;
     }
     let end = count as usize;
-    let granted = s[803];
-    let asks = state::asks_at(s);
-    let mut seen = [false; 32];
+    let mut once = true;
+    let mut priorities = [0; 32];
+    let mut cells = [0; 32];
     let mut i: usize = 0;
     while i < end {
-        let settings = state::settings_at(s, i);
-        let number = settings.number as usize;
-        if seen[number] | !waits(granted, asks[number], settings, state::at(s, 15, i)) {
-            return false;
-        }
-        seen[number] = true;
+        let number = state::at(s, 0, i) as usize;
+        once = once & (priorities[number] == 0);
+        priorities[number] = state::at(s, 4, i);
+        cells[number] = state::at(s, 15, i);
         i += 1;
     }
     let last = [s[800], s[801], s[802]];
-    arbiter_known(seen, granted, last, asks)
+    once & arbiter_held(priorities, cells, s[803], last, state::asks_at(s))
 }
