@@ -13,43 +13,33 @@ use Rattle.soundness.proofs.given_one.Reads as given-one-reads
 use Rattle.soundness.proofs.rings_four.Reads as rings-four-reads
 use Rattle.soundness.proofs.rings_one.Reads as rings-one-reads
 
--- src/lib.rt:261:9
 at-requires : tie.Need-at-requires
 at-requires c κs = search needs
 
--- src/lib.rt:262:9
 at-requires-2 : tie.Need-at-requires-2
 at-requires-2 c κs = search needs
 
--- src/lib.rt:263:9
 at-requires-3 : tie.Need-at-requires-3
 at-requires-3 c κs = search needs
 
--- src/lib.rt:264:9
 at-requires-4 : tie.Need-at-requires-4
 at-requires-4 c κs = search needs
 
--- src/lib.rt:265:30
 given-one-requires : tie.Need-given-one-requires
 given-one-requires c κs = search needs
 
--- src/lib.rt:265:73
 rings-one-requires : tie.Need-rings-one-requires
 rings-one-requires c κs = search needs
 
--- src/lib.rt:266:31
 given-four-requires : tie.Need-given-four-requires
 given-four-requires c κs = search needs
 
--- src/lib.rt:266:75
 rings-four-requires : tie.Need-rings-four-requires
 rings-four-requires c κs = search needs
 
--- src/lib.rt:267:6
 at-requires-5 : tie.Need-at-requires-5
 at-requires-5 c κs = search needs
 
--- src/lib.rt:257:1
 returns : tie.Need-returns
 returns c =
     let a = c .before .before .before .before .before .before .before .before .before .before .args in

@@ -1,3 +1,4 @@
+-- `soundness::rings_one` meets its contract. Assumes nothing.
 use borrow.Author.Needs.{needs}
 use Rattle.soundness.proofs.rings_one.Statement.{statement}
 use Rattle.soundness.proofs.rings_one.Tie as tie
@@ -7,55 +8,42 @@ use Rattle.state.proofs.at.Reads as at-reads
 use Rattle.soundness.proofs.nothing.Reads as nothing-reads
 use Rattle.soundness.proofs.within.Reads as within-reads
 
--- src/lib.rt:240:12
 at-requires : tie.Need-at-requires
 at-requires c κs = search needs
 
--- src/lib.rt:240:26
 at-requires-2 : tie.Need-at-requires-2
 at-requires-2 c κs = search needs
 
--- src/lib.rt:240:5
 within-requires : tie.Need-within-requires
 within-requires c κs = search needs
 
--- src/lib.rt:241:19
 at-requires-3 : tie.Need-at-requires-3
 at-requires-3 c κs = search needs
 
--- src/lib.rt:241:33
 at-requires-4 : tie.Need-at-requires-4
 at-requires-4 c κs = search needs
 
--- src/lib.rt:241:11
 nothing-requires : tie.Need-nothing-requires
 nothing-requires c κs = search needs
 
--- src/lib.rt:242:19
 at-requires-5 : tie.Need-at-requires-5
 at-requires-5 c κs = search needs
 
--- src/lib.rt:242:33
 at-requires-6 : tie.Need-at-requires-6
 at-requires-6 c κs = search needs
 
--- src/lib.rt:242:11
 nothing-requires-2 : tie.Need-nothing-requires-2
 nothing-requires-2 c κs = search needs
 
--- src/lib.rt:243:19
 at-requires-7 : tie.Need-at-requires-7
 at-requires-7 c κs = search needs
 
--- src/lib.rt:243:33
 at-requires-8 : tie.Need-at-requires-8
 at-requires-8 c κs = search needs
 
--- src/lib.rt:243:11
 nothing-requires-3 : tie.Need-nothing-requires-3
 nothing-requires-3 c κs = search needs
 
--- src/lib.rt:236:1
 returns : tie.Need-returns
 returns c = cc
 

@@ -22,24 +22,19 @@ Inv-loop s number end i₀ i =
 abbrev μ-loop : tie.MeasureT-loop
 μ-loop s number end i₀ i = end - i
 
--- src/lib.rt:145:37
 shared-slice-read-declared-count : tie.Need-shared-slice-read-declared-count Inv-loop μ-loop
 shared-slice-read-declared-count c = search needs
 
--- src/lib.rt:145:9
 declared-count-requires : tie.Need-declared-count-requires Inv-loop μ-loop
 declared-count-requires c κs = search needs
 
--- src/lib.rt:147:5
 loop-holds : tie.Need-loop-holds Inv-loop μ-loop
 unfolding findIn
 loop-holds c = (omega arith, c .declared-count .ensures, refl)
 
--- src/lib.rt:148:12
 at-requires : tie.Need-at-requires Inv-loop μ-loop
 at-requires c κs = search needs
 
--- src/lib.rt:149:13
 returns : tie.Need-returns Inv-loop μ-loop
 returns c =
     let l = c .before .before .before in
@@ -47,15 +42,12 @@ returns c =
     let b = a .s .now in
     sym (l .loop .inv .2 ∙ here (shelfIn b) (units-length b 0 32) (l .loop .i) (a .number) blank (omega arith) (number-at b (l .loop .i) blank (omega arith) ∙ sym (c .before .at .ensures) ∙ c .if1 .taken))
 
--- src/lib.rt:151:9
 add-i : tie.Need-add-i Inv-loop μ-loop
 add-i c = search needs
 
--- src/lib.rt:147:5
 loop-less : tie.Need-loop-less Inv-loop μ-loop
 loop-less c = search needs
 
--- src/lib.rt:147:5
 loop-again : tie.Need-loop-again Inv-loop μ-loop
 loop-again c =
     let l = c .before .before .before in
@@ -66,7 +58,6 @@ loop-again c =
       l .loop .inv .2 ∙ later (shelfIn b) (units-length b 0 32) (l .loop .i) (a .number) blank (omega arith) (λ e. c .if1 .left (c .before .at .ensures ∙ sym (number-at b (l .loop .i) blank (omega arith)) ∙ e)),
     )
 
--- src/lib.rt:141:1
 returns-2 : tie.Need-returns-2 Inv-loop μ-loop
 returns-2 c =
     let l = c .before in
