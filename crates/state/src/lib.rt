@@ -7,12 +7,13 @@ use outlet::Outlet;
 use outlet::Ring;
 use shelf::Found;
 use shelf::Settings;
+use shelf::Unit;
 ghost use mathlib.Core.Path.{_≡_};
 ghost use Prim.Native.Nat.{_+_, _*_, _<_};
 ghost use lib.ListN.{length, getD};
 ghost use Rattle.octets.specs.Octets.{part};
 ghost use Rattle.shelf.specs.Shelves.{declared, findIn};
-ghost use Rattle.state.specs.Bytes.{col, linkOf, modeOf, settingsBy, limitsBy, ringBy, outletBy, placeBy, shelfIn, withRing, withTurn};
+ghost use Rattle.state.specs.Bytes.{col, linkOf, modeOf, settingsBy, limitsBy, ringBy, outletBy, placeBy, unitIn, shelfIn, withRing, withTurn};
 ghost use Rattle.state.specs.Placing.{zeros, freshBytes, linkByte, modeByte, markByte, columnsOf, puts, declaredBy, joined};
 
 pub fn link_of(b: u8) -> Link
@@ -107,6 +108,24 @@ pub fn sessions_at(s: &[u8], i: usize) -> [u8; 32]
     let mut sessions = [0; 32];
     octets::copy(&s[from..end], &mut sessions, 0);
     sessions
+}
+
+// The unit in a place.
+pub fn unit_at(s: &[u8], i: usize) -> Unit
+    requires { ⌜ (length (now s) ≡ 2048) × (i < 32) ⌝ }
+    ensures { λ r. ⌜ r ≡ unitIn (now (s .entry)) i ⌝ }
+{
+    let settings = settings_at(s, i);
+    let inlet = ring_at(s, 14, 15, i);
+    let outlet = outlet_at(s, i);
+    let sessions = sessions_at(s, i);
+    Unit {
+        settings,
+        inlet,
+        outlet,
+        place: place_at(s, i),
+        sessions,
+    }
 }
 
 // A ring is written into its two columns.
