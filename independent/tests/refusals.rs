@@ -253,6 +253,33 @@ fn refused_loads_zero_the_memory_and_touch_nothing_else() {
 }
 
 #[test]
+fn refused_loads_leave_none_of_the_records_before_the_fault() {
+    let good = format!("{HEAD}vp 0 0 b 1 1\ndrop 0 1\npage 0 5 33\nvc 0 5 33 u3 2 9 40\nmc 0 9\n");
+    let faults = [
+        ("nonsense\n", 2, 8),
+        ("drop 1 1\n", 3, 8),
+        ("vc 0 5 33 u3 2 9 40\n", 4, 8),
+        ("vp 0 2 b 1 256\n", 5, 8),
+        ("page 0 2 65535\n", 6, 8),
+        ("unit 1 uni 5 2 one 0 0 100 0\n", 7, 0),
+    ];
+    for (fault, number, line) in faults {
+        let text = tabs(&format!("{good}{fault}"));
+        for length in [376, 400, 262_144, 262_150] {
+            let mut memory = vec![0xEE; length];
+            let mut rows = [Counters::all(9); 2];
+            let (shelf, outcome) = load(Card::Narrow, text.as_bytes(), &mut memory, 8_192, &mut rows);
+            let refused = outcome.map_err(|refusal| (refusal.number(), refusal.line));
+            assert_eq!((refused, shelf), (Err((number, line)), Shelf::fresh(Card::Narrow)));
+            let end = length.min(262_144);
+            assert!(memory[..end].iter().all(|byte| *byte == 0), "{fault}");
+            assert!(memory[end..].iter().all(|byte| *byte == 0xEE), "{fault}");
+            assert_eq!(rows, [Counters::all(9); 2]);
+        }
+    }
+}
+
+#[test]
 fn fresh_shelf_after_refusal_only_numbers_frames() {
     let (mut shelf, outcome) = load(Card::Wide, b"", &mut [], 0, &mut []);
     assert!(outcome.is_err());
