@@ -1,64 +1,41 @@
-//! Requests and grants.
+//! Requests and grants, in a sound state.
 
-/// Stands where no unit was granted.
-pub const NOBODY: u8 = 255;
+use crate::state::{State, ASKS, GRANTED, INLET_COUNT, LAST, NOBODY, NUMBER, PRIORITY, SHELF};
 
-/// Who asks, who was granted last, and who may send in the next frame.
-#[derive(Clone, Copy, Debug, PartialEq, Eq)]
-pub struct Arbiter {
-    /// By unit number the priority it asks at, 0 for none.
-    pub asks: [u8; 32],
-    /// Last unit granted at priorities 1 to 3.
-    pub last: [u8; 3],
-    /// The unit granted in the frame before, which has not sent yet.
-    pub granted: u8,
-}
-
-impl Arbiter {
-    pub fn fresh() -> Self {
-        Arbiter { asks: [0; 32], last: [NOBODY; 3], granted: NOBODY }
-    }
-
-    /// Whether a unit holding so many cells has one besides a granted one.
-    pub fn may_ask(&self, unit: u8, cells: u8) -> bool {
-        // A granted cell has not left yet, but must not ask again.
-        cells > u8::from(self.granted == unit)
-    }
-
-    /// Renews the request of one unit if this frame renews it, else lets it stand.
-    pub fn renew(&mut self, bus: u8, frame: u16, unit: u8, priority: u8, cells: u8) {
-        if is_renewed(bus, frame, unit) {
-            let asks = self.may_ask(unit, cells);
-            self.asks[usize::from(unit)] = if asks { priority } else { 0 };
+impl State {
+    /// Renews the requests of the units that this frame renews; the others stand.
+    pub fn renew(&mut self, frame: u16) {
+        let (bus, granted) = (self.bus(), self.granted());
+        for place in 0..usize::from(self.count()) {
+            let unit = self.columns[NUMBER][place];
+            if is_renewed(bus, frame, unit) {
+                // A granted cell has not left yet, but must not ask again.
+                let asks = self.columns[INLET_COUNT][place] > u8::from(granted == unit);
+                self.columns[ASKS][usize::from(unit)] = if asks { self.columns[PRIORITY][place] } else { 0 };
+            }
         }
     }
 
     /// The unit granted in the frame before, which sends now: its grant is used up.
     pub fn close(&mut self) -> Option<u8> {
-        let granted = std::mem::replace(&mut self.granted, NOBODY);
+        let granted = std::mem::replace(&mut self.columns[SHELF][GRANTED], NOBODY);
         (granted != NOBODY).then_some(granted)
     }
 
     /// Grants one asking unit of the highest priority asking.
-    pub fn grant(&mut self, bus: u8) -> Option<u8> {
-        let (priority, unit) = [3, 2, 1].into_iter().find_map(|priority| {
-            let unit = self.next_asking(bus, priority)?;
-            Some((priority, unit))
-        })?;
-        self.asks[usize::from(unit)] = 0;
-        self.last[usize::from(priority - 1)] = unit;
-        self.granted = unit;
-        Some(unit)
-    }
-
-    /// First asking unit of a priority in cyclic order after the last granted there.
-    fn next_asking(&self, bus: u8, priority: u8) -> Option<u8> {
-        let first = match self.last[usize::from(priority - 1)] {
+    pub fn grant(&mut self) -> Option<u8> {
+        let asks = &self.columns[ASKS];
+        let priority = asks.iter().copied().max().filter(|priority| *priority > 0)?;
+        let last = LAST + usize::from(priority - 1);
+        let first = match self.columns[SHELF][last] {
             NOBODY => 0,
             last => last + 1,
         };
-        let asks = |unit: &u8| self.asks[usize::from(*unit)] == priority;
-        (first..bus).chain(0..first).find(asks)
+        let unit = (first..self.bus()).chain(0..first).find(|unit| asks[usize::from(*unit)] == priority)?;
+        self.columns[ASKS][usize::from(unit)] = 0;
+        self.columns[SHELF][last] = unit;
+        self.columns[SHELF][GRANTED] = unit;
+        Some(unit)
     }
 }
 

@@ -2,12 +2,11 @@
 
 use crate::FRAME_BYTES;
 
-/// How a link reads the top of a cell header.
-#[derive(Clone, Copy, Debug, Default, PartialEq, Eq)]
+/// How a link reads the top of a cell header; the value of each is its byte in the state.
+#[derive(Clone, Copy, Debug, PartialEq, Eq)]
 pub enum Link {
-    #[default]
-    Uni,
-    Nni,
+    Uni = 0,
+    Nni = 1,
 }
 
 impl Link {

@@ -2,8 +2,8 @@
 //!
 //! Translation memory, cell store, counter rows and buffers are lent by the
 //! caller. The memory is written and read byte for byte as document 01 says,
-//! the store as docs/CONSOLE.md says; both, and every field of the shelf, may
-//! have been spoiled.
+//! the store as docs/CONSOLE.md says, the state as docs/STATE.md says; every
+//! byte of all three may have been spoiled.
 
 pub mod arbiter;
 pub mod bench;
@@ -19,6 +19,7 @@ pub mod refusal;
 pub mod ring;
 pub mod shelf;
 pub mod sound;
+pub mod state;
 pub mod table;
 pub mod text;
 pub mod unit;
@@ -27,6 +28,7 @@ pub use counters::Counters;
 pub use load::load;
 pub use refusal::{Refusal, Refused};
 pub use shelf::{Arrival, Hearing, SentFrame, Shelf, Taking};
+pub use state::State;
 
 /// The two cards differ only in how wide a stored outgoing VPI is.
 #[derive(Clone, Copy, Debug, PartialEq, Eq)]

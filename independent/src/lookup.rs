@@ -24,7 +24,7 @@ pub const PAGE: u8 = 3;
 type Record = [u8; RECORD_BYTES];
 
 /// Looks a header up for a unit whose VPI records begin at `place`.
-pub fn lookup(card: Card, memory: &[u8], place: u64, top_vpi: u16, header: Header) -> Answer {
+pub fn lookup(card: Card, memory: &[u8], place: u32, top_vpi: u16, header: Header) -> Answer {
     if header.vpi > top_vpi {
         return Answer::Misrouted;
     }
@@ -40,8 +40,8 @@ pub fn lookup(card: Card, memory: &[u8], place: u64, top_vpi: u16, header: Heade
 }
 
 /// The record of number `index` of those beginning at `place`, if wholly inside.
-fn record_at(memory: &[u8], place: u64, index: u16) -> Option<Record> {
-    let start = place.checked_add(u64::from(index) * RECORD_BYTES as u64)?;
+fn record_at(memory: &[u8], place: u32, index: u16) -> Option<Record> {
+    let start = u64::from(place) + u64::from(index) * RECORD_BYTES as u64;
     let start = usize::try_from(start).ok()?;
     let bytes = memory.get(start..start.checked_add(RECORD_BYTES)?)?;
     bytes.try_into().ok()
@@ -54,7 +54,7 @@ fn in_page(card: Card, memory: &[u8], page: &Record, vci: u16) -> Answer {
     if vci > top_vci {
         return Answer::Misrouted;
     }
-    match record_at(memory, u64::from(place), vci) {
+    match record_at(memory, place, vci) {
         Some(record) if record[0] == ROUTE => route(card, &record, two(&record, 4)),
         _ => Answer::Misrouted,
     }

@@ -6,7 +6,7 @@ use crate::codec::BusCell;
 const SLOT_BYTES: usize = 56;
 
 /// Place of the oldest cell and number of cells; anybody may have spoiled both.
-#[derive(Clone, Copy, Debug, Default, PartialEq, Eq)]
+#[derive(Clone, Copy, Debug, PartialEq, Eq)]
 pub struct Ring {
     pub head: u8,
     pub count: u8,
@@ -22,8 +22,7 @@ pub struct Slots {
 impl Ring {
     /// Whether neither position nor count is past the capacity; without slots both are 0.
     pub fn fits(self, capacity: u8) -> bool {
-        let at_rest = self == Ring::default();
-        at_rest || (self.head < capacity && self.count <= capacity)
+        (self.head < capacity.max(1)) & (self.count <= capacity)
     }
 
     /// Puts a cell behind the youngest.

@@ -1,10 +1,10 @@
 //! The shelf and its events: arrive, frame, hear, take and count.
 
-use crate::arbiter::Arbiter;
 use crate::codec::{parity, Heard};
 use crate::counters::bump;
+use crate::state::State;
 use crate::unit::Unit;
-use crate::{Card, Counters, Refused, CELL_BYTES, FRAME_BYTES, STORE_PER_UNIT, UNITS_MAX};
+use crate::{Card, Counters, Refused, CELL_BYTES, FRAME_BYTES, STORE_PER_UNIT};
 
 /// The fates of an arriving cell.
 #[derive(Clone, Copy, Debug, PartialEq, Eq)]
@@ -71,30 +71,18 @@ pub enum Taking {
     Empty,
 }
 
-/// Up to 32 units on one bus; the fields are open, so that they can be spoiled.
+/// Up to 32 units on one bus.
 #[derive(Clone, Copy, Debug, PartialEq, Eq)]
 pub struct Shelf {
     pub card: Card,
-    pub bus: u8,
-    /// How many of `units` are declared.
-    pub count: u8,
-    /// Number of the next frame.
-    pub frame: u16,
-    pub arbiter: Arbiter,
-    /// The declared ones in `unit` line order, as the counter rows are; the rest are no units.
-    pub units: [Unit; UNITS_MAX],
+    /// Open, so that it can be spoiled.
+    pub state: State,
 }
 
 impl Shelf {
     /// A 16 bus without units.
     pub fn fresh(card: Card) -> Self {
-        let units = [Unit::default(); UNITS_MAX];
-        Shelf { card, bus: 16, count: 0, frame: 0, arbiter: Arbiter::fresh(), units }
-    }
-
-    /// The declared units; the count must be sound.
-    pub fn declared(&self) -> &[Unit] {
-        &self.units[..usize::from(self.count)]
+        Shelf { card, state: State::fresh() }
     }
 
     /// A cell arrives at a unit's line.
@@ -106,10 +94,11 @@ impl Shelf {
         store: &mut [u8],
         rows: &mut [Counters],
     ) -> Result<Arrival, Refused> {
-        let row = self.judge(unit, store.len(), rows.len())?;
+        let place = self.judge(unit, store.len(), rows.len())?;
         let cell: &[u8; CELL_BYTES] = cell.try_into().map_err(|_| Refused::Length)?;
-        let fate = self.units[row].arrive(self.card, cell, memory, part_mut(store, row));
-        count_arrival(&mut rows[row], fate);
+        let card = self.card;
+        let fate = self.unit(place).arrive(card, cell, memory, part_mut(store, place));
+        count_arrival(&mut rows[place], fate);
         Ok(fate)
     }
 
@@ -117,13 +106,11 @@ impl Shelf {
     pub fn frame(&mut self, buffer: &mut [u8], store: &mut [u8], rows: &mut [Counters]) -> Result<SentFrame, Refused> {
         self.judge_state(store.len(), rows.len())?;
         let buffer: &mut [u8; FRAME_BYTES] = buffer.try_into().map_err(|_| Refused::Length)?;
-        let number = self.frame;
-        self.frame = number.wrapping_add(1);
-        for unit in &self.units[..usize::from(self.count)] {
-            self.arbiter.renew(self.bus, number, unit.number, unit.priority, unit.inlet.count);
-        }
+        let number = self.state.frame();
+        self.state.set_frame(number.wrapping_add(1));
+        self.state.renew(number);
         let (sender, copies) = self.send(buffer, store, rows);
-        let granted = self.arbiter.grant(self.bus);
+        let granted = self.state.grant();
         Ok(SentFrame { number, sender, granted, copies })
     }
 
@@ -135,11 +122,11 @@ impl Shelf {
         store: &mut [u8],
         rows: &mut [Counters],
     ) -> Result<Hearing, Refused> {
-        let row = self.judge(unit, store.len(), rows.len())?;
+        let place = self.judge(unit, store.len(), rows.len())?;
         let frame: &[u8; FRAME_BYTES] = frame.try_into().map_err(|_| Refused::Length)?;
         let (cell, heard) = Heard::read(frame);
-        let fate = self.units[row].hear(heard, cell, part_mut(store, row));
-        count_hearing(&mut rows[row], fate);
+        let fate = self.unit(place).hear(heard, cell, part_mut(store, place));
+        count_hearing(&mut rows[place], fate);
         Ok(fate)
     }
 
@@ -151,52 +138,52 @@ impl Shelf {
         store: &[u8],
         rows: &mut [Counters],
     ) -> Result<Taking, Refused> {
-        let row = self.judge(unit, store.len(), rows.len())?;
+        let place = self.judge(unit, store.len(), rows.len())?;
         let buffer: &mut [u8; CELL_BYTES] = buffer.try_into().map_err(|_| Refused::Length)?;
-        let Some(cell) = self.units[row].take(part(store, row)) else {
+        let Some(cell) = self.unit(place).take(part(store, place)) else {
             return Ok(Taking::Empty);
         };
         *buffer = cell;
-        bump(&mut rows[row].taken);
+        bump(&mut rows[place].taken);
         Ok(Taking::Taken)
     }
 
     /// The counters of a unit.
     pub fn count(&self, unit: u32, store_len: usize, rows: &[Counters]) -> Result<Counters, Refused> {
-        let row = self.judge(unit, store_len, rows.len())?;
-        Ok(rows[row])
+        let place = self.judge(unit, store_len, rows.len())?;
+        Ok(rows[place])
     }
 
-    /// Judges State, then Unit; gives the unit's place among the units and counter rows.
+    /// Judges State, then Unit; gives the unit's place, which is that of its counter row too.
     fn judge(&self, unit: u32, store_len: usize, rows: usize) -> Result<usize, Refused> {
         self.judge_state(store_len, rows)?;
-        self.row_of(unit).ok_or(Refused::Unit)
+        self.state.place_of(unit).ok_or(Refused::Unit)
     }
 
     fn judge_state(&self, store_len: usize, rows: usize) -> Result<(), Refused> {
-        match self.is_sound(store_len, rows) {
+        match self.state.is_sound(self.card, store_len, rows) {
             true => Ok(()),
             false => Err(Refused::State),
         }
     }
 
-    fn row_of(&self, unit: u32) -> Option<usize> {
-        self.declared().iter().position(|declared| u32::from(declared.number) == unit)
+    fn unit(&mut self, place: usize) -> Unit<'_> {
+        Unit { state: &mut self.state, place }
     }
 
     /// The unit granted before sends its oldest cell; gives it and the copies queued.
     fn send(&mut self, buffer: &mut [u8; FRAME_BYTES], store: &mut [u8], rows: &mut [Counters]) -> (Option<u8>, usize) {
-        let Some(sender) = self.arbiter.close() else {
+        let Some(sender) = self.state.close() else {
             return (None, 0);
         };
-        let row = self.row_of(u32::from(sender)).expect("in a sound state the unit granted is declared");
-        let cell = self.units[row].send(part(store, row));
+        let place = self.state.place_of(sender.into()).expect("in a sound state the unit granted is declared");
+        let cell = self.unit(place).send(part(store, place));
         buffer[..56].copy_from_slice(&cell);
         buffer[56] = parity(&cell);
-        bump(&mut rows[row].sent);
+        bump(&mut rows[place].sent);
         let (addressed, copies) = self.hear_all(buffer, store, rows);
         if !addressed {
-            bump(&mut rows[row].unheard);
+            bump(&mut rows[place].unheard);
         }
         (Some(sender), copies)
     }
@@ -206,9 +193,9 @@ impl Shelf {
     fn hear_all(&mut self, frame: &[u8; FRAME_BYTES], store: &mut [u8], rows: &mut [Counters]) -> (bool, usize) {
         let (cell, heard) = Heard::read(frame);
         let (mut addressed, mut copies) = (false, 0);
-        let units = &mut self.units[..usize::from(self.count)];
-        for ((unit, row), part) in units.iter_mut().zip(rows).zip(store.chunks_exact_mut(STORE_PER_UNIT)) {
-            let fate = unit.hear(heard, cell, part);
+        let places = 0..usize::from(self.state.count());
+        for ((place, row), part) in places.zip(rows).zip(store.chunks_exact_mut(STORE_PER_UNIT)) {
+            let fate = self.unit(place).hear(heard, cell, part);
             count_hearing(row, fate);
             addressed |= !matches!(fate, Hearing::Damaged | Hearing::Other);
             copies += usize::from(fate == Hearing::Queued);

@@ -1,59 +1,96 @@
-//! Whether a shelf is in a state that a table and events could have left.
+//! Which bytes are a state that a table and events could have left.
 
-use crate::arbiter::{Arbiter, NOBODY};
-use crate::{Shelf, STORE_PER_UNIT, UNITS_MAX};
+use crate::state::{State, ASKS, INLET_COUNT, LAST, LINK, MARK, MODE, NOBODY, NUMBER, PRIORITY, SHELF, TOP_HIGH};
+use crate::{Card, INLET_CELLS, STORE_PER_UNIT, UNITS_MAX};
 
 /// Whether store and counter rows are as large as Store asks.
 pub fn store_suffices(units: usize, store_len: usize, rows: usize) -> bool {
     store_len >= units * STORE_PER_UNIT && rows >= units
 }
 
-/// What the grants have to fit: a declared unit's priority and the cells in its inlet.
-#[derive(Clone, Copy)]
-struct Member {
-    priority: u8,
-    cells: u8,
-}
+/// The places as the bytes they are compared with.
+const PLACES: [u8; UNITS_MAX] = {
+    let mut places = [0; UNITS_MAX];
+    let mut place = 0;
+    while place < UNITS_MAX {
+        places[place] = place as u8;
+        place += 1;
+    }
+    places
+};
 
-/// The declared units by number.
-type Members = [Option<Member>; UNITS_MAX];
-
-impl Shelf {
+impl State {
     /// False is refused as State.
-    pub fn is_sound(&self, store_len: usize, rows: usize) -> bool {
-        let count = usize::from(self.count);
-        let bus_fits = self.bus == 16 || self.bus == 32;
+    pub fn is_sound(&self, card: Card, store_len: usize, rows: usize) -> bool {
+        let count = usize::from(self.count());
+        let bus_fits = self.bus() == 16 || self.bus() == 32;
         bus_fits
             && count <= UNITS_MAX
             && store_suffices(count, store_len, rows)
-            && self.members().is_some_and(|members| self.arbiter.fits(&members))
+            && self.units_fit(card)
+            && self.grants_fit()
     }
 
-    /// None if a unit is not sound by itself, not below the bus number, or repeated.
-    fn members(&self) -> Option<Members> {
-        let mut members = [None; UNITS_MAX];
-        for unit in self.declared() {
-            let member = Member { priority: unit.priority, cells: unit.inlet.count };
-            let below = unit.number < self.bus;
-            let repeated = members.get_mut(usize::from(unit.number))?.replace(member).is_some();
-            if !below || repeated || !unit.is_sound(self.card) {
-                return None;
+    /// Whether each declared unit is good by itself.
+    fn units_fit(&self, card: Card) -> bool {
+        let highest_link = match card {
+            Card::Narrow => 0,
+            Card::Wide => 1,
+        };
+        // All places, none skipped: so the compiler judges sixteen of them at once.
+        (0..UNITS_MAX).fold(true, |fit, place| {
+            let declared = PLACES[place] < self.count();
+            fit & (!declared | self.unit_fits(place, highest_link))
+        })
+    }
+
+    fn unit_fits(&self, place: usize, highest_link: u8) -> bool {
+        let byte = |column: usize| self.columns[column][place];
+        let settings = self.settings(place);
+        // A top VPI to 255 has 0 in its high byte, one to 4,095 at most 15.
+        let highest_top = if byte(LINK) == 0 { 0 } else { 15 };
+        let mut fits = byte(NUMBER) < self.bus();
+        fits &= byte(LINK) <= highest_link;
+        fits &= byte(TOP_HIGH) <= highest_top;
+        fits &= (byte(PRIORITY) >= 1) & (byte(PRIORITY) <= 3);
+        fits &= byte(MODE) <= 1;
+        fits &= byte(MARK) <= 1;
+        fits &= settings.are_good();
+        fits &= self.inlet(place).fits(INLET_CELLS);
+        for (queue, capacity) in settings.capacities().into_iter().enumerate() {
+            fits &= self.queue(place, queue).fits(capacity);
+        }
+        fits
+    }
+
+    /// Whether no unit is repeated, and the declared units could have the open grant, the last grants and the
+    /// requests; each must be good by itself.
+    fn grants_fit(&self) -> bool {
+        // By number: a unit's priority and the cells in its inlet, 0 where none is declared.
+        let (mut priorities, mut cells) = ([0; UNITS_MAX], [0; UNITS_MAX]);
+        for (place, number) in self.numbers().iter().enumerate() {
+            priorities[usize::from(*number)] = self.columns[PRIORITY][place];
+            cells[usize::from(*number)] = self.columns[INLET_COUNT][place];
+        }
+        let granted = self.granted();
+        if granted != NOBODY {
+            match cells.get_mut(usize::from(granted)) {
+                // The granted cell has not left yet, but must not ask again.
+                Some(cells) if *cells > 0 => *cells -= 1,
+                _ => return false,
             }
         }
-        Some(members)
-    }
-}
-
-impl Arbiter {
-    /// Whether these units could have the open grant, the last grants and the requests.
-    fn fits(&self, members: &Members) -> bool {
-        let member = |unit: u8| members.get(usize::from(unit)).copied().flatten();
-        let grant_fits = self.granted == NOBODY || member(self.granted).is_some_and(|member| member.cells > 0);
-        let last_fits = |last: &u8| *last == NOBODY || member(*last).is_some();
-        let ask_fits = |(unit, asked): (usize, &u8)| {
-            let could_ask = |member: Member| *asked == member.priority && self.may_ask(unit as u8, member.cells);
-            *asked == 0 || members[unit].is_some_and(could_ask)
-        };
-        grant_fits && self.last.iter().all(last_fits) && self.asks.iter().enumerate().all(ask_fits)
+        let asks = &self.columns[ASKS];
+        let (mut units, mut asks_fit) = (0_u8, true);
+        for number in 0..UNITS_MAX {
+            let may_ask = (asks[number] == priorities[number]) & (cells[number] > 0);
+            asks_fit &= (asks[number] == 0) | may_ask;
+            // At most 32, so nothing wraps; but looking for it would judge them one by one.
+            units = units.wrapping_add(u8::from(priorities[number] != 0));
+        }
+        let is_declared = |unit: u8| priorities.get(usize::from(unit)).is_some_and(|priority| *priority != 0);
+        let last = &self.columns[SHELF][LAST..LAST + 3];
+        // Repeated units have fewer numbers than places.
+        units == self.count() && asks_fit && last.iter().all(|last| *last == NOBODY || is_declared(*last))
     }
 }

@@ -36,10 +36,18 @@ pub enum Line {
     Mc { unit: u8, session: u8 },
 }
 
+/// Fields of the longest line, the `unit` line, with its word.
+const FIELDS_MAX: usize = 10;
+
 /// Reads a line without its newline; None is a fault of form.
 pub fn parse_line(line: &[u8]) -> Option<Line> {
-    let fields: Vec<&[u8]> = line.split(|byte| *byte == b'\t').collect();
-    match fields[..] {
+    let mut fields = [&[][..]; FIELDS_MAX];
+    let mut count = 0;
+    for field in line.split(|byte| *byte == b'\t') {
+        *fields.get_mut(count)? = field;
+        count += 1;
+    }
+    match fields[..count] {
         [b"bus", number] => bus(number),
         [b"unit", ref rest @ ..] => unit_line(rest).map(Line::Unit),
         [b"vp", unit, vpi, target, class, out_vpi] => {

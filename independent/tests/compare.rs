@@ -4,7 +4,8 @@ use std::io;
 use std::process::Command;
 
 use independent::compare::program::{Feed, Other, Own, Program, Run};
-use independent::compare::script::table_of;
+use independent::compare::script::{differing_bytes, poke_of, table_of, Script};
+use independent::compare::settings::{name_of, set, JUDGED, NOT_JUDGED};
 use independent::compare::shrink::shrink;
 use independent::compare::tables::first_wide_line;
 use independent::compare::tally::Tally;
@@ -138,12 +139,136 @@ fn a_wrong_refusal_is_found_and_shortened() {
 fn a_fault_of_long_runs_is_found_and_shortened() {
     // Wraps the frame number one too early.
     let line = |line: &[u8]| match line {
-        b"state\tframe\t0\t65535" => b"state\tframe\t0\t0".to_vec(),
+        b"poke\tstate\t806\tFFFF" => b"poke\tstate\t806\t0000".to_vec(),
         _ => line.to_vec(),
     };
     let faulty = Faulty { line, answer: |answer, _| answer };
     let finding = compare(&faulty, &Own, 40, 1).1.expect("a fault");
     assert!(finding.script.len() <= 2, "{:?}", text(&finding.script));
+}
+
+/// A poke of the state with its bytes changed, each by its place.
+fn poked(line: &[u8], change: impl Fn(usize, u8) -> u8) -> Vec<u8> {
+    let Some((first, bytes)) = poke_of(line) else {
+        return line.to_vec();
+    };
+    let bytes: Vec<u8> = bytes.iter().enumerate().map(|(index, byte)| change(first + index, *byte)).collect();
+    let mut script = Script::default();
+    script.poke(first, &bytes);
+    script.lines.remove(0)
+}
+
+/// An answer to `show state` with its bytes changed, each by its place.
+fn shown(answer: Vec<u8>, change: impl Fn(usize, u8) -> u8) -> Vec<u8> {
+    let Some(bytes) = answer.strip_prefix(b"show\tstate\t").and_then(hex_bytes) else {
+        return answer;
+    };
+    let bytes: Vec<u8> = bytes.iter().enumerate().map(|(at, byte)| change(at, *byte)).collect();
+    let mut changed = b"show\tstate\t".to_vec();
+    push_hex(&mut changed, &bytes);
+    changed
+}
+
+type ChangeLine = fn(&[u8]) -> Vec<u8>;
+type ChangeAnswer = fn(Vec<u8>, narrow: bool) -> Vec<u8>;
+
+#[test]
+fn faults_in_bytes_of_the_state_are_found_and_shortened() {
+    let same: ChangeAnswer = |answer, _| answer;
+    let lines: [(&str, ChangeLine); 9] = [
+        ("link above 1 is 1", |line| poked(line, |at, byte| if at / 32 == 1 { byte.min(1) } else { byte })),
+        ("mode above 1 is 1", |line| poked(line, |at, byte| if at / 32 == 5 { byte.min(1) } else { byte })),
+        ("mark above 1 is 1", |line| poked(line, |at, byte| if at / 32 == 9 { byte.min(1) } else { byte })),
+        ("sessions the other way", |line| poked(line, |at, byte| if at < 1_024 { byte } else { byte.reverse_bits() })),
+        ("33 units are 32", |line| poked(line, |at, byte| if at == 805 { byte.min(32) } else { byte })),
+        ("last 254 is nobody", |line| poked(line, |at, byte| if at == 802 && byte == 254 { 255 } else { byte })),
+        ("queue 3 of mode one", |line| poked(line, |at, byte| if at == 736 && byte == 1 { 0 } else { byte })),
+        ("a free byte forgotten", |line| poked(line, |at, byte| if at == 1_023 { 0 } else { byte })),
+        ("no unit above 255", |line| match line {
+            b"show\tunit\t256" => b"show\tunit\t0".to_vec(),
+            _ => line.to_vec(),
+        }),
+    ];
+    let answers: [(&str, ChangeAnswer); 4] = [
+        ("number of the last place", |answer, _| shown(answer, |at, byte| if at == 31 { 0 } else { byte })),
+        ("place 2 not kept", |answer, _| shown(answer, |at, byte| if at < 768 && at % 32 == 2 { 0 } else { byte })),
+        ("low byte of the frame", |answer, _| shown(answer, |at, byte| if at == 807 { byte & 127 } else { byte })),
+        ("a word for a number", |answer, _| {
+            let text = String::from_utf8_lossy(&answer).replace("\tmode\t255\t", "\tmode\tfour\t");
+            text.into_bytes()
+        }),
+    ];
+    let same_line: ChangeLine = <[u8]>::to_vec;
+    let faults = lines.map(|(name, line)| (name, line, same)).into_iter();
+    for (name, line, answer) in faults.chain(answers.map(|(name, answer)| (name, same_line, answer))) {
+        let finding = compare(&Faulty { line, answer }, &Own, 0, 1).1.unwrap_or_else(|| panic!("{name} is not found"));
+        // Store, rows, a table, three pokes, and what shows it.
+        assert!(finding.script.len() <= 7, "{name}: {:?}", text(&finding.script));
+    }
+}
+
+#[test]
+fn a_long_poke_is_cut_to_the_bytes_needed() {
+    let mut script = Script::default();
+    script.say("card wide");
+    script.poke(0, &[7; 2_048]);
+    script.say("frame 57");
+    // Needs bytes 3, 4 and 2,000 of the poke, and the frame after it.
+    let shows = |lines: &[Vec<u8>]| {
+        let mut bytes = [0; 2_048];
+        for (at, poked) in lines.iter().filter_map(|line| poke_of(line)) {
+            bytes[at..at + poked.len()].copy_from_slice(&poked);
+        }
+        [3, 4, 2_000].iter().all(|at| bytes[*at] == 7) && lines.last().is_some_and(|line| line == b"frame\t57")
+    };
+    let shorter = shrink(script.lines, &mut |lines| shows(lines));
+    assert_eq!(text(&shorter), ["poke state 3 0707", "poke state 2000 07", "frame 57"]);
+    // A poke without bytes stays as it is if it is needed.
+    let empty = vec![b"poke\tstate\t2049\t".to_vec()];
+    assert_eq!(shrink(empty.clone(), &mut |lines| lines == empty), empty);
+}
+
+#[test]
+fn pokes_by_name() {
+    let pokes = |setting: &str| {
+        let mut script = Script::default();
+        set(&mut script, setting);
+        text(&script.lines)
+    };
+    assert_eq!(pokes("number 31 255"), ["poke state 31 FF"]);
+    assert_eq!(pokes("top 1 4095"), ["poke state 65 0F", "poke state 97 FF"]);
+    let place = ["poke state 322 01", "poke state 354 02", "poke state 386 03", "poke state 418 04"];
+    assert_eq!(pokes("place 2 16909060"), place);
+    assert_eq!(pokes("queuehead 6 48"), ["poke state 577 30"]);
+    assert_eq!(pokes("queuecount 127 1"), ["poke state 767 01"]);
+    assert_eq!(pokes("asks 9 3"), ["poke state 777 03"]);
+    assert_eq!(pokes("last 2 9"), ["poke state 802 09"]);
+    assert_eq!(pokes("granted 0 4"), ["poke state 803 04"]);
+    assert_eq!(pokes("bus 0 32"), ["poke state 804 20"]);
+    assert_eq!(pokes("count 0 33"), ["poke state 805 21"]);
+    assert_eq!(pokes("frame 0 65534"), ["poke state 806 FFFE"]);
+    assert_eq!(pokes("byte 2047 1"), ["poke state 2047 01"]);
+}
+
+#[test]
+fn every_byte_has_a_name() {
+    let names: Vec<&str> = (0..2_048).map(name_of).collect();
+    assert!(names.iter().all(|name| JUDGED.contains(name) != NOT_JUDGED.contains(name)));
+    assert!(JUDGED.iter().chain(&NOT_JUDGED).all(|name| names.contains(name)));
+    let shelf = ["last 1", "last 2", "last 3", "granted", "bus", "count", "frame high", "frame low", "free"];
+    assert_eq!(names[800..809], shelf);
+    assert_eq!((names[767], names[768], names[799]), ("queuecount 3", "asks", "asks"));
+    assert_eq!((names[1_023], names[1_024], names[2_047], name_of(2_048)), ("free", "sessions", "sessions", "nothing"));
+}
+
+#[test]
+fn differing_bytes_of_two_states() {
+    let differ = |first: &str, second: &str| {
+        differing_bytes(first.replace(' ', "\t").as_bytes(), second.replace(' ', "\t").as_bytes())
+    };
+    assert_eq!(differ("show state 00AA01", "show state 00AB02"), [(1, [0xAA, 0xAB]), (2, [1, 2])]);
+    assert_eq!(differ("show state 00", "show state 00"), []);
+    assert_eq!(differ("show unit 3", "show state 00"), []);
 }
 
 #[test]
@@ -200,6 +325,9 @@ fn the_binary() {
         let output = Command::new(env!("CARGO_BIN_EXE_compare")).args(arguments).output().expect("it starts");
         (output.status.code(), String::from_utf8(output.stdout).expect("text"))
     };
+    // A full run shows every kind of answer and every byte of the state, or it does not end well.
+    let (code, said) = run(&["--self"]);
+    assert_eq!(code, Some(0), "{said}");
     let (code, said) = run(&["--self", "--seed", "9", "--rounds", "1"]);
     let last = said.lines().last().expect("a last line");
     assert!(last.starts_with("compared: ") && last.ends_with(", 0 disagreements"), "{last}");

@@ -62,12 +62,13 @@ const BAD: &[&str] = &[
     "arrive 0", "arrive 00 00", "arrive x 00", "arrive  00", "arrive 0 0", "hear 0", "hear 0 0", "frame",
     "frame 1001", "frame ", "frame 057", "take 0", "take 0 1001", "take -1 53", "count", "count ", "count +1",
     "poke memory 0 0", "poke rows 0 00", "poke memory 4000 00", "poke memory 3999 0000", "poke store x 00",
-    "poke memory 18446744073709551615 00", "poke memory 99999999999999999999 00", "state", "state bus 0",
-    "state bus 0 256", "state bus 1 16", "state bus 0 016", "state Bus 0 16", "state frame 0 65536",
-    "state last 3 0", "state asks 32 0", "state number 32 0", "state link 0 2", "state mode 0 2",
-    "state mark 0 2", "state top 0 65536", "state place 0 4294967296", "state queuehead 128 0",
-    "state queuecount 128 0", "state sessions 128 0", "state sessions 0 18446744073709551616",
-    "state sessions 0 99999999999999999999999", "state bus 0 16 0", "show", "show all", "show rows 0",
+    "poke memory 18446744073709551615 00", "poke memory 99999999999999999999 00", "poke shelf 0 00",
+    "poke state", "poke state 0", "poke state 0 0", "poke state 0 0G", "poke state 00 00", "poke state -1 00",
+    "poke state  00", "poke state 0 00 00", "poke state 2048 00", "poke state 2047 0000", "poke state 4096 00",
+    "poke state 18446744073709551615 00", "poke state 18446744073709551616 00", "poke State 0 00",
+    "lend state 2048 00", "state", "state bus 0 16", "state frame 0 0", "show", "show all", "show rows 0",
+    "show shelf", "show state 0", "show state ", "show unit", "show unit ", "show unit x", "show unit 00",
+    "show unit -1", "show unit 0 0", "show units 0",
 ];
 
 #[test]
@@ -137,15 +138,16 @@ fn refusals_1_to_7_zero_the_memory_and_touch_nothing_else() {
     let zeroed = sum(&[vec![0; 262_144], vec![0xAB; 37_856]].concat());
     for (text, refused) in texts {
         let mut desk = Desk::default();
-        let fresh = desk.ask("show shelf");
+        let fresh = desk.ask("show state");
         for line in ["card narrow", "lend memory 300000 AB", "lend store 8192 CD", "lend rows 1 5"] {
             desk.ask(line);
         }
         assert_eq!(desk.load(head), "load ok 48");
         desk.ask("hear 0 00");
-        for line in ["lend memory 300000 AB", "lend rows 1 5", "state frame 0 9"] {
+        for line in ["lend memory 300000 AB", "lend rows 1 5"] {
             desk.ask(line);
         }
+        desk.set("frame 0 9");
         let before = desk.all();
         assert_eq!(desk.load(&text), format!("load refused {refused}"));
         let after = desk.all();
@@ -184,7 +186,7 @@ fn refusals_8_to_10_in_that_order_change_nothing() {
     assert_eq!(ask_all(&mut desk, "3", 52, 58)[..4], said([10; 5], 52, 58)[..4]);
     assert_eq!(ask_all(&mut desk, "3", 1_000, 1_000)[2..4], said([10; 5], 1_000, 1_000)[2..4]);
     assert_eq!(desk.all(), before);
-    desk.ask("state bus 0 17");
+    desk.set("bus 0 17");
     let before = desk.all();
     assert_eq!(ask_all(&mut desk, "7", 0, 0), said([8; 5], 0, 0));
     assert_eq!(ask_all(&mut desk, "3", 53, 57), said([8; 5], 53, 57));
@@ -202,13 +204,13 @@ fn lent_300000_bytes_and_40_rows() {
     assert_eq!(desk.ask("show rows"), format!("show rows 40{}", " 4294967295".repeat(520)));
     assert_eq!(desk.load(LISTING_TABLE), "load ok 328");
     // A record past 262,144 bytes is found when it lies inside the lent memory.
-    desk.ask("state place 0 299952");
+    desk.set("place 0 299952");
     desk.ask("poke memory 299992 0210500000000001");
     let bytes = hex(&cell(header(5, 33, 0), 1));
     assert_eq!(desk.ask(&format!("arrive 0 {bytes}")), "arrive 0 queued");
-    desk.ask("state place 0 299953");
+    desk.set("place 0 299953");
     assert_eq!(desk.ask(&format!("arrive 0 {bytes}")), "arrive 0 misrouted");
-    desk.ask("state place 0 4294967295");
+    desk.set("place 0 4294967295");
     assert_eq!(desk.ask(&format!("arrive 0 {bytes}")), "arrive 0 misrouted");
 }
 
@@ -229,77 +231,17 @@ fn rows_beyond_the_declared_units_are_untouched() {
 #[test]
 fn the_card_may_change_under_a_shelf() {
     let mut desk = listing();
-    let shelf = desk.ask("show shelf");
+    let shelf = desk.ask("show state");
     desk.ask("card narrow");
-    assert_eq!(desk.ask("show shelf"), shelf);
+    assert_eq!(desk.ask("show state"), shelf);
     // The narrow card reads the outgoing VPI of a record in byte 3, where the wide one wrote 0.
     desk.ask(&format!("arrive 0 {}", hex(&cell([0, 0x50, 2, 0x10], 0))));
     desk.ask("frame 57");
     assert_eq!(desk.ask("frame 57"), format!("frame 1 0 - 1 {}", hex(&frame(to_unit(3, 2), header(0, 40, 0), 0))));
-    desk.ask("state bus 0 32");
+    desk.set("bus 0 32");
     assert_eq!(desk.ask("count 3").split(' ').nth(1), Some("3"));
-    desk.ask("state link 1 1");
+    desk.set("link 1 1");
     assert_eq!(desk.ask("count 3"), "count refused 8");
     desk.ask("card wide");
     assert_eq!(desk.ask("count 3").split(' ').nth(1), Some("3"));
-}
-
-#[test]
-fn fields_of_a_fresh_and_of_a_loaded_shelf() {
-    let fresh_unit = " 0".repeat(24);
-    let mut desk = Desk::default();
-    let head = " 255 255 255".to_string() + &" 0".repeat(32);
-    assert_eq!(desk.ask("show shelf"), format!("show shelf 16 0 255 0{head}{}", fresh_unit.repeat(32)));
-    let table = "bus 32\nunit 9 nni 300 2 one 0 0 100 1\nunit 3 uni 7 1 four 40 30 20 0\n\
-        mc 3 0\nmc 3 63\nmc 3 64\nmc 3 255\n";
-    let mut desk = Desk::new("wide", table);
-    let first = " 9 1 300 2 0 0 0 100 1".to_string() + &" 0".repeat(10) + " 0" + " 0 0 0 0";
-    let second = " 3 0 7 1 1 40 30 20 0".to_string()
-        + &" 0".repeat(10)
-        + " 2408"
-        + " 9223372036854775809 1 0 9223372036854775808";
-    let rest = fresh_unit.repeat(30);
-    assert_eq!(desk.ask("show shelf"), format!("show shelf 32 2 255 0{head}{first}{second}{rest}"));
-}
-
-#[test]
-fn every_field_is_set_in_its_place() {
-    // The places of the first units' fields in the list of numbers.
-    let unit = |place: usize, index: usize| 4 + 3 + 32 + 24 * place + index;
-    let cases = [
-        ("bus 0", 0, 255),
-        ("count 0", 1, 254),
-        ("granted 0", 2, 253),
-        ("frame 0", 3, 65_535),
-        ("last 2", 6, 200),
-        ("asks 31", 38, 201),
-        ("number 31", unit(31, 0), 202),
-        ("link 1", unit(1, 1), 1),
-        ("top 2", unit(2, 2), 65_535),
-        ("priority 3", unit(3, 3), 203),
-        ("mode 4", unit(4, 4), 1),
-        ("cbrlength 5", unit(5, 5), 204),
-        ("cbrlimit 6", unit(6, 6), 205),
-        ("vbrlimit 7", unit(7, 7), 206),
-        ("mark 8", unit(8, 8), 1),
-        ("queuehead 0", unit(0, 9), 207),
-        ("queuecount 0", unit(0, 10), 208),
-        ("queuehead 127", unit(31, 15), 209),
-        ("queuecount 126", unit(31, 14), 210),
-        ("inlethead 9", unit(9, 17), 211),
-        ("inletcount 10", unit(10, 18), 212),
-        ("place 11", unit(11, 19), 4_294_967_295),
-        ("sessions 127", unit(31, 23), u64::MAX),
-        ("sessions 5", unit(1, 21), 213),
-    ];
-    let mut desk = Desk::default();
-    let shown = |desk: &mut Desk| -> Vec<u64> {
-        desk.ask("show shelf").split(' ').skip(2).map(|field| field.parse().expect("a number")).collect()
-    };
-    let mut expected = shown(&mut desk);
-    for (field, index, value) in cases {
-        assert_eq!(desk.ask(&format!("state {field} {value}")), "state ok", "{field}");
-        expected[index] = value;
-        assert_eq!(shown(&mut desk), expected, "{field}");
-    }
 }

@@ -245,10 +245,37 @@ fn refused_loads_zero_the_memory_and_touch_nothing_else() {
         let (shelf, outcome) = load(Card::Narrow, text.as_bytes(), &mut memory, 8_191, &mut rows);
         assert_eq!(outcome.map_err(|refusal| refusal.number()), Err(number));
         assert_eq!(shelf, Shelf::fresh(Card::Narrow));
-        assert_eq!((shelf.bus, shelf.count), (16, 0));
+        assert_eq!((shelf.state.bus(), shelf.state.count()), (16, 0));
         assert!(memory[..262_144].iter().all(|byte| *byte == 0));
         assert_eq!(memory[262_144], 0xEE);
         assert!(rows.iter().all(|row| row.arrived == 9));
+    }
+}
+
+#[test]
+fn refused_loads_leave_none_of_the_records_before_the_fault() {
+    let good = format!("{HEAD}vp 0 0 b 1 1\ndrop 0 1\npage 0 5 33\nvc 0 5 33 u3 2 9 40\nmc 0 9\n");
+    let faults = [
+        ("nonsense\n", 2, 8),
+        ("drop 1 1\n", 3, 8),
+        ("vc 0 5 33 u3 2 9 40\n", 4, 8),
+        ("vp 0 2 b 1 256\n", 5, 8),
+        ("page 0 2 65535\n", 6, 8),
+        ("unit 1 uni 5 2 one 0 0 100 0\n", 7, 0),
+    ];
+    for (fault, number, line) in faults {
+        let text = tabs(&format!("{good}{fault}"));
+        for length in [376, 400, 262_144, 262_150] {
+            let mut memory = vec![0xEE; length];
+            let mut rows = [Counters::all(9); 2];
+            let (shelf, outcome) = load(Card::Narrow, text.as_bytes(), &mut memory, 8_192, &mut rows);
+            let refused = outcome.map_err(|refusal| (refusal.number(), refusal.line));
+            assert_eq!((refused, shelf), (Err((number, line)), Shelf::fresh(Card::Narrow)));
+            let end = length.min(262_144);
+            assert!(memory[..end].iter().all(|byte| *byte == 0), "{fault}");
+            assert!(memory[end..].iter().all(|byte| *byte == 0xEE), "{fault}");
+            assert_eq!(rows, [Counters::all(9); 2]);
+        }
     }
 }
 
@@ -270,8 +297,7 @@ fn good_load_zeroes_its_rows_and_no_others() {
     let mut rows = [Counters { taken: 9, ..Counters::default() }; 3];
     let (shelf, outcome) = load(Card::Wide, tabs(LISTING_TABLE).as_bytes(), &mut [0; 328], 16_384, &mut rows);
     assert_eq!(outcome, Ok(328));
-    assert_eq!((shelf.bus, shelf.declared().len()), (16, 2));
-    assert!(shelf.declared().iter().map(|unit| unit.number).eq([0, 3]));
+    assert_eq!((shelf.state.bus(), shelf.state.numbers()), (16, &[0, 3][..]));
     assert_eq!(rows.map(|row| row.taken), [0, 0, 9]);
 }
 

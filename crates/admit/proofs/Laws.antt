@@ -12,7 +12,7 @@ use Rattle.outlet.specs.declared.Mode.the-variants.{One}
 use Rattle.card.specs.declared.Card.{Card}
 use Rattle.shelf.specs.Shelves.{declared, blank, findIn}
 use Rattle.shelf.specs.declared.Unit as U
-use Rattle.shelf.specs.declared.Shelf.{Shelf}
+use Rattle.shelf.specs.Shelf.{Shelf}
 use Rattle.shelf.specs.declared.Found as F
 use Rattle.shelf.specs.declared.Found.the-variants as found
 use Rattle.shelf.proofs.Finding.{declared-at, find-at}
@@ -50,6 +50,17 @@ module _ {X : Type 0} (inside outside : ℕ → X) (d : A.Admitted) where
   pub decided-refused : (n : ℕ) → d ≡ Refused n → outside n ≡ decided d inside outside
   unfolding decided
   decided-refused n e = rw e
+
+-- what holds of it either way; and of two outcomes of one way in
+pub decided-all : {X : Type 0} (P : X → Type 0) (inside outside : ℕ → X) (d : A.Admitted) → ((i : ℕ) → d ≡ At i → P (inside i)) → ((n : ℕ) → P (outside n)) → P (decided d inside outside)
+unfolding decided
+decided-all P inside outside (At i) p q = p i refl
+decided-all P inside outside (Refused n) p q = q n
+
+pub decided-both : {X Y Z : Type 0} (f : X → Z) (g : Y → Z) (inside outside : ℕ → X) (within without : ℕ → Y) (d : A.Admitted) → ((i : ℕ) → d ≡ At i → f (inside i) ≡ g (within i)) → ((n : ℕ) → f (outside n) ≡ g (without n)) → f (decided d inside outside) ≡ g (decided d within without)
+unfolding decided
+decided-both f g inside outside within without (At i) p q = p i refl
+decided-both f g inside outside within without (Refused n) p q = q n
 
 -- a unit that a sound shelf has
 module _ (card : Card) (shelf : Shelf) (store rows : ℕ) where

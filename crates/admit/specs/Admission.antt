@@ -2,6 +2,7 @@
 use Prim.Native.Nat.{ℕ, _<_}
 use mathlib.Core.Path.{_≡_}
 use mathlib.Core.Bool.{Bool, true, cond}
+use mathlib.Core.List.{List}
 use lib.ListN.{getD, set}
 use Rattle.card.specs.declared.Card.{Card}
 use Rattle.outlet.specs.Outlets.{Given, RingFits, RingsFit}
@@ -9,10 +10,12 @@ use Rattle.outlet.specs.declared.Ring.{Ring}
 use Rattle.store.specs.Places.{Inside}
 use Rattle.shelf.specs.Shelves.{declared, blank, findIn}
 use Rattle.shelf.specs.declared.Unit as U
-use Rattle.shelf.specs.declared.Shelf.{Shelf}
+use Rattle.shelf.specs.Shelf.{Shelf}
 use Rattle.shelf.specs.declared.Found as F
 use Rattle.shelf.specs.declared.Found.the-variants as found
+use Rattle.state.specs.Bytes.{shelfIn}
 use Rattle.soundness.specs.State.{soundOf}
+use Rattle.soundness.specs.Soundings.{formedAll}
 use Rattle.admit.specs.declared.Admitted as A
 use Rattle.admit.specs.declared.Admitted.the-variants.{At, Refused}
 use Rattle.admit.specs.declared.Place.{Place}
@@ -26,6 +29,14 @@ atUnit found.Nothing right = Refused 9
 unfoldable pub admitted : Card → Shelf → ℕ → ℕ → ℕ → Bool → A.Admitted
 admitted card shelf store rows unit right = cond (soundOf card shelf store rows) (atUnit (findIn (declared shelf) unit) right) (Refused 8)
 
+-- the same of a state in lent bytes: bytes that are no link, no mode or no mark, where they say one of a declared unit, are no state
+unfoldable pub admittedIn : Card → List ℕ → ℕ → ℕ → ℕ → Bool → A.Admitted
+admittedIn card b store rows unit right = cond (formedAll b) (admitted card (shelfIn b) store rows unit right) (Refused 8)
+
+-- what comes of lent bytes that are a state, and of others
+abbrev pub formedOr : {X : Type 0} → List ℕ → X → X → X
+formedOr b good bad = cond (formedAll b) good bad
+
 -- what an event does where it is let in at a place, and where it is refused with a number
 unfoldable pub decided : {X : Type 0} → A.Admitted → (ℕ → X) → (ℕ → X) → X
 decided (At place) inside outside = inside place
@@ -38,6 +49,9 @@ toldApart (Refused number) = record { number = number; at = 0 }
 
 abbrev pub counted : Card → Shelf → ℕ → ℕ → ℕ → Place
 counted card shelf store rows unit = toldApart (admitted card shelf store rows unit true)
+
+abbrev pub countedIn : Card → List ℕ → ℕ → ℕ → ℕ → Place
+countedIn card b store rows unit = toldApart (admittedIn card b store rows unit true)
 
 -- the unit in a place, and the shelf with another unit there
 abbrev pub unitAt : Shelf → ℕ → U.Unit

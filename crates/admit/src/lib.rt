@@ -1,10 +1,9 @@
 // What every event asks before anything else: a sound state, a declared unit, a slice of the right length.
 use card::Card;
 use shelf::Found;
-use shelf::Shelf;
 ghost use mathlib.Core.Path.{_≡_};
 ghost use lib.ListN.{length};
-ghost use Rattle.admit.specs.Admission.{admitted, toldApart, counted as countedOf};
+ghost use Rattle.admit.specs.Admission.{admittedIn, toldApart, countedIn};
 
 // The unit stands in this place, or the event is refused with this number.
 pub enum Admitted {
@@ -19,13 +18,14 @@ pub struct Place {
 }
 
 // Whether an event at the unit with this number is let in; whether its slice has the right length.
-pub fn admit(card: Card, shelf: Shelf, store: usize, rows: usize, unit: u8, right: bool) -> Admitted
-    ensures { λ r. ⌜ r ≡ admitted card shelf store rows unit right ⌝ }
+pub fn admit(card: Card, s: &[u8], store: usize, rows: usize, unit: u8, right: bool) -> Admitted
+    requires { ⌜ length (now s) ≡ 2048 ⌝ }
+    ensures { λ r. ⌜ r ≡ admittedIn card (now (s .entry)) store rows unit right ⌝ }
 {
-    if !soundness::sound(card, shelf, store, rows) {
+    if !soundness::sound(card, s, store, rows) {
         return Admitted::Refused(8);
     }
-    let Found::At(place) = shelf::find(shelf, unit) else {
+    let Found::At(place) = state::find(s, unit) else {
         return Admitted::Refused(9);
     };
     if !right {
@@ -45,8 +45,8 @@ fn told_apart(a: Admitted) -> Place
 }
 
 // Which row is read for the unit with this number.
-pub fn counted(card: Card, shelf: Shelf, store: &[u8], rows: usize, unit: u8) -> Place
-    ensures { λ r. ⌜ r ≡ countedOf card shelf (length (now (store .entry))) rows unit ⌝ }
+pub fn counted(card: Card, s: &[u8; 2048], store: &[u8], rows: usize, unit: u8) -> Place
+    ensures { λ r. ⌜ r ≡ countedIn card (now (s .entry)) (length (now (store .entry))) rows unit ⌝ }
 {
-    told_apart(admit(card, shelf, store.len(), rows, unit, true))
+    told_apart(admit(card, s, store.len(), rows, unit, true))
 }

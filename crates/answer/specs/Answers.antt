@@ -3,7 +3,7 @@ use Prim.Native.Nat.{ℕ, _+_}
 use mathlib.Core.Bool.{true, false, Bool}
 use mathlib.Core.List.{List, [], _∷_}
 use lib.ListN.{set, replicate}
-use Rattle.shelf.specs.declared.Shelf.{Shelf}
+use Rattle.shelf.specs.Shelf.{Shelf}
 use Rattle.answer.specs.declared.Answer as A
 use Rattle.answer.specs.declared.Answer.the-variants.{Loaded, Unloaded, Refused, Arrived, Framed, Heard, Taken, Empty}
 use Rattle.answer.specs.declared.Arrival as Ar
@@ -11,7 +11,8 @@ use Rattle.answer.specs.declared.Arrival.the-variants as arrival
 use Rattle.answer.specs.declared.Hearing as He
 use Rattle.answer.specs.declared.Hearing.the-variants as hearing
 use Rattle.answer.specs.declared.Rises.{Rises}
-use Rattle.answer.specs.declared.Done.{Done}
+use Rattle.answer.specs.declared.Outcome.{Outcome}
+use Rattle.answer.specs.Done.{Done}
 
 -- "Thirteen counters a unit ..: arrived, hec, ignored, misrouted, inletfull, sent, unheard, damaged, queued (outlet), full, clp, wide, taken."
 -- A set of them is the sum of these
@@ -141,3 +142,7 @@ ends answer shelf rises = record { reply = record { answer = answer; shelf = she
 -- "Refusals 8 to 10 .. change nothing."
 abbrev pub refused : Shelf → ℕ → Done
 refused shelf number = ends (Refused number) shelf none
+
+-- the same without the shelf
+abbrev pub refusedWith : ℕ → Outcome
+refusedWith number = record { answer = Refused number; rises = none }

@@ -1,8 +1,7 @@
 // What an event answers, and which counters of which units rise by it.
-use shelf::Shelf;
 ghost use mathlib.Core.Path.{_≡_};
 ghost use Prim.Native.Nat.{_<_};
-ghost use Rattle.answer.specs.Answers.{none, row as rowOf, arrivalRises, hearingRises, refused as refusedOf, ends as endsWith};
+ghost use Rattle.answer.specs.Answers.{none, row as rowOf, arrivalRises, hearingRises, refusedWith};
 
 // The fates of an arriving cell.
 pub enum Arrival {
@@ -49,12 +48,6 @@ pub enum Answer {
     Empty,
 }
 
-// An answer, and the shelf as it is afterwards.
-pub struct Reply {
-    pub answer: Answer,
-    pub shelf: Shelf,
-}
-
 // The counters, each a bit: a set of them is a sum.
 pub const ARRIVED: u16 = 1;
 
@@ -90,9 +83,9 @@ pub struct Rises {
     pub each: [u16; 32],
 }
 
-// All that an event does but to the lent bytes.
-pub struct Done {
-    pub reply: Reply,
+// What an event comes to but for the lent bytes: its answer, and the counters that rise.
+pub struct Outcome {
+    pub answer: Answer,
     pub rises: Rises,
 }
 
@@ -152,19 +145,13 @@ pub fn hearing_rises(fate: Hearing) -> u16
     }
 }
 
-// An event is answered, the shelf is this one, and these counters rise.
-pub fn ends(answer: Answer, shelf: Shelf, rises: Rises) -> Done
-    ensures { λ r. ⌜ r ≡ endsWith answer shelf rises ⌝ }
+// An event is refused: nothing changes.
+pub fn refused(number: u8) -> Outcome
+    ensures { λ r. ⌜ r ≡ refusedWith number ⌝ }
 {
-    Done {
-        reply: Reply { answer, shelf },
+    let rises = Rises::none();
+    Outcome {
+        answer: Answer::Refused(number),
         rises,
     }
-}
-
-// An event is refused: nothing changes.
-pub fn refused(shelf: Shelf, number: u8) -> Done
-    ensures { λ r. ⌜ r ≡ refusedOf shelf number ⌝ }
-{
-    ends(Answer::Refused(number), shelf, Rises::none())
 }

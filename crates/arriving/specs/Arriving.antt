@@ -13,12 +13,13 @@ use Rattle.lookup.specs.declared.Looked.the-variants as looked
 use Rattle.bus.specs.Frame.{cell}
 use Rattle.store.specs.Rings.{tail, pushed}
 use Rattle.store.specs.Places.{inletSlot, putAt}
+use Rattle.shelf.specs.declared.Settings.{Settings}
 use Rattle.shelf.specs.declared.Unit as U
-use Rattle.shelf.specs.declared.Shelf.{Shelf}
+use Rattle.shelf.specs.Shelf.{Shelf}
 use Rattle.answer.specs.declared.Arrival as A
 use Rattle.answer.specs.declared.Arrival.the-variants.{Hec, Ignored, Misrouted, Inletfull, Queued}
 use Rattle.answer.specs.declared.Answer.the-variants.{Arrived}
-use Rattle.answer.specs.declared.Done.{Done}
+use Rattle.answer.specs.Done.{Done}
 use Rattle.answer.specs.Answers.{arrivalRises, row, ends, refused}
 use Rattle.admit.specs.declared.Admitted as D
 use Rattle.admit.specs.Admission.{admitted, decided, unitAt, withUnit, withInlet}
@@ -32,11 +33,14 @@ wayBy looked.Misrouted = Lost Misrouted
 wayBy (looked.Goes routing header) = Bus routing header
 
 -- "Wrong header check: `hec`."
-unfoldable pub wayOf : Card → U.Unit → List ℕ → List ℕ → Way
-wayOf card u memory c =
+abbrev pub wayFor : Card → Settings → ℕ → List ℕ → List ℕ → Way
+wayFor card settings at memory c =
     cond (soundHeader (four c 0) (getD c 4 0))
-    (wayBy (translated (recordAt card memory) (u .settings .link) (u .settings .top) (u .place) (four c 0)))
+    (wayBy (translated (recordAt card memory) (settings .link) (settings .top) at (four c 0)))
     (Lost Hec)
+
+unfoldable pub wayOf : Card → U.Unit → List ℕ → List ℕ → Way
+wayOf card u memory c = wayFor card (u .settings) (u .place) memory c
 
 -- the fate of a cell that finds room in the inlet
 unfoldable pub fateBy : Way → A.Arrival

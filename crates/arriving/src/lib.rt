@@ -2,17 +2,20 @@
 use admit::Admitted;
 use answer::Answer;
 use answer::Arrival;
-use answer::Done;
+use answer::Outcome;
 use answer::Rises;
 use card::Card;
 use lookup::Looked;
-use shelf::Shelf;
+use shelf::Settings;
 use shelf::Unit;
 ghost use mathlib.Core.Path.{_≡_};
 ghost use Prim.Native.Nat.{_<_, _≤_};
 ghost use lib.ListN.{length};
-ghost use Rattle.admit.specs.Admission.{unitAt, Housed};
-ghost use Rattle.arriving.specs.Arriving.{wayBy, wayOf, fateBy, arrived as arrivedAs, doneAt, storeAt, arriveDone, arriveStore};
+ghost use Rattle.admit.specs.Admission.{Housed};
+ghost use Rattle.answer.specs.Done.{outcomeOf};
+ghost use Rattle.state.specs.Bytes.{unitIn, shelfIn};
+ghost use Rattle.arriving.specs.Arriving.{wayBy, wayFor, fateBy, doneAt, storeAt};
+ghost use Rattle.arriving.specs.InPlace.{arrivedWith, stateAt, arriveOut, arriveState, arriveStoreIn};
 
 // Where an arriving cell goes: to the bus with these headers, or nowhere, with this fate.
 pub enum Way {
@@ -31,18 +34,17 @@ fn way_by(looked: Looked) -> Way
     }
 }
 
-// Where a cell that arrives at a unit goes.
-fn way_of(card: Card, unit: Unit, memory: &[u8], cell: &[u8]) -> Way
+// Where a cell that arrives at a unit goes; its records begin at a byte of the memory.
+fn way_of(card: Card, settings: Settings, at: u32, memory: &[u8], cell: &[u8]) -> Way
     requires { ⌜ length (now cell) ≡ 53 ⌝ }
-    ensures { λ r. ⌜ r ≡ wayOf card unit (now (memory .entry)) (now (cell .entry)) ⌝ }
+    ensures { λ r. ⌜ r ≡ wayFor card settings at (now (memory .entry)) (now (cell .entry)) ⌝ }
 {
     let word = octets::four(cell, 0);
     if !lookup::sound(word, cell[4]) {
         return Way::Lost(Arrival::Hec);
     }
-    let settings = unit.settings;
     let link = settings.link;
-    way_by(lookup::translate(card, link, settings.top, unit.place, memory, word))
+    way_by(lookup::translate(card, link, settings.top, at, memory, word))
 }
 
 // The fate of a cell that finds room in the inlet.
@@ -59,64 +61,63 @@ fn fate_by(way: Way) -> Arrival
 }
 
 // A cell has arrived at the unit in a place.
-fn arrived(shelf: Shelf, place: usize, fate: Arrival) -> Done
+fn arrived(place: usize, fate: Arrival) -> Outcome
     requires { ⌜ place < 32 ⌝ }
-    ensures { λ r. ⌜ r ≡ arrivedAs shelf place fate ⌝ }
+    ensures { λ r. ⌜ r ≡ arrivedWith place fate ⌝ }
 {
-    answer::ends(
-        Answer::Arrived(fate),
-        shelf,
-        Rises::row(place, answer::arrival_rises(fate)),
-    )
+    let rises = Rises::row(place, answer::arrival_rises(fate));
+    Outcome {
+        answer: Answer::Arrived(fate),
+        rises,
+    }
 }
 
 // A cell arrives at the unit in a place. A routed one is queued behind the others in the inlet.
 fn arrive_at(
     card: Card,
-    mut shelf: Shelf,
+    s: &mut [u8],
     place: usize,
     memory: &[u8],
     store: &mut [u8],
     cell: &[u8],
-) -> Done
-    requires { ⌜ (length (now cell) ≡ 53) × Housed place (unitAt shelf place) (length (now store)) ⌝ }
-    ensures { λ r. ⌜ r ≡ doneAt card shelf place (now (memory .entry)) (now (cell .entry)) ⌝ }
-    ensures kept { λ _. ⌜ now (store .exit) ≡ storeAt card shelf place (now (memory .entry)) (now (store .entry)) (now (cell .entry)) ⌝ }
+) -> Outcome
+    requires { ⌜ (length (now s) ≡ 2048) × (length (now cell) ≡ 53) × Housed place (unitIn (now s) place) (length (now store)) ⌝ }
+    ensures { λ r. ⌜ r ≡ outcomeOf (doneAt card (shelfIn (now (s .entry))) place (now (memory .entry)) (now (cell .entry))) ⌝ }
+    ensures kept { λ _. ⌜ (now (s .exit) ≡ stateAt card (now (s .entry)) place (now (memory .entry)) (now (cell .entry))) × (now (store .exit) ≡ storeAt card (shelfIn (now (s .entry))) place (now (memory .entry)) (now (store .entry)) (now (cell .entry))) ⌝ }
 {
-    let mut unit = shelf.units[place];
-    let way = way_of(card, unit, memory, cell);
+    let settings = state::settings_at(s, place);
+    let way = way_of(card, settings, state::place_at(s, place), memory, cell);
     let fate = fate_by(way);
     let Way::Bus { routing, header } = way else {
-        return arrived(shelf, place, fate);
+        return arrived(place, fate);
     };
-    let inlet = unit.inlet;
+    let inlet = state::ring_at(s, 14, 15, place);
     if Unit::INLET <= inlet.count {
-        return arrived(shelf, place, Arrival::Inletfull);
+        return arrived(place, Arrival::Inletfull);
     }
     let mut bytes = [0; 56];
     bus::compose(routing, header, &cell[5..53], &mut bytes);
     let tail = store::tail(inlet, Unit::INLET);
     store::put_cell(store, store::inlet_at(place, tail), &bytes);
-    unit.inlet = store::pushed(inlet);
-    shelf.units[place] = unit;
-    arrived(shelf, place, fate)
+    state::put_ring(s, 14, 15, place, store::pushed(inlet));
+    arrived(place, fate)
 }
 
 // Arrival of a cell at the unit with this number; everything but the counter rows, of which there are so many.
 pub fn arrive(
     card: Card,
-    shelf: Shelf,
+    s: &mut [u8; 2048],
     memory: &[u8],
     store: &mut [u8],
     rows: usize,
     unit: u8,
     cell: &[u8],
-) -> Done
-    ensures { λ r. ⌜ (r ≡ arriveDone card shelf (now (memory .entry)) (length (now (store .entry))) rows unit (now (cell .entry))) × (now (store .exit) ≡ arriveStore card shelf (now (memory .entry)) (now (store .entry)) rows unit (now (cell .entry))) ⌝ }
+) -> Outcome
+    ensures { λ r. ⌜ (r ≡ arriveOut card (now (s .entry)) (now (memory .entry)) (length (now (store .entry))) rows unit (now (cell .entry))) × ((now (s .exit) ≡ arriveState card (now (s .entry)) (now (memory .entry)) (length (now (store .entry))) rows unit (now (cell .entry))) × (now (store .exit) ≡ arriveStoreIn card (now (s .entry)) (now (memory .entry)) (now (store .entry)) rows unit (now (cell .entry)))) ⌝ }
     ensures fits { λ r. ⌜ (r .rises .to ≤ 32) × (r .rises .to ≤ rows) ⌝ }
 {
-    match admit::admit(card, shelf, store.len(), rows, unit, cell.len() == 53) {
-        Admitted::At(place) => arrive_at(card, shelf, place, memory, store, cell),
-        Admitted::Refused(number) => answer::refused(shelf, number),
+    match admit::admit(card, s, store.len(), rows, unit, cell.len() == 53) {
+        Admitted::At(place) => arrive_at(card, s, place, memory, store, cell),
+        Admitted::Refused(number) => answer::refused(number),
     }
 }

@@ -4,12 +4,10 @@ use card::Card;
 use counters::Counters;
 use entry::Counted;
 use event::Event;
-use shelf::Shelf;
 use written::Outcome;
 
-// A shelf and its counter rows.
-struct World {
-    shelf: Shelf,
+// The counter rows; an array by itself cannot take a call's result.
+struct Tally {
     rows: [Counters; 40],
 }
 
@@ -21,16 +19,14 @@ struct Held {
 
 // What the input so far came to, and whether it goes on.
 struct Fed {
-    world: World,
+    tally: Tally,
     held: Held,
     more: bool,
 }
 
-fn kept(after: owned::After) -> World {
-    let reply = after.reply;
-    let shelf = reply.shelf;
+fn kept(after: owned::After) -> Tally {
     let rows = after.rows;
-    World { shelf, rows }
+    Tally { rows }
 }
 
 // Prints the line of an event.
@@ -43,8 +39,7 @@ fn say(event: Event, outcome: Outcome, cell: &[u8]) {
 }
 
 fn said(after: owned::After) -> Outcome {
-    let reply = after.reply;
-    let answer = reply.answer;
+    let answer = after.answer;
     Outcome::Answered(answer)
 }
 
@@ -56,59 +51,77 @@ fn cell_of(header: u32, check: u8, byte: u8) -> [u8; 53] {
     cell
 }
 
-fn arrive(w: World, memory: &[u8], store: &mut [u8], event: Event, unit: u8, cell: &[u8]) -> World {
-    let shelf = w.shelf;
-    let rows = w.rows;
-    let after = owned::arrive(Card::Wide, shelf, memory, store, rows, unit, cell);
+fn arrive(
+    tally: Tally,
+    state: &mut [u8; 2048],
+    memory: &[u8],
+    store: &mut [u8],
+    event: Event,
+    unit: u8,
+    cell: &[u8],
+) -> Tally {
+    let rows = tally.rows;
+    let after = owned::arrive(Card::Wide, state, memory, store, rows, 40, unit, cell);
     say(event, said(after), cell);
     kept(after)
 }
 
-fn frame(w: World, store: &mut [u8], event: Event) -> World {
-    let shelf = w.shelf;
-    let rows = w.rows;
+fn frame(tally: Tally, state: &mut [u8; 2048], store: &mut [u8], event: Event) -> Tally {
+    let rows = tally.rows;
     let mut buffer = [0u8; 57];
-    let after = owned::frame(Card::Wide, shelf, store, rows, &mut buffer);
+    let after = owned::frame(Card::Wide, state, store, rows, 40, &mut buffer);
     say(event, said(after), b"");
     kept(after)
 }
 
-fn take(w: World, store: &[u8], event: Event, unit: u8) -> World {
-    let shelf = w.shelf;
-    let rows = w.rows;
+fn take(tally: Tally, state: &mut [u8; 2048], store: &[u8], event: Event, unit: u8) -> Tally {
+    let rows = tally.rows;
     let mut buffer = [0u8; 53];
-    let after = owned::take(Card::Wide, shelf, store, rows, unit, &mut buffer);
+    let after = owned::take(Card::Wide, state, store, rows, 40, unit, &mut buffer);
     say(event, said(after), &buffer);
     kept(after)
 }
 
-fn count(w: World, store: &[u8], event: Event, unit: u8) {
-    let shelf = w.shelf;
-    let rows = w.rows;
-    match owned::count(Card::Wide, shelf, store, rows, unit) {
+fn count(tally: Tally, state: &[u8; 2048], store: &[u8], event: Event, unit: u8) {
+    let rows = tally.rows;
+    match owned::count(Card::Wide, state, store, rows, 40, unit) {
         Counted::Counters(c) => say(event, Outcome::Counted(c), b""),
         Counted::Refused(number) => say(event, Outcome::Answered(Answer::Refused(number)), b""),
     }
 }
 
 // One event.
-fn happen(w: World, memory: &[u8], store: &mut [u8], event: Event) -> World {
+fn happen(
+    tally: Tally,
+    state: &mut [u8; 2048],
+    memory: &[u8],
+    store: &mut [u8],
+    event: Event,
+) -> Tally {
     match event {
         Event::Arrive {
             unit,
             header,
             check,
             byte,
-        } => arrive(w, memory, store, event, unit, &cell_of(header, check, byte)),
-        Event::Frame => frame(w, store, event),
-        Event::Take(unit) => take(w, store, event, unit),
+        } => arrive(
+            tally,
+            state,
+            memory,
+            store,
+            event,
+            unit,
+            &cell_of(header, check, byte),
+        ),
+        Event::Frame => frame(tally, state, store, event),
+        Event::Take(unit) => take(tally, state, store, event, unit),
         Event::Count(unit) => {
-            count(w, store, event, unit);
-            w
+            count(tally, state, store, event, unit);
+            tally
         }
         Event::Bad => {
             say(event, Outcome::Nothing, b"");
-            w
+            tally
         }
     }
 }
@@ -145,14 +158,15 @@ fn event_in(line: &[u8], held: Held) -> Event {
 
 // All lines that a part of the input ends, and the beginning of the next.
 fn feed(
-    w: World,
+    tally: Tally,
+    state: &mut [u8; 2048],
     memory: &[u8],
     store: &mut [u8],
     line: &mut [u8],
     held: Held,
     part: &[u8],
 ) -> Fed {
-    let mut world = w;
+    let mut counted = tally;
     let mut so_far = held;
     let mut from: usize = 0;
     while from < part.len() {
@@ -160,7 +174,7 @@ fn feed(
         so_far = keep(line, so_far, &part[from..end]);
         if end < part.len() {
             from = end + 1;
-            world = happen(world, memory, store, event_in(line, so_far));
+            counted = happen(counted, state, memory, store, event_in(line, so_far));
             so_far = Held {
                 length: 0,
                 long: false,
@@ -170,33 +184,45 @@ fn feed(
         }
     }
     Fed {
-        world,
+        tally: counted,
         held: so_far,
         more: true,
     }
 }
 
 // Reads once, and does what came.
-fn feed_some(fed: Fed, memory: &[u8], store: &mut [u8], line: &mut [u8]) -> Fed {
-    let w = fed.world;
+fn feed_some(
+    fed: Fed,
+    state: &mut [u8; 2048],
+    memory: &[u8],
+    store: &mut [u8],
+    line: &mut [u8],
+) -> Fed {
+    let tally = fed.tally;
     let held = fed.held;
     let mut part = io::large_buffer();
     let got = libc::read(0, &mut part);
     if got <= 0 {
         return Fed {
-            world: w,
+            tally,
             held,
             more: false,
         };
     }
     let n = io::count(got, &part);
-    feed(w, memory, store, line, held, &part[..n])
+    feed(tally, state, memory, store, line, held, &part[..n])
 }
 
 // Reads to the end of the input. A proved loop has to end, so it counts its turns down from a number that no run uses up.
-fn feed_all(w: World, memory: &[u8], store: &mut [u8], line: &mut [u8]) -> Fed {
+fn feed_all(
+    tally: Tally,
+    state: &mut [u8; 2048],
+    memory: &[u8],
+    store: &mut [u8],
+    line: &mut [u8],
+) -> Fed {
     let mut fed = Fed {
-        world: w,
+        tally,
         held: Held {
             length: 0,
             long: false,
@@ -205,7 +231,7 @@ fn feed_all(w: World, memory: &[u8], store: &mut [u8], line: &mut [u8]) -> Fed {
     };
     let mut turns = u64::MAX;
     while 0 < turns {
-        fed = feed_some(fed, memory, store, line);
+        fed = feed_some(fed, state, memory, store, line);
         if !fed.more {
             return fed;
         }
@@ -215,18 +241,18 @@ fn feed_all(w: World, memory: &[u8], store: &mut [u8], line: &mut [u8]) -> Fed {
 }
 
 // All events; a last line without its newline is read too.
-fn run(w: World, memory: &[u8], store: &mut [u8]) {
+fn run(tally: Tally, state: &mut [u8; 2048], memory: &[u8], store: &mut [u8]) {
     let mut line = io::large_buffer();
-    let fed = feed_all(w, memory, store, &mut line);
+    let fed = feed_all(tally, state, memory, store, &mut line);
     let held = fed.held;
-    let world = fed.world;
+    let counted = fed.tally;
     let n = held.length;
     if held.long {
-        happen(world, memory, store, Event::Bad);
+        happen(counted, state, memory, store, Event::Bad);
         return;
     }
     if 0 < n {
-        happen(world, memory, store, event_in(&line, held));
+        happen(counted, state, memory, store, event_in(&line, held));
     }
 }
 
@@ -272,20 +298,22 @@ fn say_table(answer: Answer) {
 
 // Loads the table and, if it is good, goes through the events.
 fn bench(text: &[u8]) {
+    let mut state = [0u8; 2048];
     let mut memory = [0u8; 16384];
     let mut store = [0u8; 32768];
     let after = owned::load(
         Card::Wide,
         text,
         &mut memory,
+        &mut state,
         &store,
         [Counters::zero(); 40],
+        40,
     );
-    let reply = after.reply;
-    let answer = reply.answer;
+    let answer = after.answer;
     say_table(answer);
     if let Answer::Loaded(_) = answer {
-        run(kept(after), &memory, &mut store);
+        run(kept(after), &mut state, &memory, &mut store);
     }
 }
 

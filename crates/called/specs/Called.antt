@@ -1,16 +1,12 @@
--- The lines of docs/CONSOLE.md that call for an event or set a field of the shelf. Assumes nothing.
+-- The lines of docs/CONSOLE.md that call for an event. Assumes nothing.
 use Prim.Native.Nat.{ℕ}
-use mathlib.Core.Bool.{cond}
-use mathlib.Core.List.{List, [], _∷_}
-use lib.Dec.{ltb}
-use lib.ListN.{getD}
-use Rattle.text.specs.Text.{fieldsOf, fieldOf}
+use mathlib.Core.List.{List}
+use Rattle.text.specs.Text.{fieldsOf}
 use Rattle.lent.specs.declared.Command.the-variants as command
 use Rattle.lent.specs.declared.Reading.{Reading}
 use Rattle.lent.specs.declared.Reading.the-variants.{Does, Bad}
-use Rattle.fields.specs.Fields.{placeIn, numberIn, unitIn, spanIn}
+use Rattle.fields.specs.Fields.{numberIn, unitIn, spanIn}
 use Rattle.lent.specs.Lent.{num, octet, span}
-use Rattle.called.specs.Settable.{settable}
 
 -- `load HEX`, `arrive UNIT HEX`, `hear UNIT HEX`: to 70,000 bytes
 unfoldable pub loadLine : List ℕ → Reading
@@ -31,17 +27,3 @@ takeLine fs = octet (unitIn fs 2) λ unit. num (numberIn fs 3 1000) λ bytes. Do
 
 unfoldable pub countLine : List (List ℕ) → Reading
 countLine fs = octet (unitIn fs 2) λ unit. Does (command.Count unit)
-
--- `state FIELD PLACE VALUE`: for each field the last of its places and the most that it holds
-abbrev pub lastPlaces : List ℕ
-lastPlaces = 0 ∷ 0 ∷ 0 ∷ 0 ∷ 2 ∷ 31 ∷ 31 ∷ 31 ∷ 31 ∷ 31 ∷ 31 ∷ 31 ∷ 31 ∷ 31 ∷ 31 ∷ 31 ∷ 31 ∷ 31 ∷ 127 ∷ 127 ∷ 127 ∷ []
-
-abbrev pub mosts : List ℕ
-mosts =
-    255 ∷ 255 ∷ 255 ∷ 65535 ∷ 255 ∷ 255 ∷ 255 ∷ 255 ∷ 255 ∷ 255 ∷ 255 ∷ 255 ∷ 255 ∷ 1 ∷ 1 ∷ 1 ∷ 65535 ∷ 4294967295 ∷ 255 ∷ 255 ∷ 18446744073709551615 ∷ []
-
-unfoldable pub stateIn : ℕ → List (List ℕ) → Reading
-stateIn f fs = num (numberIn fs 3 (getD lastPlaces f 0)) λ place. num (numberIn fs 4 (getD mosts f 0)) λ value. Does (command.State f place value)
-
-unfoldable pub stateLine : List (List ℕ) → Reading
-stateLine fs = cond (ltb (placeIn settable (fieldOf 2 fs)) 21) (stateIn (placeIn settable (fieldOf 2 fs)) fs) Bad

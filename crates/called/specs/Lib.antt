@@ -1,2 +1,1 @@
-pub mod Settable
 pub mod Called

@@ -6,11 +6,9 @@ use card::Card;
 use counters::Counters;
 use entry::Counted;
 use routing::Target;
-use shelf::Shelf;
 
-// A shelf and its counter rows.
-struct World {
-    shelf: Shelf,
+// The counter rows; an array by itself cannot take a call's result.
+struct Tally {
     rows: [Counters; 40],
 }
 
@@ -93,53 +91,51 @@ fn say_answer(answer: Answer) {
     }
 }
 
-fn kept(after: owned::After) -> World {
-    let reply = after.reply;
-    let shelf = reply.shelf;
+fn kept(after: owned::After) -> Tally {
     let rows = after.rows;
-    World { shelf, rows }
+    Tally { rows }
 }
 
-fn load(text: &[u8], memory: &mut [u8], store: &[u8]) -> World {
-    let after = owned::load(Card::Wide, text, memory, store, [Counters::zero(); 40]);
-    let reply = after.reply;
-    let answer = reply.answer;
+// Prints the answer; the rows afterwards.
+fn settled(after: owned::After) -> Tally {
+    let answer = after.answer;
     say_answer(answer);
     say(b"\n");
     kept(after)
 }
 
-fn arrive(w: World, memory: &[u8], store: &mut [u8], unit: u8, cell: &[u8]) -> World {
-    let shelf = w.shelf;
-    let rows = w.rows;
-    let after = owned::arrive(Card::Wide, shelf, memory, store, rows, unit, cell);
-    let reply = after.reply;
-    let answer = reply.answer;
-    say_answer(answer);
-    say(b"\n");
-    kept(after)
+fn load(text: &[u8], state: &mut [u8; 2048], memory: &mut [u8], store: &[u8]) -> Tally {
+    settled(owned::load(
+        Card::Wide,
+        text,
+        memory,
+        state,
+        store,
+        [Counters::zero(); 40],
+        40,
+    ))
 }
 
-fn frame(w: World, store: &mut [u8], buffer: &mut [u8]) -> World {
-    let shelf = w.shelf;
-    let rows = w.rows;
-    let after = owned::frame(Card::Wide, shelf, store, rows, buffer);
-    let reply = after.reply;
-    let answer = reply.answer;
-    say_answer(answer);
-    say(b"\n");
-    kept(after)
+fn arrive(
+    tally: Tally,
+    state: &mut [u8; 2048],
+    memory: &[u8],
+    store: &mut [u8],
+    unit: u8,
+    cell: &[u8],
+) -> Tally {
+    let rows = tally.rows;
+    settled(owned::arrive(Card::Wide, state, memory, store, rows, 40, unit, cell))
 }
 
-fn hear(w: World, store: &mut [u8], unit: u8, frame: &[u8]) -> World {
-    let shelf = w.shelf;
-    let rows = w.rows;
-    let after = owned::hear(Card::Wide, shelf, store, rows, unit, frame);
-    let reply = after.reply;
-    let answer = reply.answer;
-    say_answer(answer);
-    say(b"\n");
-    kept(after)
+fn frame(tally: Tally, state: &mut [u8; 2048], store: &mut [u8], buffer: &mut [u8]) -> Tally {
+    let rows = tally.rows;
+    settled(owned::frame(Card::Wide, state, store, rows, 40, buffer))
+}
+
+fn hear(tally: Tally, state: &mut [u8; 2048], store: &mut [u8], unit: u8, frame: &[u8]) -> Tally {
+    let rows = tally.rows;
+    settled(owned::hear(Card::Wide, state, store, rows, 40, unit, frame))
 }
 
 fn say_small(n: u32) {
@@ -162,13 +158,11 @@ fn say_bytes(buffer: [u8; 53]) {
 }
 
 // Prints the header, the check and the first payload byte of the cell, or that there is none.
-fn take(w: World, store: &[u8], unit: u8) -> World {
-    let shelf = w.shelf;
-    let rows = w.rows;
+fn take(tally: Tally, state: &mut [u8; 2048], store: &[u8], unit: u8) -> Tally {
+    let rows = tally.rows;
     let mut buffer = [238u8; 53];
-    let after = owned::take(Card::Wide, shelf, store, rows, unit, &mut buffer);
-    let reply = after.reply;
-    let answer = reply.answer;
+    let after = owned::take(Card::Wide, state, store, rows, 40, unit, &mut buffer);
+    let answer = after.answer;
     say_answer(answer);
     say_bytes(buffer);
     kept(after)
@@ -191,10 +185,9 @@ fn say_counters(c: Counters) {
     say_small(c.taken);
 }
 
-fn count(w: World, store: &[u8], unit: u8) {
-    let shelf = w.shelf;
-    let rows = w.rows;
-    match owned::count(Card::Wide, shelf, store, rows, unit) {
+fn count(tally: Tally, state: &[u8; 2048], store: &[u8], unit: u8) {
+    let rows = tally.rows;
+    match owned::count(Card::Wide, state, store, rows, 40, unit) {
         Counted::Counters(c) => say_counters(c),
         Counted::Refused(number) => {
             say(b"count refused");
@@ -233,55 +226,62 @@ fn frame_of(class: u8, header: u32) -> [u8; 57] {
 }
 
 // One step of a script, by its letter.
-fn step(w: World, memory: &[u8], store: &mut [u8], letter: u8) -> World {
+fn step(
+    tally: Tally,
+    state: &mut [u8; 2048],
+    memory: &[u8],
+    store: &mut [u8],
+    letter: u8,
+) -> Tally {
     match letter {
         // a good cell arrives at unit 0, one with a wrong check; at a unit that is not declared; one byte short
-        b'A' => arrive(w, memory, store, 0, &cell_of(5243408, 43, 165)),
-        b'B' => arrive(w, memory, store, 0, &cell_of(273678864, 79, 165)),
-        b'C' => arrive(w, memory, store, 9, &cell_of(5243408, 43, 165)),
-        b'D' => arrive(w, memory, store, 0, &[0; 52]),
+        b'A' => arrive(tally, state, memory, store, 0, &cell_of(5243408, 43, 165)),
+        b'B' => arrive(tally, state, memory, store, 0, &cell_of(273678864, 79, 165)),
+        b'C' => arrive(tally, state, memory, store, 9, &cell_of(5243408, 43, 165)),
+        b'D' => arrive(tally, state, memory, store, 0, &[0; 52]),
         // a frame
-        b'F' => frame(w, store, &mut [238; 57]),
+        b'F' => frame(tally, state, store, &mut [238; 57]),
         // unit 0 hears a cell of each class with CLP 0, and with CLP 1
-        b'0' => hear(w, store, 0, &frame_of(0, 16)),
-        b'1' => hear(w, store, 0, &frame_of(1, 16)),
-        b'2' => hear(w, store, 0, &frame_of(2, 16)),
-        b'3' => hear(w, store, 0, &frame_of(3, 16)),
-        b'4' => hear(w, store, 0, &frame_of(0, 17)),
-        b'5' => hear(w, store, 0, &frame_of(1, 17)),
-        b'6' => hear(w, store, 0, &frame_of(2, 17)),
-        b'7' => hear(w, store, 0, &frame_of(3, 17)),
+        b'0' => hear(tally, state, store, 0, &frame_of(0, 16)),
+        b'1' => hear(tally, state, store, 0, &frame_of(1, 16)),
+        b'2' => hear(tally, state, store, 0, &frame_of(2, 16)),
+        b'3' => hear(tally, state, store, 0, &frame_of(3, 16)),
+        b'4' => hear(tally, state, store, 0, &frame_of(0, 17)),
+        b'5' => hear(tally, state, store, 0, &frame_of(1, 17)),
+        b'6' => hear(tally, state, store, 0, &frame_of(2, 17)),
+        b'7' => hear(tally, state, store, 0, &frame_of(3, 17)),
         // at an NNI, by VPI: to a unit that nobody declared, to all, to a UNI with VPI 256, dropped, without a record; VPI 0 with VCI 0
-        b'a' => arrive(w, memory, store, 0, &sound_cell(1048592)),
-        b'b' => arrive(w, memory, store, 0, &sound_cell(2097168)),
-        b'c' => arrive(w, memory, store, 0, &sound_cell(4194320)),
-        b'd' => arrive(w, memory, store, 0, &sound_cell(5242896)),
-        b'e' => arrive(w, memory, store, 0, &sound_cell(6291472)),
-        b'f' => arrive(w, memory, store, 0, &sound_cell(0)),
+        b'a' => arrive(tally, state, memory, store, 0, &sound_cell(1048592)),
+        b'b' => arrive(tally, state, memory, store, 0, &sound_cell(2097168)),
+        b'c' => arrive(tally, state, memory, store, 0, &sound_cell(4194320)),
+        b'd' => arrive(tally, state, memory, store, 0, &sound_cell(5242896)),
+        b'e' => arrive(tally, state, memory, store, 0, &sound_cell(6291472)),
+        b'f' => arrive(tally, state, memory, store, 0, &sound_cell(0)),
         // a frame of bad parity, one for another unit, 57 zero bytes
-        b'z' => hear(w, store, 0, &[1; 57]),
-        b'o' => hear(w, store, 3, &frame_of(1, 16)),
-        b'Z' => hear(w, store, 0, &[0; 57]),
+        b'z' => hear(tally, state, store, 0, &[1; 57]),
+        b'o' => hear(tally, state, store, 3, &frame_of(1, 16)),
+        b'Z' => hear(tally, state, store, 0, &[0; 57]),
         // a cell is taken at units 3 and 0
-        b'S' => take(w, store, 3),
-        b'T' => take(w, store, 0),
-        _ => w,
+        b'S' => take(tally, state, store, 3),
+        b'T' => take(tally, state, store, 0),
+        _ => tally,
     }
 }
 
 // Loads a table, goes through a script, and counts units 0, 3 and 9.
 fn run(text: &[u8], script: &[u8]) {
+    let mut state = [7u8; 2048];
     let mut memory = [7u8; 16384];
     let mut store = [7u8; 16384];
-    let mut w = load(text, &mut memory, &store);
+    let mut tally = load(text, &mut state, &mut memory, &store);
     let mut i: usize = 0;
     while i < script.len() {
-        w = step(w, &memory, &mut store, script[i]);
+        tally = step(tally, &mut state, &memory, &mut store, script[i]);
         i += 1;
     }
-    count(w, &store, 0);
-    count(w, &store, 3);
-    count(w, &store, 9);
+    count(tally, &state, &store, 0);
+    count(tally, &state, &store, 3);
+    count(tally, &state, &store, 9);
 }
 
 fn main() {

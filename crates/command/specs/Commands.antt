@@ -9,20 +9,22 @@ use Rattle.lent.specs.declared.Reading.{Reading}
 use Rattle.lent.specs.declared.Reading.the-variants.{Bad}
 use Rattle.fields.specs.Fields.{placeIn}
 use Rattle.lent.specs.Lent.{cardLine, lendLine, pokeLine, showLine}
-use Rattle.called.specs.Called.{loadLine, arriveLine, hearLine, frameLine, takeLine, countLine, stateLine}
+use Rattle.called.specs.Called.{loadLine, arriveLine, hearLine, frameLine, takeLine, countLine}
 use Rattle.command.specs.Names.{commands}
 
--- how many fields the lines of each command have, and what each reads; in the order of `commands`
+-- how many fields the lines of each command but `show` have, and what each reads; in the order of `commands`
 abbrev pub counts : List ℕ
-counts = 2 ∷ 4 ∷ 2 ∷ 3 ∷ 3 ∷ 2 ∷ 3 ∷ 2 ∷ 4 ∷ 4 ∷ 2 ∷ []
+counts = 2 ∷ 4 ∷ 2 ∷ 3 ∷ 3 ∷ 2 ∷ 3 ∷ 2 ∷ 4 ∷ []
 
 abbrev pub lines : List ℕ → List Reading
 lines text =
-    cardLine (fieldsOf text) ∷ lendLine (fieldsOf text) ∷ loadLine text ∷ arriveLine text ∷ hearLine text ∷ frameLine (fieldsOf text) ∷ takeLine (fieldsOf text) ∷ countLine (fieldsOf text) ∷ pokeLine text ∷ stateLine (fieldsOf text) ∷ showLine (fieldsOf text) ∷ []
+    cardLine (fieldsOf text) ∷ lendLine (fieldsOf text) ∷ loadLine text ∷ arriveLine text ∷ hearLine text ∷ frameLine (fieldsOf text) ∷ takeLine (fieldsOf text) ∷ countLine (fieldsOf text) ∷ pokeLine text ∷ []
 
--- a line whose word is the k-th command
+-- a line whose word is the k-th command; `show` is the last of them
 unfoldable pub spoken : ℕ → List ℕ → Reading
-spoken k text = cond (eqb (length (fieldsOf text)) (getD counts k 0)) (getD (lines text) k Bad) Bad
+spoken k text =
+    cond (eqb k 9) (showLine (fieldsOf text))
+    (cond (eqb (length (fieldsOf text)) (getD counts k 0)) (getD (lines text) k Bad) Bad)
 
 -- "What is no command, a number outside what is said here, an odd number of hex digits, or a line above 150,000 bytes answers `bad`"
 unfoldable pub readingOf : List ℕ → Reading

@@ -29,12 +29,9 @@ wCount = 99 ∷ 111 ∷ 117 ∷ 110 ∷ 116 ∷ []
 abbrev pub wPoke : List ℕ
 wPoke = 112 ∷ 111 ∷ 107 ∷ 101 ∷ []
 
-abbrev pub wState : List ℕ
-wState = 115 ∷ 116 ∷ 97 ∷ 116 ∷ 101 ∷ []
-
 abbrev pub wShow : List ℕ
 wShow = 115 ∷ 104 ∷ 111 ∷ 119 ∷ []
 
 -- the first word of a line, in the order of docs/CONSOLE.md
 abbrev pub commands : List (List ℕ)
-commands = wCard ∷ wLend ∷ wLoad ∷ wArrive ∷ wHear ∷ wFrame ∷ wTake ∷ wCount ∷ wPoke ∷ wState ∷ wShow ∷ []
+commands = wCard ∷ wLend ∷ wLoad ∷ wArrive ∷ wHear ∷ wFrame ∷ wTake ∷ wCount ∷ wPoke ∷ wShow ∷ []

@@ -6,8 +6,11 @@ ghost use Rattle.fields.specs.Fields.{placeIn};
 ghost use Rattle.command.specs.Commands.{counts, lines, spoken as spokenBy, readingOf};
 ghost use Rattle.command.specs.Names.{commands};
 
-// For each command how many fields its lines have.
-const COUNTS: [usize; 11] = [2, 4, 2, 3, 3, 2, 3, 2, 4, 4, 2];
+// For each command but `show` how many fields its lines have.
+const COUNTS: [usize; 9] = [2, 4, 2, 3, 3, 2, 3, 2, 4];
+
+// The place of `show` among the commands: its lines have two fields or three.
+const SHOW: usize = 9;
 
 // The line of the k-th command.
 fn line_of(k: usize, s: &[u8]) -> Reading
@@ -23,8 +26,6 @@ fn line_of(k: usize, s: &[u8]) -> Reading
         6 => called::take_line(s),
         7 => called::count_line(s),
         8 => lent::poke_line(s),
-        9 => called::state_line(s),
-        10 => lent::show_line(s),
         _ => Reading::Bad,
     }
 }
@@ -33,12 +34,15 @@ fn line_of(k: usize, s: &[u8]) -> Reading
 fn count_of(k: usize) -> usize
     ensures { λ r. ⌜ r ≡ getD counts k 0 ⌝ }
 {
-    if k < 11 { COUNTS[k] } else { 0 }
+    if k < 9 { COUNTS[k] } else { 0 }
 }
 
 fn spoken(k: usize, s: &[u8]) -> Reading
     ensures { λ r. ⌜ r ≡ spokenBy k (now (s .entry)) ⌝ }
 {
+    if k == SHOW {
+        return lent::show_line(s);
+    }
     if text::count(s) == count_of(k) {
         return line_of(k, s);
     }
@@ -50,7 +54,7 @@ fn command_named(w: &[u8]) -> usize
     ensures { λ r. ⌜ r ≡ placeIn commands (now (w .entry)) ⌝ }
 {
     fields::find(
-        b"card\tlend\tload\tarrive\thear\tframe\ttake\tcount\tpoke\tstate\tshow",
+        b"card\tlend\tload\tarrive\thear\tframe\ttake\tcount\tpoke\tshow",
         w,
     )
 }

@@ -1,4 +1,5 @@
 // The console: one command a line on standard input, one answer a line on standard output (docs/CONSOLE.md).
+// The state, the memory, the store and the rows are lent to every command; bytes in hex are read before it is done.
 use answer::Answer;
 use card::Card;
 use counters::Counters;
@@ -7,16 +8,14 @@ use lent::Bank;
 use lent::Command;
 use lent::Reading;
 use owned::After;
-use shelf::Shelf;
 ghost use mathlib.Core.Path.{_≡_};
 ghost use Prim.Native.Nat.{_+_, _≤_, _<_};
 ghost use lib.ListN.{length};
 ghost use Rattle.io.specs.Counts.{Counts};
 
-// The card, the shelf, the rows, and how much of the rows, the memory and the store is lent.
+// The card, the rows, and how much of the rows, the memory and the store is lent.
 struct World {
     card: Card,
-    shelf: Shelf,
     rows: [Counters; 40],
     lent: usize,
     memory: usize,
@@ -68,7 +67,6 @@ fn within(n: usize, b: &[u8]) -> usize
 fn fresh() -> World {
     World {
         card: Card::Wide,
-        shelf: Shelf::fresh(16),
         rows: [Counters::zero(); 40],
         lent: 0,
         memory: 0,
@@ -76,43 +74,21 @@ fn fresh() -> World {
     }
 }
 
-fn moved(world: World, at: usize) -> Step {
+fn moved(world: World, at: usize) -> Step
+    ensures { λ r. ⌜ r .at ≡ at ⌝ }
+{
     Step { world, at }
 }
 
-// The world after an event.
-fn after(w: World, done: After) -> World {
-    let reply = done.reply;
-    let shelf = reply.shelf;
-    let rows = done.rows;
-    let card = w.card;
-    World {
-        card,
-        shelf,
-        rows,
-        lent: w.lent,
-        memory: w.memory,
-        store: w.store,
-    }
-}
-
 fn with_card(w: World, card: Card) -> World {
-    let shelf = w.shelf;
     let rows = w.rows;
     World {
         card,
-        shelf,
         rows,
         lent: w.lent,
         memory: w.memory,
         store: w.store,
     }
-}
-
-fn with_field(mut w: World, field: u8, place: u64, value: u64) -> World {
-    let shelf = w.shelf;
-    w.shelf = setting::set(shelf, field, place as usize, value);
-    w
 }
 
 // The first n bytes of b, each with this value.
@@ -167,6 +143,22 @@ fn with_rows(mut w: World, n: usize, value: u32) -> World {
     w
 }
 
+// Where the bytes of a command start; at the end of the line, where there are none, if it has no such field.
+fn bytes_from(command: Command, end: usize) -> usize {
+    match command {
+        Command::Load(from) => from,
+        Command::Arrive { unit: _, from } => from,
+        Command::Hear { unit: _, from } => from,
+        Command::Poke {
+            bank: _,
+            at: _,
+            from,
+        } => from,
+        Command::PokeState { at: _, from } => from,
+        _ => end,
+    }
+}
+
 // The bytes that a field of hex says, to the front of text; how many there are.
 fn unhexed(line: &[u8], from: usize, text: &mut [u8]) -> usize
     ensures { λ r. ⌜ Counts r (now (text .exit)) ⌝ }
@@ -182,54 +174,64 @@ fn unhexed(line: &[u8], from: usize, text: &mut [u8]) -> usize
     within(0, text)
 }
 
-fn answer_of(done: After) -> Answer {
-    let reply = done.reply;
-    reply.answer
+// The world after an event, and its answer but for its buffer.
+fn done(mut w: World, after: After, word: &[u8], unit: u8, out: &mut [u8], at: usize) -> Step
+    requires { ⌜ (length (now word) ≤ 20) × (at + 100 ≤ length (now out)) ⌝ }
+    ensures { λ r. ⌜ r .at ≤ at + 100 ⌝ }
+{
+    let answer = after.answer;
+    let rows = after.rows;
+    let next = shown::said(out, at, word, unit, answer);
+    w.rows = rows;
+    moved(w, next)
 }
 
-fn load(w: World, memory: &mut [u8], store: &[u8], text: &[u8]) -> After {
+fn load(w: World, state: &mut [u8; 2048], memory: &mut [u8], store: &[u8], text: &[u8]) -> After {
     let card = w.card;
     let rows = w.rows;
-    partly::load(card, text, memory, store, rows, w.lent)
+    owned::load(card, text, memory, state, store, rows, w.lent)
 }
 
-fn arrive(w: World, memory: &[u8], store: &mut [u8], unit: u8, cell: &[u8]) -> After {
+fn arrive(
+    w: World,
+    state: &mut [u8; 2048],
+    memory: &[u8],
+    store: &mut [u8],
+    unit: u8,
+    cell: &[u8],
+) -> After {
     let card = w.card;
-    let shelf = w.shelf;
     let rows = w.rows;
-    partly::arrive(card, shelf, memory, store, rows, w.lent, unit, cell)
+    owned::arrive(card, state, memory, store, rows, w.lent, unit, cell)
 }
 
-fn hear(w: World, store: &mut [u8], unit: u8, frame: &[u8]) -> After {
+fn hear(w: World, state: &mut [u8; 2048], store: &mut [u8], unit: u8, frame: &[u8]) -> After {
     let card = w.card;
-    let shelf = w.shelf;
     let rows = w.rows;
-    partly::hear(card, shelf, store, rows, w.lent, unit, frame)
+    owned::hear(card, state, store, rows, w.lent, unit, frame)
 }
 
-fn frame(w: World, store: &mut [u8], buffer: &mut [u8]) -> After {
+fn frame(w: World, state: &mut [u8; 2048], store: &mut [u8], buffer: &mut [u8]) -> After {
     let card = w.card;
-    let shelf = w.shelf;
     let rows = w.rows;
-    partly::frame(card, shelf, store, rows, w.lent, buffer)
+    owned::frame(card, state, store, rows, w.lent, buffer)
 }
 
-fn take(w: World, store: &[u8], unit: u8, buffer: &mut [u8]) -> After {
+fn take(w: World, state: &mut [u8; 2048], store: &[u8], unit: u8, buffer: &mut [u8]) -> After {
     let card = w.card;
-    let shelf = w.shelf;
     let rows = w.rows;
-    partly::take(card, shelf, store, rows, w.lent, unit, buffer)
+    owned::take(card, state, store, rows, w.lent, unit, buffer)
 }
 
-fn count(w: World, store: &[u8], unit: u8) -> Counted {
+fn count(w: World, state: &[u8; 2048], store: &[u8], unit: u8) -> Counted {
     let card = w.card;
-    let shelf = w.shelf;
     let rows = w.rows;
-    partly::count(card, shelf, store, rows, w.lent, unit)
+    owned::count(card, state, store, rows, w.lent, unit)
 }
 
 fn say_load(
     w: World,
+    state: &mut [u8; 2048],
     memory: &mut [u8],
     store: &[u8],
     text: &[u8],
@@ -238,13 +240,13 @@ fn say_load(
 ) -> Step
     requires { ⌜ at + 20000 ≤ length (now out) ⌝ }
 {
-    let done = load(w, memory, store, text);
-    let next = shown::said(out, at, b"load", 0, answer_of(done));
-    moved(after(w, done), next)
+    let after = load(w, state, memory, store, text);
+    done(w, after, b"load", 0, out, at)
 }
 
 fn say_arrive(
     w: World,
+    state: &mut [u8; 2048],
     memory: &[u8],
     store: &mut [u8],
     unit: u8,
@@ -254,17 +256,23 @@ fn say_arrive(
 ) -> Step
     requires { ⌜ at + 20000 ≤ length (now out) ⌝ }
 {
-    let done = arrive(w, memory, store, unit, cell);
-    let next = shown::said(out, at, b"arrive", unit, answer_of(done));
-    moved(after(w, done), next)
+    let after = arrive(w, state, memory, store, unit, cell);
+    done(w, after, b"arrive", unit, out, at)
 }
 
-fn say_hear(w: World, store: &mut [u8], unit: u8, bytes: &[u8], out: &mut [u8], at: usize) -> Step
+fn say_hear(
+    w: World,
+    state: &mut [u8; 2048],
+    store: &mut [u8],
+    unit: u8,
+    bytes: &[u8],
+    out: &mut [u8],
+    at: usize,
+) -> Step
     requires { ⌜ at + 20000 ≤ length (now out) ⌝ }
 {
-    let done = hear(w, store, unit, bytes);
-    let next = shown::said(out, at, b"hear", unit, answer_of(done));
-    moved(after(w, done), next)
+    let after = hear(w, state, store, unit, bytes);
+    done(w, after, b"hear", unit, out, at)
 }
 
 // The first so many bytes of a buffer.
@@ -275,69 +283,77 @@ fn put_front(out: &mut [u8], at: usize, buffer: &[u8], wanted: usize) -> usize
     shown::put_bytes(out, at, &buffer[..n])
 }
 
-fn frame_into(w: World, store: &mut [u8], buffer: &mut [u8], wanted: usize) -> After {
-    let n = within(wanted, buffer);
-    frame(w, store, &mut buffer[..n])
+// An answer and the first so many bytes of a buffer behind it.
+fn with_buffer(step: Step, buffer: &[u8], wanted: usize, out: &mut [u8]) -> Step
+    requires { ⌜ (length (now buffer) ≤ 1000) × (step .at + 2001 ≤ length (now out)) ⌝ }
+{
+    let world = step.world;
+    let end = put_front(out, step.at, buffer, wanted);
+    moved(world, end)
 }
 
-fn take_into(w: World, store: &[u8], unit: u8, buffer: &mut [u8], wanted: usize) -> After {
-    let n = within(wanted, buffer);
-    take(w, store, unit, &mut buffer[..n])
-}
-
-// A frame into the first so many bytes of a buffer.
-fn say_frame_in(
+fn frame_into(
     w: World,
+    state: &mut [u8; 2048],
     store: &mut [u8],
     buffer: &mut [u8],
     wanted: usize,
-    out: &mut [u8],
-    at: usize,
-) -> Step
-    requires { ⌜ (length (now buffer) ≤ 1000) × (at + 20000 ≤ length (now out)) ⌝ }
-{
-    let done = frame_into(w, store, buffer, wanted);
-    let next = shown::said(out, at, b"frame", 0, answer_of(done));
-    let end = put_front(out, next, buffer, wanted);
-    moved(after(w, done), end)
+) -> After {
+    let n = within(wanted, buffer);
+    frame(w, state, store, &mut buffer[..n])
 }
 
-fn say_frame(w: World, store: &mut [u8], wanted: usize, out: &mut [u8], at: usize) -> Step
-    requires { ⌜ at + 20000 ≤ length (now out) ⌝ }
-{
-    let mut buffer = [238u8; 1000];
-    say_frame_in(w, store, &mut buffer, wanted, out, at)
-}
-
-// A take into the first so many bytes of a buffer.
-fn say_take_in(
+fn take_into(
     w: World,
+    state: &mut [u8; 2048],
     store: &[u8],
     unit: u8,
     buffer: &mut [u8],
     wanted: usize,
+) -> After {
+    let n = within(wanted, buffer);
+    take(w, state, store, unit, &mut buffer[..n])
+}
+
+// A frame into the first so many bytes of a buffer.
+fn say_frame(
+    w: World,
+    state: &mut [u8; 2048],
+    store: &mut [u8],
+    wanted: usize,
     out: &mut [u8],
     at: usize,
 ) -> Step
-    requires { ⌜ (length (now buffer) ≤ 1000) × (at + 20000 ≤ length (now out)) ⌝ }
-{
-    let done = take_into(w, store, unit, buffer, wanted);
-    let next = shown::said(out, at, b"take", unit, answer_of(done));
-    let end = put_front(out, next, buffer, wanted);
-    moved(after(w, done), end)
-}
-
-fn say_take(w: World, store: &[u8], unit: u8, wanted: usize, out: &mut [u8], at: usize) -> Step
     requires { ⌜ at + 20000 ≤ length (now out) ⌝ }
 {
     let mut buffer = [238u8; 1000];
-    say_take_in(w, store, unit, &mut buffer, wanted, out, at)
+    let after = frame_into(w, state, store, &mut buffer, wanted);
+    let step = done(w, after, b"frame", 0, out, at);
+    with_buffer(step, &buffer, wanted, out)
 }
 
-fn say_count(w: World, store: &[u8], unit: u8, out: &mut [u8], at: usize) -> usize
+// A take into the first so many bytes of a buffer.
+fn say_take(
+    w: World,
+    state: &mut [u8; 2048],
+    store: &[u8],
+    unit: u8,
+    wanted: usize,
+    out: &mut [u8],
+    at: usize,
+) -> Step
     requires { ⌜ at + 20000 ≤ length (now out) ⌝ }
 {
-    match count(w, store, unit) {
+    let mut buffer = [238u8; 1000];
+    let after = take_into(w, state, store, unit, &mut buffer, wanted);
+    let step = done(w, after, b"take", unit, out, at);
+    with_buffer(step, &buffer, wanted, out)
+}
+
+fn say_counted(counted: Counted, unit: u8, out: &mut [u8], at: usize) -> usize
+    requires { ⌜ at + 20000 ≤ length (now out) ⌝ }
+{
+    match counted {
         Counted::Counters(c) => shown::counted(out, at, unit, c),
         Counted::Refused(number) => {
             shown::said(out, at, b"count", unit, Answer::Refused(number))
@@ -345,37 +361,23 @@ fn say_count(w: World, store: &[u8], unit: u8, out: &mut [u8], at: usize) -> usi
     }
 }
 
-// The first n bytes of b are lent.
-fn say_poke(
-    b: &mut [u8],
-    n: usize,
-    to: usize,
-    line: &[u8],
-    from: usize,
-    out: &mut [u8],
-    at: usize,
-) -> usize
+// Writes bytes from a place on, if they all lie inside.
+fn say_poke(b: &mut [u8], to: usize, bytes: &[u8], out: &mut [u8], at: usize) -> usize
     requires { ⌜ at + 20000 ≤ length (now out) ⌝ }
 {
-    let f = least(from, line.len());
-    let hex = &line[f..];
-    let e = least(n, b.len());
-    if to <= e {
-        if hex.len() / 2 <= e - to {
-            if hex::is_hex(hex) {
-                hex::unhex(hex, b, to);
-                return words::put(out, at, b"poke\tok");
-            }
+    if to <= b.len() {
+        if bytes.len() <= b.len() - to {
+            octets::copy(bytes, b, to);
+            return words::put(out, at, b"poke\tok");
         }
     }
     words::put(out, at, b"bad")
 }
 
-fn say_sum(b: &[u8], n: usize, text: &[u8], out: &mut [u8], at: usize) -> usize
+fn say_sum(b: &[u8], text: &[u8], out: &mut [u8], at: usize) -> usize
     requires { ⌜ (length (now text) ≤ 20) × (at + 20000 ≤ length (now out)) ⌝ }
 {
-    let e = within(n, b);
-    shown::summed(out, at, text, e as u64, sum::fnv(&b[..e]))
+    shown::summed(out, at, text, b.len() as u64, sum::fnv(b))
 }
 
 fn say_rows(w: World, out: &mut [u8], at: usize) -> usize
@@ -386,20 +388,41 @@ fn say_rows(w: World, out: &mut [u8], at: usize) -> usize
     shown::rows(out, at, n, rows)
 }
 
-fn say_shelf(w: World, out: &mut [u8], at: usize) -> usize
+fn say_card(w: World, card: Card, out: &mut [u8], at: usize) -> Step
     requires { ⌜ at + 20000 ≤ length (now out) ⌝ }
 {
-    let shelf = w.shelf;
-    laid::shelf(out, at, shelf)
+    moved(with_card(w, card), words::put(out, at, b"card\tok"))
 }
 
-// A command. It goes from `act` on to `call`, `hand_out` and `tell` until one of them knows it: one match over all of them takes the prover too long.
-fn act(
+fn say_lend(
     w: World,
     memory: &mut [u8],
     store: &mut [u8],
-    text: &mut [u8],
-    line: &[u8],
+    bank: Bank,
+    n: usize,
+    byte: u8,
+    out: &mut [u8],
+    at: usize,
+) -> Step
+    requires { ⌜ at + 20000 ≤ length (now out) ⌝ }
+{
+    let lent = with_bank(w, memory, store, bank, n, byte);
+    moved(lent, words::put(out, at, b"lend\tok"))
+}
+
+fn say_lend_rows(w: World, n: usize, value: u32, out: &mut [u8], at: usize) -> Step
+    requires { ⌜ at + 20000 ≤ length (now out) ⌝ }
+{
+    moved(with_rows(w, n, value), words::put(out, at, b"lend\tok"))
+}
+
+// A command. It goes from `act` on to `call`, `hand_out`, `poke` and `tell` until one of them knows it: one match over all of them takes the prover too long.
+fn act(
+    w: World,
+    state: &mut [u8; 2048],
+    memory: &mut [u8],
+    store: &mut [u8],
+    bytes: &[u8],
     command: Command,
     out: &mut [u8],
     at: usize,
@@ -407,34 +430,22 @@ fn act(
     requires { ⌜ at + 20000 ≤ length (now out) ⌝ }
 {
     match command {
-        Command::Card(card) => moved(with_card(w, card), words::put(out, at, b"card\tok")),
-        Command::Lend { bank, length, byte } => moved(
-            with_bank(w, memory, store, bank, length as usize, byte),
-            words::put(out, at, b"lend\tok"),
-        ),
-        Command::LendRows { count, value } => moved(
-            with_rows(w, count as usize, value),
-            words::put(out, at, b"lend\tok"),
-        ),
-        Command::State {
-            field,
-            place,
-            value,
-        } => moved(
-            with_field(w, field, place, value),
-            words::put(out, at, b"state\tok"),
-        ),
-        _ => call(w, memory, store, text, line, command, out, at),
+        Command::Card(card) => say_card(w, card, out, at),
+        Command::Lend { bank, length, byte } => {
+            say_lend(w, memory, store, bank, length as usize, byte, out, at)
+        }
+        Command::LendRows { count, value } => { say_lend_rows(w, count as usize, value, out, at) }
+        _ => lend(w, state, memory, store, bytes, command, out, at),
     }
 }
 
-// An event that is handed bytes.
-fn call(
+// All others see of the memory and the store what is lent.
+fn lend(
     w: World,
+    state: &mut [u8; 2048],
     memory: &mut [u8],
     store: &mut [u8],
-    text: &mut [u8],
-    line: &[u8],
+    bytes: &[u8],
     command: Command,
     out: &mut [u8],
     at: usize,
@@ -443,76 +454,113 @@ fn call(
 {
     let m = within(w.memory, memory);
     let s = within(w.store, store);
+    call(
+        w,
+        state,
+        &mut memory[..m],
+        &mut store[..s],
+        bytes,
+        command,
+        out,
+        at,
+    )
+}
+
+// An event that is handed bytes.
+fn call(
+    w: World,
+    state: &mut [u8; 2048],
+    memory: &mut [u8],
+    store: &mut [u8],
+    bytes: &[u8],
+    command: Command,
+    out: &mut [u8],
+    at: usize,
+) -> Step
+    requires { ⌜ at + 20000 ≤ length (now out) ⌝ }
+{
     match command {
-        Command::Load(from) => {
-            let n = unhexed(line, from, text);
-            say_load(w, &mut memory[..m], &store[..s], &text[..n], out, at)
+        Command::Load(_) => say_load(w, state, memory, store, bytes, out, at),
+        Command::Arrive { unit, from: _ } => {
+            say_arrive(w, state, memory, store, unit, bytes, out, at)
         }
-        Command::Arrive { unit, from } => {
-            let n = unhexed(line, from, text);
-            say_arrive(w, &memory[..m], &mut store[..s], unit, &text[..n], out, at)
-        }
-        Command::Hear { unit, from } => {
-            let n = unhexed(line, from, text);
-            say_hear(w, &mut store[..s], unit, &text[..n], out, at)
-        }
-        _ => hand_out(w, memory, store, line, command, out, at),
+        Command::Hear { unit, from: _ } => say_hear(w, state, store, unit, bytes, out, at),
+        _ => hand_out(w, state, memory, store, bytes, command, out, at),
     }
 }
 
 // An event that hands bytes out.
 fn hand_out(
     w: World,
+    state: &mut [u8; 2048],
     memory: &mut [u8],
     store: &mut [u8],
-    line: &[u8],
+    bytes: &[u8],
     command: Command,
     out: &mut [u8],
     at: usize,
 ) -> Step
     requires { ⌜ at + 20000 ≤ length (now out) ⌝ }
 {
-    let s = within(w.store, store);
     match command {
-        Command::Frame(length) => say_frame(w, &mut store[..s], length as usize, out, at),
+        Command::Frame(length) => say_frame(w, state, store, length as usize, out, at),
         Command::Take { unit, length } => {
-            say_take(w, &store[..s], unit, length as usize, out, at)
+            say_take(w, state, store, unit, length as usize, out, at)
         }
-        _ => tell(w, memory, store, line, command, out, at),
+        _ => moved(w, poke(w, state, memory, store, bytes, command, out, at)),
     }
 }
 
-// What leaves the shelf as it is.
-fn tell(
+// What the lab writes.
+fn poke(
     w: World,
+    state: &mut [u8; 2048],
     memory: &mut [u8],
     store: &mut [u8],
-    line: &[u8],
+    bytes: &[u8],
     command: Command,
     out: &mut [u8],
     at: usize,
-) -> Step
+) -> usize
     requires { ⌜ at + 20000 ≤ length (now out) ⌝ }
 {
-    let m = w.memory;
-    let s = w.store;
     match command {
-        Command::Count(unit) => {
-            let e = within(s, store);
-            moved(w, say_count(w, &store[..e], unit, out, at))
-        }
-        Command::Poke { bank, at: to, from } => match bank {
-            Bank::Memory => moved(w, say_poke(memory, m, to as usize, line, from, out, at)),
-            Bank::Store => moved(w, say_poke(store, s, to as usize, line, from, out, at)),
+        Command::Poke {
+            bank,
+            at: to,
+            from: _,
+        } => match bank {
+            Bank::Memory => say_poke(memory, to as usize, bytes, out, at),
+            Bank::Store => say_poke(store, to as usize, bytes, out, at),
         },
+        Command::PokeState { at: to, from: _ } => say_poke(state, to as usize, bytes, out, at),
+        _ => tell(w, state, memory, store, command, out, at),
+    }
+}
+
+// What leaves everything as it is.
+fn tell(
+    w: World,
+    state: &[u8; 2048],
+    memory: &[u8],
+    store: &[u8],
+    command: Command,
+    out: &mut [u8],
+    at: usize,
+) -> usize
+    requires { ⌜ at + 20000 ≤ length (now out) ⌝ }
+{
+    match command {
+        Command::Count(unit) => say_counted(count(w, state, store, unit), unit, out, at),
         Command::Show(bank) => match bank {
-            Bank::Memory => moved(w, say_sum(memory, m, b"show\tmemory", out, at)),
-            Bank::Store => moved(w, say_sum(store, s, b"show\tstore", out, at)),
+            Bank::Memory => say_sum(memory, b"show\tmemory", out, at),
+            Bank::Store => say_sum(store, b"show\tstore", out, at),
         },
-        Command::ShowRows => moved(w, say_rows(w, out, at)),
-        Command::ShowShelf => moved(w, say_shelf(w, out, at)),
+        Command::ShowRows => say_rows(w, out, at),
+        Command::ShowState => shown::state(out, at, state),
+        Command::ShowUnit(unit) => named::unit(out, at, state, unit),
         // all others are done by now
-        _ => moved(w, at),
+        _ => at,
     }
 }
 
@@ -525,9 +573,28 @@ fn ended(out: &mut [u8], at: usize) -> usize {
     at
 }
 
+// A command and its newline.
+fn obey(
+    w: World,
+    state: &mut [u8; 2048],
+    memory: &mut [u8],
+    store: &mut [u8],
+    bytes: &[u8],
+    command: Command,
+    out: &mut [u8],
+    at: usize,
+) -> Step
+    requires { ⌜ at + 20000 ≤ length (now out) ⌝ }
+{
+    let step = act(w, state, memory, store, bytes, command, out, at);
+    let world = step.world;
+    moved(world, ended(out, step.at))
+}
+
 // The answer to one line.
 fn answer_line(
     w: World,
+    state: &mut [u8; 2048],
     memory: &mut [u8],
     store: &mut [u8],
     text: &mut [u8],
@@ -539,9 +606,8 @@ fn answer_line(
 {
     match command::read(line) {
         Reading::Does(command) => {
-            let done = act(w, memory, store, text, line, command, out, at);
-            let world = done.world;
-            moved(world, ended(out, done.at))
+            let n = unhexed(line, bytes_from(command, line.len()), text);
+            obey(w, state, memory, store, &text[..n], command, out, at)
         }
         Reading::Bad => moved(w, words::put(out, at, b"bad\n")),
     }
@@ -560,6 +626,7 @@ fn cleared(out: &[u8], at: usize) -> usize {
 // Answers every whole line of the input.
 fn answer_lines(
     rest: Rest,
+    state: &mut [u8; 2048],
     memory: &mut [u8],
     store: &mut [u8],
     text: &mut [u8],
@@ -581,7 +648,17 @@ fn answer_lines(
             };
         }
         let next = e + 1;
-        let done = answer_one(w, long, memory, store, text, &input[from..e], out, at);
+        let done = answer_one(
+            w,
+            long,
+            state,
+            memory,
+            store,
+            text,
+            &input[from..e],
+            out,
+            at,
+        );
         w = done.world;
         at = done.at;
         long = false;
@@ -593,6 +670,7 @@ fn answer_lines(
 fn answer_one(
     w: World,
     long: bool,
+    state: &mut [u8; 2048],
     memory: &mut [u8],
     store: &mut [u8],
     text: &mut [u8],
@@ -606,7 +684,7 @@ fn answer_one(
             if long {
                 return moved(w, words::put(out, next, b"bad\n"));
             }
-            return answer_line(w, memory, store, text, line, out, next);
+            return answer_line(w, state, memory, store, text, line, out, next);
         }
     }
     moved(w, next)
@@ -628,6 +706,7 @@ fn shift(input: &mut [u8], from: usize, end: usize) -> usize {
 // All that was read but the start of a line is answered; that goes to the front, unless it is too long already.
 fn turn(
     rest: Rest,
+    state: &mut [u8; 2048],
     memory: &mut [u8],
     store: &mut [u8],
     text: &mut [u8],
@@ -636,9 +715,14 @@ fn turn(
     out: &mut [u8],
 ) -> Rest {
     let e = within(end, input);
-    let done = answer_lines(rest, memory, store, text, &input[..e], out);
+    let done = answer_lines(rest, state, memory, store, text, &input[..e], out);
     let n = within(done.at, out);
     io::write_all(1, &out[..n]);
+    rested(done, input, e)
+}
+
+// What is left of the input after a batch.
+fn rested(done: Batch, input: &mut [u8], e: usize) -> Rest {
     let world = done.world;
     let from = least(done.from, e);
     if MOST < e - from {
@@ -661,6 +745,7 @@ fn turn(
 // The last line, if it has no newline.
 fn last(
     rest: Rest,
+    state: &mut [u8; 2048],
     memory: &mut [u8],
     store: &mut [u8],
     text: &mut [u8],
@@ -675,7 +760,7 @@ fn last(
             return;
         }
     }
-    let done = answer_one(world, long, memory, store, text, &input[..n], out, 0);
+    let done = answer_one(world, long, state, memory, store, text, &input[..n], out, 0);
     let e = within(done.at, out);
     io::write_all(1, &out[..e]);
 }
@@ -683,6 +768,7 @@ fn last(
 // Reads once, and answers what came.
 fn read_turn(
     mut rest: Rest,
+    state: &mut [u8; 2048],
     memory: &mut [u8],
     store: &mut [u8],
     text: &mut [u8],
@@ -695,7 +781,7 @@ fn read_turn(
         rest.open = false;
         return rest;
     }
-    turn(rest, memory, store, text, input, kept + n, out)
+    turn(rest, state, memory, store, text, input, kept + n, out)
 }
 
 // One turn less; none after the end of the input.
@@ -706,20 +792,32 @@ fn left(turns: u64, open: bool) -> u64
     if open { turns - 1 } else { 0 }
 }
 
-// Reads to the end of the input; nothing says that there is one, so turns are counted.
-fn run(memory: &mut [u8], store: &mut [u8], text: &mut [u8], input: &mut [u8], out: &mut [u8]) {
-    let mut rest = Rest {
+// Nothing is read yet.
+fn begun() -> Rest {
+    Rest {
         world: fresh(),
         kept: 0,
         long: false,
         open: true,
-    };
+    }
+}
+
+// Reads to the end of the input; nothing says that there is one, so turns are counted.
+fn run(
+    state: &mut [u8; 2048],
+    memory: &mut [u8],
+    store: &mut [u8],
+    text: &mut [u8],
+    input: &mut [u8],
+    out: &mut [u8],
+) {
+    let mut rest = begun();
     let mut turns: u64 = 18446744073709551615;
     while 0 < turns {
-        rest = read_turn(rest, memory, store, text, input, out);
+        rest = read_turn(rest, state, memory, store, text, input, out);
         turns = left(turns, rest.open);
     }
-    last(rest, memory, store, text, input, out);
+    last(rest, state, memory, store, text, input, out);
 }
 
 // Reads into what is free behind the kept bytes; how many bytes came.
@@ -756,11 +854,26 @@ fn out_room() -> [u8; 200000]
     [0; 200000]
 }
 
+// A fresh 16 bus.
+fn state_room() -> [u8; 2048] {
+    let mut state = [0; 2048];
+    state::fresh(&mut state, 16);
+    state
+}
+
 fn main() {
+    let mut state = state_room();
     let mut memory = bank();
     let mut store = bank();
     let mut text = text_room();
     let mut input = input_room();
     let mut out = out_room();
-    run(&mut memory, &mut store, &mut text, &mut input, &mut out);
+    run(
+        &mut state,
+        &mut memory,
+        &mut store,
+        &mut text,
+        &mut input,
+        &mut out,
+    );
 }

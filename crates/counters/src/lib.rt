@@ -1,12 +1,13 @@
 // The counters of the units: a lent row of records.
-use answer::Done;
-use answer::Reply;
+use answer::Answer;
+use answer::Outcome;
 use answer::Rises;
 ghost use mathlib.Core.Path.{_≡_};
 ghost use Prim.Native.Nat.{_<_, _≤_};
 ghost use lib.ListN.{length, getD};
 ghost use Rattle.counters.specs.Counting.{zeros, tick as ticked, raised as raisedBy, riseAt, rowBy, settled};
 
+#[repr(C)]
 pub struct Counters {
     pub arrived: u32,
     pub hec: u32,
@@ -101,16 +102,16 @@ pub fn row_by(c: Counters, rise: u16) -> Counters
     c.raised(rise)
 }
 
-pub fn rises_of(done: Done) -> Rises
-    ensures { λ r. ⌜ r ≡ done .rises ⌝ }
+pub fn rises_of(o: Outcome) -> Rises
+    ensures { λ r. ⌜ r ≡ o .rises ⌝ }
 {
-    done.rises
+    o.rises
 }
 
-pub fn reply_of(done: Done) -> Reply
-    ensures { λ r. ⌜ r ≡ done .reply ⌝ }
+pub fn answer_of(o: Outcome) -> Answer
+    ensures { λ r. ⌜ r ≡ o .answer ⌝ }
 {
-    done.reply
+    o.answer
 }
 
 // The first place whose row changes, and the place after the last.
@@ -126,8 +127,8 @@ pub fn last(rises: Rises) -> usize
     rises.to
 }
 
-// The only function that writes counters. It is given no more than the rises: a shelf beside them would be copied through it. They are read
-// once for each row, and a row in which nothing rises is left alone.
+// The only function that writes counters. It is given no more than the rises, which are read once for each row; a row in which nothing rises
+// is left alone.
 pub fn settle(rows: &mut [Counters], rises: Rises)
     requires { ⌜ (rises .to ≤ 32) × (rises .to ≤ length (now rows)) ⌝ }
     ensures { λ _. ⌜ now (rows .exit) ≡ settled (now (rows .entry)) rises ⌝ }

@@ -6,6 +6,7 @@ use Rattle.promise.proofs.Cards.{wide-or-not}
 use Rattle.promise.proofs.Values.{starred-hold}
 use Rattle.promise.proofs.Sheets.{check-sheet}
 use Rattle.running.proofs.Kept.{never-state}
+use Rattle.running.proofs.InPlace.{in-place, runs-in-place}
 use Rattle.running.proofs.Tables.{table-refused-iff, table-loaded-iff, refused-table-zeroes, good-load}
 use Rattle.running.proofs.Contracts.{entry-meets, entry-asks-nothing, entry-says, steps, determined}
 use Rattle.refining.proofs.Refined.{refines, counters-are-history, too-wide, same-card}
@@ -17,6 +18,12 @@ use Rattle.flow.proofs.Streets.{right-street}
 use Rattle.flow.proofs.Follows.{line-followed}
 use Rattle.flow.proofs.Apart.{once-only}
 use Rattle.flow.proofs.Out.{taken-right, line-delivered, sent-right}
+use Rattle.sentences.specs.Arrival.{ArrivalRule}
+use Rattle.sentences.specs.Frame.{FrameRule}
+use Rattle.sentences.specs.Hearing.{HearingRule}
+use Rattle.sentences.specs.Take.{TakeRule}
+use Rattle.sentences.specs.Count.{CountRule}
+use Rattle.sentences.proofs.InPlace.{in-bytes}
 use Rattle.sentences.proofs.Refused.{refused as refused-rule, state-kept}
 use Rattle.sentences.proofs.Arrives.{arrival-rule}
 use Rattle.sentences.proofs.Frames.{frame-rule}
@@ -28,7 +35,7 @@ use Rattle.fates.proofs.Holding.{held-means-held}
 use Rattle.fates.proofs.Going.{frames-go-on}
 use Rattle.fates.proofs.Cleaned.{clean-table-clean-bus}
 use Rattle.fates.proofs.Isolated.{isolation}
-use Rattle.witness.proofs.Witnessed.{listing-prints, bus-alone, all-run, refusals, spoiled-state, beyond-loaded}
+use Rattle.witness.proofs.Witnessed.{listing-prints, bus-alone, all-run, refusals, spoiled-state, link-byte, beyond-loaded}
 use Rattle.demands.specs.Demands.{Demand1, Demand2, Demand3, Witnessed}
 
 pub demand-1 : Demand1
@@ -46,6 +53,8 @@ demand-1 =
       either-way = either-way;
       refused-table-zeroes = refused-table-zeroes;
       good-load = good-load;
+      in-place = in-place;
+      runs-in-place = runs-in-place;
       refused-rule = refused-rule;
       state-kept = state-kept;
       never-state = never-state;
@@ -56,11 +65,11 @@ demand-2 =
     record {
       starred-hold = starred-hold;
       check-sheet = check-sheet;
-      arrival-rule = arrival-rule;
-      frame-rule = frame-rule;
-      hearing-rule = hearing-rule;
-      take-rule = take-rule;
-      count-rule = count-rule;
+      arrival-rule = in-bytes ArrivalRule arrival-rule;
+      frame-rule = in-bytes FrameRule frame-rule;
+      hearing-rule = in-bytes HearingRule hearing-rule;
+      take-rule = in-bytes TakeRule take-rule;
+      count-rule = in-bytes CountRule count-rule;
       refines = refines;
       refines-refused = refines-refused;
       fate-iff = fate-iff;
@@ -89,4 +98,4 @@ pub demand-3 : Demand3
 demand-3 = record { too-wide = too-wide; wide-or-not = wide-or-not; same-card = same-card }
 
 pub witnessed : Witnessed
-witnessed = record { listing-prints = listing-prints; bus-alone = bus-alone; all-run = all-run; refusals = refusals; spoiled = spoiled-state; beyond-loaded = beyond-loaded }
+witnessed = record { listing-prints = listing-prints; bus-alone = bus-alone; all-run = all-run; refusals = refusals; spoiled = spoiled-state; link-byte = link-byte; beyond-loaded = beyond-loaded }

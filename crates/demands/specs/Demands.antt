@@ -1,4 +1,5 @@
--- The three demands: each sentence, and the statement that carries it. Assumes nothing.
+-- The three demands: each sentence, and the statement that carries it. What is said of the shelf is said of the 2,048 lent bytes of its state: `running: Lent` has the contracts of
+-- `entry` over them, `state: Bytes` the shelf that they are. Assumes nothing.
 use Prim.Native.Nat.{ℕ, _<_}
 use mathlib.Core.Path.{_≡_}
 use mathlib.Core.Logic.{_⊎_, _↔_}
@@ -14,6 +15,7 @@ use Rattle.promise.specs.Narrow.{NoneWide, FirstWide}
 use Rattle.promise.specs.Sheet.{sheet}
 use Rattle.promise.specs.Starred.{starred, all-hold}
 use Rattle.running.specs.Keeping.{NeverState}
+use Rattle.running.specs.InPlace.{InPlace, RunsInPlace}
 use Rattle.running.specs.Tables.{TableRefusedIff, TableLoadedIff, RefusedTableZeroes, GoodLoad}
 use Rattle.running.specs.Contracts.{EntryMeets, EntryAsksNothing, EntrySays, Steps, Determined}
 use Rattle.refining.specs.Refines.{Refines, RefinesRefused, CountersAreHistory}
@@ -24,6 +26,7 @@ use Rattle.flow.specs.Counted.{CountersTrue}
 use Rattle.flow.specs.Street.{RightStreet, LineFollowed}
 use Rattle.flow.specs.Apart.{OnceOnly}
 use Rattle.flow.specs.Out.{TakenRight, LineDelivered, SentRight}
+use Rattle.sentences.specs.Changes.{InBytes}
 use Rattle.sentences.specs.Refusals.{RefusedRule, StateKept}
 use Rattle.sentences.specs.Arrival.{ArrivalRule}
 use Rattle.sentences.specs.Frame.{FrameRule}
@@ -36,7 +39,7 @@ use Rattle.fates.specs.Held.{HeldMeansHeld}
 use Rattle.fates.specs.Frames.{FramesGoOn}
 use Rattle.fates.specs.Clean.{CleanTableCleanBus}
 use Rattle.fates.specs.Isolation.{Isolation}
-use Rattle.witness.specs.Witness.{ListingPrints, BusAlone, AllRun, Refusals, Spoiled, BeyondLoaded}
+use Rattle.witness.specs.Witness.{ListingPrints, BusAlone, AllRun, Refusals, Spoiled, LinkByte, BeyondLoaded}
 
 -- 1. "Every entry point takes every input, finishes, and does nothing undefined. A bad table, frame, cell, buffer or shelf state is refused with a fixed number. A refused table leaves
 -- the translation memory zeroed, its first 262,144 bytes where it is longer; every other refusal changes nothing."
@@ -67,12 +70,17 @@ pub record Demand1 : Type 2 where
   -- "each `unit` line takes (top VPI + 1) records and each `page` line (top VCI + 1) records, in line order, 8 bytes a record, from byte 0 without gaps": the memory byte by byte, and the
   -- shelf number by number; "A good load zeroes its rows and starts with all queues empty."
   pub good-load : GoodLoad
-  -- "A bad .. frame, cell, buffer or shelf state is refused with a fixed number.": each of 8 to 10, over every event on every state, sound or not, exactly when 01 says so, a bad state item
-  -- by item; "every other refusal changes nothing"
+  -- an event on bytes that are a state is the event on the shelf that they are: what is said, each lent byte, the shelf afterwards; they are a state again, and no byte of a place that is
+  -- not declared has changed. Bytes that are none are refused, and stay
+  pub in-place : InPlace
+  -- so it is from every load on, which leaves a state, all 2,048 bytes of it, whatever they were
+  pub runs-in-place : RunsInPlace
+  -- "A bad .. frame, cell, buffer or shelf state is refused with a fixed number.": each of 8 to 10, over every event on all bytes, a state or not, exactly when 01 says so, a bad state item
+  -- by item; "every other refusal changes nothing", not one byte
   pub refused-rule : RefusedRule
-  -- every event leaves a good shelf state good
+  -- every event leaves a good state good
   pub state-kept : StateKept
-  -- so no shelf that was loaded is ever refused as State
+  -- so no state that was loaded is ever refused as State
   pub never-state : NeverState
 
 -- 2. "The shelf does what the published cell header rules, the CUBIT-Pro data sheet and document 01 say, for frames written and frames heard. Each arriving cell meets exactly one
@@ -82,18 +90,18 @@ pub record Demand2 : Type 0 where
   pub starred-hold : T (all-hold starred)
   -- "the CUBIT-Pro data sheet": its equations for the check of the routing header are 01's remainder
   pub check-sheet : (word : ℕ) → word < 4096 → check word ≡ sheet word
-  -- 01's "What an event does", each sentence in its own numbers, on every sound state, in any memory and any store: which fate a cell meets by the record's bytes, what is said, what is
+  -- 01's "What an event does", each sentence in its own numbers, on all bytes that are a sound state, in any memory and any store: which fate a cell meets by the record's bytes, what is said, what is
   -- held where, which counters rise in which rows, and that nothing else changes. "**Arrival** at a unit."
-  pub arrival-rule : ArrivalRule
+  pub arrival-rule : InBytes ArrivalRule
   -- "**Frame**, numbered from 0 modulo 65,536."
-  pub frame-rule : FrameRule
+  pub frame-rule : InBytes FrameRule
   -- "**Hearing**": "one handed in by the unit named with it"; "Capacities"
-  pub hearing-rule : HearingRule
+  pub hearing-rule : InBytes HearingRule
   -- "**Take** gives the oldest cell"
-  pub take-rule : TakeRule
+  pub take-rule : InBytes TakeRule
   -- "`count` lists the thirteen"
-  pub count-rule : CountRule
-  -- "The shelf does what .. document 01 say, for frames written and frames heard.": every answer and every lent byte, from a good load on
+  pub count-rule : InBytes CountRule
+  -- "The shelf does what .. document 01 say, for frames written and frames heard.": every answer and every lent byte, from a good load on; what follows of the document's shelf is so of ours
   pub refines : Refines
   -- and from a refused one on: "a fresh 16 bus with no units"
   pub refines-refused : RefinesRefused
@@ -135,7 +143,7 @@ pub record Demand2 : Type 0 where
   pub line-delivered : LineDelivered
   -- those of a frame after a grant are the oldest cell of the unit granted, which arrived there
   pub sent-right : SentRight
-  -- an event at a unit leaves every other unit, row and part of the store alone
+  -- an event at a unit leaves every other unit, row and part of the store alone, and of the state's bytes all but that unit's rings
   pub isolation : Isolation
 
 -- 3. "Take a route table that the twelve-bit card accepts, and lend both cards equal room. The eight-bit card refuses it as too wide .. Otherwise .. it gives the same answers, cells and
@@ -145,7 +153,8 @@ pub record Demand3 : Type 0 where
   pub too-wide : TooWide
   -- there is a first such line, or none: one of the two always speaks
   pub wide-or-not : (told : List Line) → NoneWide told ⊎ ((line : ℕ) × FirstWide told line)
-  -- "Otherwise, over every sequence of events after loading .. it gives the same answers, cells and counters as the twelve-bit card, and both are those of demand 2."
+  -- "Otherwise, over every sequence of events after loading .. it gives the same answers, cells and counters as the twelve-bit card, and both are those of demand 2."; the two states are
+  -- equal byte for byte
   pub same-card : SameCard
 
 -- none of it is empty
@@ -160,5 +169,7 @@ pub record Witnessed : Type 0 where
   pub refusals : Refusals
   -- State
   pub spoiled : Spoiled
-  -- a sound shelf that no load gives back
+  -- a link byte that no `unit` line gives
+  pub link-byte : LinkByte
+  -- a sound state that no load leaves
   pub beyond-loaded : BeyondLoaded

@@ -1,101 +1,101 @@
-// The six functions that others call. Each has a covered function do all but the counters, and `counters::settle` write those.
+// The six functions that others call, with the state lent. Each has a covered function do all but the counters, and `counters::settle` write those.
 use admit::Place;
-use answer::Reply;
+use answer::Answer;
 use card::Card;
 use counters::Counters;
-use shelf::Shelf;
 ghost use mathlib.Core.Path.{_≡_};
 ghost use lib.ListN.{length};
 ghost use Rattle.entry.specs.Counts.{counted as countedOf};
 ghost use Rattle.entry.specs.Outcomes.{arrives, frames, hears, takes, countsOf, loads, LeavesStore, LeavesAll, LeavesBytes, LeavesMemory};
-
-// A cell arrives at a unit.
-pub fn arrive(
-    card: Card,
-    shelf: Shelf,
-    memory: &[u8],
-    store: &mut [u8],
-    rows: &mut [Counters],
-    unit: u8,
-    cell: &[u8],
-) -> Reply
-    ensures { λ r. ⌜ LeavesStore (arrives card shelf (now (memory .entry)) (now (store .entry)) (now (rows .entry)) (length (now (rows .entry))) unit (now (cell .entry))) r (now (store .exit)) (now (rows .exit)) ⌝ }
-{
-    let n = rows.len();
-    let done = arriving::arrive(card, shelf, memory, store, n, unit, cell);
-    let rises = counters::rises_of(done);
-    counters::settle(rows, rises);
-    counters::reply_of(done)
-}
-
-// A frame on the bus.
-pub fn frame(
-    card: Card,
-    shelf: Shelf,
-    store: &mut [u8],
-    rows: &mut [Counters],
-    buffer: &mut [u8],
-) -> Reply
-    ensures { λ r. ⌜ LeavesAll (frames card shelf (now (store .entry)) (now (rows .entry)) (length (now (rows .entry))) (now (buffer .entry))) r (now (store .exit)) (now (buffer .exit)) (now (rows .exit)) ⌝ }
-{
-    let n = rows.len();
-    let done = framing::frame(card, shelf, store, n, buffer);
-    let rises = counters::rises_of(done);
-    counters::settle(rows, rises);
-    counters::reply_of(done)
-}
-
-// The oldest cell is taken from a unit.
-pub fn take(
-    card: Card,
-    shelf: Shelf,
-    store: &[u8],
-    rows: &mut [Counters],
-    unit: u8,
-    buffer: &mut [u8],
-) -> Reply
-    ensures { λ r. ⌜ LeavesBytes (takes card shelf (now (store .entry)) (now (rows .entry)) (length (now (rows .entry))) unit (now (buffer .entry))) r (now (buffer .exit)) (now (rows .exit)) ⌝ }
-{
-    let n = rows.len();
-    let done = taking::take(card, shelf, store, n, unit, buffer);
-    let rises = counters::rises_of(done);
-    counters::settle(rows, rises);
-    counters::reply_of(done)
-}
-
-// A frame is handed in to a unit.
-pub fn hear(
-    card: Card,
-    shelf: Shelf,
-    store: &mut [u8],
-    rows: &mut [Counters],
-    unit: u8,
-    frame: &[u8],
-) -> Reply
-    ensures { λ r. ⌜ LeavesStore (hears card shelf (now (store .entry)) (now (rows .entry)) (length (now (rows .entry))) unit (now (frame .entry))) r (now (store .exit)) (now (rows .exit)) ⌝ }
-{
-    let n = rows.len();
-    let done = hearing::hear(card, shelf, store, n, unit, frame);
-    let rises = counters::rises_of(done);
-    counters::settle(rows, rises);
-    counters::reply_of(done)
-}
 
 // A route table is loaded.
 pub fn load(
     card: Card,
     text: &[u8],
     memory: &mut [u8],
+    state: &mut [u8; 2048],
     store: &[u8],
     rows: &mut [Counters],
-) -> Reply
-    ensures { λ r. ⌜ LeavesMemory (loads card (now (text .entry)) (now (memory .entry)) (now (store .entry)) (now (rows .entry)) (length (now (rows .entry)))) r (now (memory .exit)) (now (rows .exit)) ⌝ }
+) -> Answer
+    ensures { λ r. ⌜ LeavesMemory (loads card (now (text .entry)) (now (memory .entry)) (now (store .entry)) (now (rows .entry)) (length (now (rows .entry)))) r (now (memory .exit)) (now (state .exit)) (now (rows .exit)) ⌝ }
 {
     let n = rows.len();
-    let done = loading::load(card, text, memory, store, n);
+    let done = loading::load(card, text, memory, state, store, n);
     let rises = counters::rises_of(done);
     counters::settle(rows, rises);
-    counters::reply_of(done)
+    counters::answer_of(done)
+}
+
+// A cell arrives at a unit.
+pub fn arrive(
+    card: Card,
+    state: &mut [u8; 2048],
+    memory: &[u8],
+    store: &mut [u8],
+    rows: &mut [Counters],
+    unit: u8,
+    cell: &[u8],
+) -> Answer
+    ensures { λ r. ⌜ LeavesStore (arrives card (now (state .entry)) (now (memory .entry)) (now (store .entry)) (now (rows .entry)) (length (now (rows .entry))) unit (now (cell .entry))) r (now (state .exit)) (now (store .exit)) (now (rows .exit)) ⌝ }
+{
+    let n = rows.len();
+    let done = arriving::arrive(card, state, memory, store, n, unit, cell);
+    let rises = counters::rises_of(done);
+    counters::settle(rows, rises);
+    counters::answer_of(done)
+}
+
+// A frame on the bus.
+pub fn frame(
+    card: Card,
+    state: &mut [u8; 2048],
+    store: &mut [u8],
+    rows: &mut [Counters],
+    buffer: &mut [u8],
+) -> Answer
+    ensures { λ r. ⌜ LeavesAll (frames card (now (state .entry)) (now (store .entry)) (now (rows .entry)) (length (now (rows .entry))) (now (buffer .entry))) r (now (state .exit)) (now (store .exit)) (now (buffer .exit)) (now (rows .exit)) ⌝ }
+{
+    let n = rows.len();
+    let done = framing::frame(card, state, store, n, buffer);
+    let rises = counters::rises_of(done);
+    counters::settle(rows, rises);
+    counters::answer_of(done)
+}
+
+// A frame is handed in to a unit.
+pub fn hear(
+    card: Card,
+    state: &mut [u8; 2048],
+    store: &mut [u8],
+    rows: &mut [Counters],
+    unit: u8,
+    frame: &[u8],
+) -> Answer
+    ensures { λ r. ⌜ LeavesStore (hears card (now (state .entry)) (now (store .entry)) (now (rows .entry)) (length (now (rows .entry))) unit (now (frame .entry))) r (now (state .exit)) (now (store .exit)) (now (rows .exit)) ⌝ }
+{
+    let n = rows.len();
+    let done = hearing::hear(card, state, store, n, unit, frame);
+    let rises = counters::rises_of(done);
+    counters::settle(rows, rises);
+    counters::answer_of(done)
+}
+
+// The oldest cell is taken from a unit.
+pub fn take(
+    card: Card,
+    state: &mut [u8; 2048],
+    store: &[u8],
+    rows: &mut [Counters],
+    unit: u8,
+    buffer: &mut [u8],
+) -> Answer
+    ensures { λ r. ⌜ LeavesBytes (takes card (now (state .entry)) (now (store .entry)) (now (rows .entry)) (length (now (rows .entry))) unit (now (buffer .entry))) r (now (state .exit)) (now (buffer .exit)) (now (rows .exit)) ⌝ }
+{
+    let n = rows.len();
+    let done = taking::take(card, state, store, n, unit, buffer);
+    let rises = counters::rises_of(done);
+    counters::settle(rows, rises);
+    counters::answer_of(done)
 }
 
 // What a count answers: the counters of the unit, or the number of the refusal.
@@ -121,11 +121,11 @@ pub fn counted_at(place: Place, row: Counters) -> Counted
 }
 
 // The counters of a unit.
-pub fn count(card: Card, shelf: Shelf, store: &[u8], rows: &[Counters], unit: u8) -> Counted
-    ensures { λ r. ⌜ r ≡ countsOf card shelf (now (store .entry)) (now (rows .entry)) (length (now (rows .entry))) unit ⌝ }
+pub fn count(card: Card, state: &[u8; 2048], store: &[u8], rows: &[Counters], unit: u8) -> Counted
+    ensures { λ r. ⌜ r ≡ countsOf card (now (state .entry)) (now (store .entry)) (now (rows .entry)) (length (now (rows .entry))) unit ⌝ }
 {
     let n = rows.len();
-    let place = admit::counted(card, shelf, store, n, unit);
+    let place = admit::counted(card, state, store, n, unit);
     let at = row_at(place);
     let row = counters::read_row(rows, at);
     counted_at(place, row)

@@ -3,7 +3,7 @@ use Prim.Native.Nat.{ℕ, _+_, _≤_}
 use native.Mathlib.Omega.{arith}
 use mathlib.Core.Path.{_≡_, refl, sym, ap, subst, _∙_}
 use mathlib.Core.Logic.{_≢_, ⊎-elim}
-use mathlib.Core.Bool.{Bool, true, false, cond}
+use mathlib.Core.Bool.{Bool, true, false, cond, false≢true}
 use mathlib.Core.Option.{some}
 use mathlib.Core.List.{List, _++_}
 use lib.Dec.{eqb}
@@ -18,10 +18,10 @@ use Rattle.store.specs.Places.{partOf, slotAt, putAt, inletSlot, outletSlot}
 use Rattle.store.specs.Rings.{tail, pushed}
 use Rattle.store.proofs.Slots.{by-lt}
 use Rattle.outlet.specs.Outlets.{queue, capacity}
-use Rattle.shelf.specs.Shelves.{declared, blank, findIn}
+use Rattle.shelf.specs.Shelves.{declared, blank, findIn, isAt}
 use Rattle.shelf.specs.declared.Found.the-variants as found
 use Rattle.shelf.specs.declared.Unit as U
-use Rattle.shelf.specs.declared.Shelf.{Shelf}
+use Rattle.shelf.specs.Shelf.{Shelf}
 use Rattle.queueing.specs.Taking.{leaving}
 use Rattle.queueing.specs.declared.Leaving as L
 use Rattle.queueing.specs.declared.Leaving.the-variants as leaves
@@ -30,10 +30,16 @@ use Rattle.answer.specs.declared.Arrival.the-variants.{Inletfull, Queued}
 use Rattle.counters.specs.Counting.{settled, settledTo, zeros}
 use Rattle.counters.proofs.Settling.{settled-ahead, settled-behind, length-settled}
 use Rattle.counters.specs.declared.Counters as C
-use Rattle.admit.specs.Admission.{admitted, decided, unitAt, withUnit, withInlet, Housed}
+use Rattle.state.specs.Bytes.{shelfIn}
+use Rattle.soundness.specs.Soundings.{formedAll}
+use Rattle.admit.specs.Admission.{admitted, admittedIn, decided, unitAt, withUnit, withInlet, Housed}
 use Rattle.admit.specs.declared.Admitted as A
 use Rattle.admit.specs.declared.Admitted.the-variants.{At, Refused}
 use Rattle.admit.proofs.Laws.{at-let-in, let-in-housed}
+use Rattle.admit.proofs.InPlace.{in-place}
+use Rattle.arriving.proofs.InPlace.{arrive-other}
+use Rattle.hearing.proofs.InPlace.{hear-other}
+use Rattle.taking.proofs.InPlace.{take-other}
 use Rattle.arriving.specs.Arriving as arriving
 use Rattle.arriving.specs.declared.Way.{Way}
 use Rattle.arriving.specs.declared.Way.the-variants.{Bus, Lost}
@@ -44,9 +50,14 @@ use Rattle.hearing.specs.declared.Plan as P
 use Rattle.hearing.specs.declared.Plan.the-variants as plans
 use Rattle.hearing.proofs.Plans.{plan-queue, outlet-inside}
 use Rattle.taking.specs.Takes as taking
-use Rattle.document.specs.Events.{arrive, frame, hear, take-cell, count, named}
+use Rattle.document.specs.Events.{Event, arrive, frame, hear, take-cell, count, named}
+use Rattle.paper.proofs.State.{formed-iff}
 use Rattle.running.specs.Events.{World, ended, happens}
-use Rattle.fates.specs.Isolation.{Outside, OnlyAt, Isolation}
+use Rattle.running.specs.Keeping.{soundIn}
+use Rattle.running.specs.Lent.{Lent, Long, does, seen}
+use Rattle.running.specs.Refusing.{known, fits}
+use Rattle.running.proofs.InPlace.{same, refused-keeps, in-place as tie}
+use Rattle.fates.specs.Isolation.{Outside, OnlyAt, OnlyRings, Isolation}
 
 -- a byte of a list, seen as a part of it
 byte-of : (b : List ℕ) (k : ℕ) → getD (part b k 1) 0 0 ≡ getD b k 0
@@ -232,17 +243,17 @@ module _ (w : World) (i : ℕ) (housed : Housed i (unitAt (w .shelf) i) (length 
   taken leaves.Empty buffer = only-none w i
 
 -- each event that names a unit
-pub isolation : Isolation
+isolated : (card : Card) (w : World) (e : Event) (unit : ℕ) → named e ≡ some unit → Alone w unit (happens card w e .world)
 unfolding named happens decided settledTo
-isolation card w (arrive unit c) n e =
+isolated card w (arrive unit c) n e =
     both card w unit (eqb (length c) 53)
     (λ a.
     ended w (decided a (λ place. arriving.doneAt card (w .shelf) place (w .memory) c) (refused (w .shelf)))
     (decided a (λ place. arriving.storeAt card (w .shelf) place (w .memory) (w .store) c) (λ number. w .store)) c .world)
     (λ number. refl)
     (λ i housed r. arrival w i housed (arriving.wayOf card (unitAt (w .shelf) i) (w .memory) c) c (eqb-true (length c) 53 r)) n e
-isolation card w (frame buffer) n e = let z : _≡_ {A = ℕ} 0 1 = cc in absurd (omega arith)
-isolation card w (hear unit f) n e =
+isolated card w (frame buffer) n e = let z : _≡_ {A = ℕ} 0 1 = cc in absurd (omega arith)
+isolated card w (hear unit f) n e =
     both card w unit (eqb (length f) 57)
     (λ a.
     ended w (decided a (λ place. hearing.doneAt (w .shelf) place f) (refused (w .shelf)))
@@ -253,9 +264,68 @@ isolation card w (hear unit f) n e =
     only-unit w i (hearingRises (hearing.copyOf v (heard f) .fate)) _
     (heard-so w i housed (heard f) (take 56 f) (let a = length-take 56 f in let b = eqb-true (length f) 57 r in omega arith)) (hearing.copyOf v (heard f) .unit))
     n e
-isolation card w (take-cell unit buffer) n e =
+isolated card w (take-cell unit buffer) n e =
     both card w unit (eqb (length buffer) 53)
     (λ a. ended w (decided a (taking.doneAt (w .shelf)) (refused (w .shelf))) (w .store) buffer .world)
     (λ number. refl)
     (λ i housed r. taken w i housed (leaving (unitAt (w .shelf) i .outlet)) buffer) n e
-isolation card w (count unit) n e = (λ place there. only-none w place, λ nothing. refl)
+isolated card w (count unit) n e = (λ place there. only-none w place, λ nothing. refl)
+
+-- in lent bytes: what is written is the place where the unit is found
+module _ (card : Card) (l : Lent) (long : Long l) where
+  abbrev b : List ℕ
+  b = l .state
+
+  abbrev s : ℕ
+  s = length (l .store)
+
+  abbrev r : ℕ
+  r = length (l .rows)
+
+  same-place : (unit n : ℕ) (right : Bool) (i place : ℕ) → some unit ≡ some n → findIn (declared (shelfIn b)) n ≡ found.At place → admittedIn card b s r unit right ≡ At i → i ≡ place
+  same-place unit n right i place e there way = let f = in-place card b s r unit right i way .let-in .found in let m : unit ≡ n = cc in cc
+
+  rings : (e : Event) (n : ℕ) → named e ≡ some n → (place : ℕ) → findIn (declared (shelfIn b)) n ≡ found.At place → OnlyRings place b (does card l e .lent .state)
+  unfolding named does
+  rings (arrive unit c) n e place there k apart =
+      arrive-other card b (l .memory) s r unit c long k (λ i way p q x. apart p q (x ∙ same-place unit n (eqb (length c) 53) i place e there way))
+  rings (frame buffer) n e place there k apart = let z : _≡_ {A = ℕ} 0 1 = cc in absurd (omega arith)
+  rings (hear unit f) n e place there k apart = hear-other card b s r unit f k (λ i way p q x. apart p q (x ∙ same-place unit n (eqb (length f) 57) i place e there way))
+  rings (take-cell unit buffer) n e place there k apart =
+      take-other card b s r unit (length buffer) long k (λ i way p q x. apart p q (x ∙ same-place unit n (eqb (length buffer) 53) i place e there way))
+  rings (count unit) n e place there k apart = refl
+
+-- a unit that is not declared
+strange : (shelf : Shelf) (e : Event) (n : ℕ) → named e ≡ some n → findIn (declared shelf) n ≡ found.Nothing → known shelf e ≡ false
+unfolding named known
+strange shelf (arrive unit c) n e missing = let m : unit ≡ n = cc in ap (λ x. isAt (findIn (declared shelf) x)) m ∙ ap isAt missing
+strange shelf (frame buffer) n e missing = let z : _≡_ {A = ℕ} 0 1 = cc in absurd (omega arith)
+strange shelf (hear unit f) n e missing = let m : unit ≡ n = cc in ap (λ x. isAt (findIn (declared shelf) x)) m ∙ ap isAt missing
+strange shelf (take-cell unit buffer) n e missing = let m : unit ≡ n = cc in ap (λ x. isAt (findIn (declared shelf) x)) m ∙ ap isAt missing
+strange shelf (count unit) n e missing = let m : unit ≡ n = cc in ap (λ x. isAt (findIn (declared shelf) x)) m ∙ ap isAt missing
+
+some-number : (s k f : Bool) → k ≡ false → _≡_ {A = ℕ} (cond s (cond k (cond f 0 10) 9) 8) 0 → ⊥
+some-number true true f e z = false≢true (sym e)
+some-number true false f e z = omega arith
+some-number false k f e z = omega arith
+
+pub isolation : Isolation
+isolation card l e n long names = by (formedAll (l .state)) refl
+  where
+    Apart : Lent → Type 0
+    Apart after =
+        ((place : ℕ) → findIn (declared (seen l .shelf)) n ≡ found.At place → OnlyAt place (seen l) (seen after) × OnlyRings place (l .state) (after .state))
+        × (findIn (declared (seen l .shelf)) n ≡ found.Nothing → after ≡ l)
+
+    by : (t : Bool) → formedAll (l .state) ≡ t → Apart (does card l e .lent)
+    by true f =
+        let value = isolated card (seen l) e n names in (
+          λ place there. (
+            subst (λ o. OnlyAt place (seen l) (o .world)) (sym (same card l long f e)) (value .0 place there),
+            rings card l long e n names place there,
+          ),
+          λ missing. ap (λ o. o .lent) (refused-keeps card l long f e (some-number (soundIn card (seen l)) (known (seen l .shelf) e) (fits e) (strange (seen l .shelf) e n names missing))),
+        )
+    by false f =
+        subst Apart (sym (ap (λ o. o .lent) (tie card l e long .1 (λ h. false≢true (sym f ∙ formed-iff (l .state) .1 h)))))
+        (λ place there. (only-none (seen l) place, λ k apart. refl), λ missing. refl)

@@ -1,7 +1,8 @@
 -- An event at a unit leaves everything else alone. Assumes nothing.
-use Prim.Native.Nat.{ℕ, _+_, _<_, _≤_}
+use Prim.Native.Nat.{ℕ, _+_, _%_, _<_, _≤_}
 use mathlib.Core.Path.{_≡_}
 use mathlib.Core.Logic.{_≢_, _⊎_}
+use mathlib.Core.List.{List}
 use mathlib.Core.Option.{some}
 use lib.ListN.{length, getD}
 use Rattle.card.specs.declared.Card.{Card}
@@ -11,7 +12,8 @@ use Rattle.shelf.specs.declared.Found.the-variants.{At, Nothing}
 use Rattle.counters.specs.Counting.{zeros}
 use Rattle.admit.specs.Admission.{unitAt}
 use Rattle.document.specs.Events.{Event, named}
-use Rattle.running.specs.Events.{World, happens}
+use Rattle.running.specs.Events.{World}
+use Rattle.running.specs.Lent.{Lent, Long, does, seen}
 
 -- a byte of the store outside the 8,192 bytes of the unit in a place
 abbrev pub Outside : ℕ → ℕ → Type 0
@@ -32,10 +34,14 @@ pub record OnlyAt (place : ℕ) (before after : World) : Type 0 where
   pub granted : after .shelf .granted ≡ before .shelf .granted
   pub frame : after .shelf .frame ≡ before .shelf .frame
 
--- Arrive, hear, take and count change no other unit, no other row and no byte of another part of the store, whatever the world, sound or not, and
+-- of the bytes of the state none has changed but those of the unit's rings, in its place of the columns from 14 on
+abbrev pub OnlyRings : ℕ → List ℕ → List ℕ → Type 0
+OnlyRings place before after = (k : ℕ) → (448 ≤ k → k < 768 → k % 32 ≡ place → ⊥) → getD after k 0 ≡ getD before k 0
+
+-- Arrive, hear, take and count change no other unit, no other row and no byte of another part of the store, whatever the state, sound or not, and
 -- whatever the event is handed; "9 Unit: unit not declared", "Refusals 8 to 10 .. change nothing"
 abbrev pub Isolation : Type 0
 Isolation =
-    (card : Card) (w : World) (e : Event) (unit : ℕ) → named e ≡ some unit →
-    ((place : ℕ) → findIn (declared (w .shelf)) unit ≡ At place → OnlyAt place w (happens card w e .world))
-    × (findIn (declared (w .shelf)) unit ≡ Nothing → happens card w e .world ≡ w)
+    (card : Card) (l : Lent) (e : Event) (unit : ℕ) → Long l → named e ≡ some unit →
+    ((place : ℕ) → findIn (declared (seen l .shelf)) unit ≡ At place → OnlyAt place (seen l) (seen (does card l e .lent)) × OnlyRings place (l .state) (does card l e .lent .state))
+    × (findIn (declared (seen l .shelf)) unit ≡ Nothing → does card l e .lent ≡ l)

@@ -1,2 +1,4 @@
 pub mod Turns
+pub mod Decoded
 pub mod Sends
+pub mod InPlace

@@ -1,5 +1,5 @@
 -- A unit sends; a frame ends. Assumes nothing.
-use Prim.Native.Nat.{ℕ, _+_, _%_, _^_, _≤_, _<_, min}
+use Prim.Native.Nat.{ℕ, _+_, _≤_, _<_, min}
 use native.Mathlib.Nat.{zero-add}
 use native.Mathlib.Omega.{arith}
 use mathlib.Core.Path.{_≡_, refl, sym, ap, subst, _∙_}
@@ -7,29 +7,32 @@ use mathlib.Core.Bool.{Bool, true, false}
 use mathlib.Core.List.{List, [], _∷_, _++_, append-nil}
 use lib.Bits.{bitOr}
 use lib.ListN.{length, getD, set, take, length-take, length-set, length-append, drop-of-length-le}
-use lib.Seq.{getD-set-same, getD-set-other}
+use lib.Seq.{getD-set-same, getD-set-other, take-at}
 use borrow.Author.Tests.{eq-eqb, ne-eqb}
-use Rattle.arbiter.specs.declared.Granted.{Granted}
+use Rattle.octets.specs.Octets.{splice, part}
 use Rattle.arbiter.proofs.Requests.{same-or}
 use Rattle.bus.specs.Frame.{parity, sealed, heard}
 use Rattle.bus.specs.declared.Heard as H
 use Rattle.outlet.specs.Outlets.{RingFits}
 use Rattle.outlet.specs.declared.Ring.{Ring}
 use Rattle.store.specs.Rings.{popped}
-use Rattle.octets.specs.Octets.{splice, part}
 use Rattle.store.specs.Places.{slotAt, inletSlot, cellAt}
 use Rattle.store.proofs.Rounds.{popped-fits}
 use Rattle.store.proofs.Slots.{slot-inside}
 use Rattle.shelf.specs.Shelves.{declared, blank}
 use Rattle.shelf.specs.declared.Unit as U
-use Rattle.shelf.specs.declared.Shelf.{Shelf}
-use Rattle.answer.specs.declared.Answer.the-variants.{Framed}
-use Rattle.answer.specs.declared.Done.{Done}
-use Rattle.answer.specs.Answers.{ends}
+use Rattle.shelf.specs.Shelf.{Shelf}
+use Rattle.shelf.proofs.Finding.{declared-length}
+use Rattle.state.specs.Bytes.{col, ringBy, unitBy, unitIn, shelfIn}
+use Rattle.state.proofs.Laws.{units-length, unit-at, inlet-put}
+use Rattle.state.proofs.Kept.{ring-long}
 use Rattle.admit.specs.Admission.{unitAt, withUnit, withInlet, Housed}
-use Rattle.framing.specs.Sending.{sentRises, heardByAll, heardStore, countSent, sentFrame, cellOut, sentBy, sentStore, AllHoused}
-use Rattle.framing.specs.Frames.{granted, listenedOf, doneAt, checked}
-use Rattle.framing.specs.declared.Listened.{Listened}
+use Rattle.framing.specs.Sending.{sentRises, heardByAll, heardStore, sentFrame, cellOut, sentBy, sentStore, AllHoused}
+use Rattle.framing.specs.Frames.{checked}
+use Rattle.framing.specs.Scenes.{heededOf, heededBy, AllHousedIn}
+use Rattle.framing.specs.InPlace.{outState, sentState}
+use Rattle.framing.specs.declared.Heeded.{Heeded}
+use Rattle.framing.proofs.Decoded.{shelf-heard, tally-heard, store-heard}
 
 -- the oldest cell of an inlet lies in the store
 pub head-inside : (place bytes : ℕ) (u : U.Unit) → Housed place u bytes → slotAt place (inletSlot (u .inlet .head)) + 56 ≤ bytes
@@ -51,10 +54,6 @@ module _ (shelf : Shelf) (place bytes : ℕ) (u : U.Unit) (same : u ≡ unitAt s
   abbrev after : Shelf
   after = withUnit shelf place (withInlet u ring)
 
-  pub out-is : after ≡ cellOut shelf place
-  unfolding cellOut
-  out-is = (λ i. withUnit shelf place (withInlet u (out i))) ∙ (λ i. withUnit shelf place (withInlet (same i) (popped (same i .inlet) 4)))
-
   as-many : length (declared after) ≡ length (declared shelf)
   as-many =
       length-take (shelf .count) (set (shelf .units) place (withInlet u ring)) ∙ ap (min (shelf .count)) (length-set (shelf .units) place (withInlet u ring))
@@ -70,34 +69,78 @@ module _ (shelf : Shelf) (place bytes : ℕ) (u : U.Unit) (same : u ≡ unitAt s
       (record { below = old .below; inside = old .inside; limits = old .limits; queues = old .queues; inlet = subst (λ r. RingFits r 4) (sym out) (popped-fits 4 (u .inlet) (old .inlet)) })))
       (λ other. subst (λ x. Housed i x bytes) (sym (getD-set-other (shelf .units) place i (withInlet u ring) blank other)) (all i k))
 
--- what is sent is the frame of its oldest cell
-pub frame-is : (shelf : Shelf) (place : ℕ) (store : List ℕ) (u : U.Unit) → u ≡ unitAt shelf place → (cell : List ℕ) → cell ≡ part store (slotAt place (inletSlot (u .inlet .head))) 56 → sealed cell ≡ sentFrame shelf place store
-unfolding sentFrame cellAt
-frame-is shelf place store u same cell e = ap sealed (e ∙ ap (λ (x : U.Unit). part store (slotAt place (inletSlot (x .inlet .head))) 56) same)
+-- each declared unit of lent bytes has its part of the store, and so has each of their shelf
+module _ (b : List ℕ) (bytes : ℕ) where
+  many : length (declared (shelfIn b)) ≡ min (getD b 805 0) 32
+  many = declared-length (shelfIn b) (units-length b 0 32)
 
--- what is sent, heard and stored
-module _ (shelf : Shelf) (place : ℕ) (store : List ℕ) (s : Shelf) (f : List ℕ) (h : H.Heard)
-    (es : s ≡ cellOut shelf place) (ef : f ≡ sentFrame shelf place store) (eh : h ≡ heard f) where
-  abbrev counted : Listened → ℕ → Listened
-  counted l r = record { shelf = l .shelf; each = set (l .each) place (bitOr (getD (l .each) place 0) r); copies = l .copies; addressed = l .addressed }
+  pub housed-in : AllHoused (shelfIn b) bytes → AllHousedIn b bytes
+  housed-in all i h = subst (λ u. Housed i u bytes) (unit-at b i blank (omega arith)) (all i (omega (arith, many)))
 
-  pub sent-done : (l : Listened) (r : ℕ) → l ≡ heardByAll s h → r ≡ sentRises (l .addressed) → counted l r ≡ sentBy shelf place store
-  unfolding sentBy
-  sent-done l r el er = ap (counted l) er ∙ ap (countSent place) (el ∙ (λ i. heardByAll (es i) ((eh ∙ ap heard ef) i)))
+  pub housed-out : AllHousedIn b bytes → AllHoused (shelfIn b) bytes
+  housed-out all i h = let m = many in subst (λ u. Housed i u bytes) (sym (unit-at b i blank (omega arith))) (all i (omega arith))
 
-  pub sent-store : (now : List ℕ) → now ≡ heardStore s h store (take 56 f) → now ≡ sentStore shelf place store
-  unfolding sentStore
-  sent-store now e = e ∙ (λ i. heardStore (es i) ((eh ∙ ap heard ef) i) store (take 56 (ef i)))
+-- a unit of lent bytes sends
+module _ (b : List ℕ) (place : ℕ) (store : List ℕ) (long : length b ≡ 2048) (inside : place < min (getD b 805 0) 32) where
+  -- its inlet, read by itself
+  pub inlet-in : ringBy (col b place) 14 15 ≡ unitIn b place .inlet
+  unfolding unitBy
+  inlet-in = refl
 
--- how a frame ends
-abbrev pub endedBy : Shelf → Granted → Listened → ℕ → Done
-endedBy shelf g l next =
-    ends (Framed (shelf .frame) (shelf .granted) (g .unit) (l .copies))
-    (record { bus = l .shelf .bus; count = l .shelf .count; units = l .shelf .units; arbiter = g .arbiter; granted = g .unit; frame = next })
-    (record { from = 0; to = shelf .count; anew = false; each = l .each })
+  here : unitAt (shelfIn b) place ≡ unitIn b place
+  here = unit-at b place blank (omega arith)
 
-pub frame-done : (shelf : Shelf) (store : List ℕ) (g : Granted) (l : Listened) (next : ℕ) → g ≡ granted shelf → l ≡ listenedOf shelf store → next ≡ (shelf .frame + 1) % 2 ^ 16 → endedBy shelf g l next ≡ doneAt shelf store
-frame-done shelf store g l next eg el en = λ i. endedBy shelf (eg i) (el i) (en i)
+  pub out-shelf : shelfIn (outState b place) ≡ cellOut (shelfIn b) place
+  unfolding cellOut
+  out-shelf = inlet-put b place (popped (unitIn b place .inlet) 4) (omega arith) long ∙ ap (λ u. withUnit (shelfIn b) place (withInlet u (popped (u .inlet) 4))) (sym here)
+
+  pub out-long : length (outState b place) ≡ 2048
+  out-long = ring-long b 14 15 place (popped (unitIn b place .inlet) 4) ∙ long
+
+  pub out-housed-in : (bytes : ℕ) → AllHousedIn b bytes → AllHousedIn (outState b place) bytes
+  unfolding cellOut
+  out-housed-in bytes all =
+      let u = unitAt (shelfIn b) place in
+      let few = many b bytes in
+      housed-in (outState b place) bytes (subst (λ s. AllHoused s bytes) (sym out-shelf) (out-housed (shelfIn b) place bytes u refl (popped (u .inlet) 4) refl (omega arith) (housed-out b bytes all)))
+
+  -- what is sent is the frame of its oldest cell
+  pub frame-is : (cell : List ℕ) → cell ≡ part store (slotAt place (inletSlot (unitIn b place .inlet .head))) 56 → sealed cell ≡ sentFrame (shelfIn b) place store
+  unfolding sentFrame cellAt
+  frame-is cell e = ap sealed (e ∙ ap (λ (x : U.Unit). part store (slotAt place (inletSlot (x .inlet .head))) 56) (sym here))
+
+  -- what is heard, counted and stored
+  module _ (s cell : List ℕ) (h : H.Heard) (es : s ≡ outState b place) (full : length cell ≡ 56) (ef : sealed cell ≡ sentFrame (shelfIn b) place store) (eh : h ≡ heard (sealed cell)) where
+    is-cell : cell ≡ take 56 (sentFrame (shelfIn b) place store)
+    unfolding sealed
+    is-cell = sym (take-at cell (parity cell ∷ []) 56 full) ∙ ap (take 56) ef
+
+    abbrev counted : Heeded → ℕ → Heeded
+    counted t r = record { each = set (t .each) place (bitOr (getD (t .each) place 0) r); copies = t .copies; addressed = t .addressed }
+
+    sent-heard : heardByAll (shelfIn s) h ≡ heardByAll (cellOut (shelfIn b) place) (heard (sentFrame (shelfIn b) place store))
+    sent-heard i = heardByAll ((ap shelfIn es ∙ out-shelf) i) ((eh ∙ ap heard ef) i)
+
+    s-long : length s ≡ 2048
+    s-long = ap length es ∙ out-long
+
+    pub sent-tally : (t : Heeded) (r : ℕ) → t ≡ heededBy h cell s store .tally → r ≡ sentRises (t .addressed) → counted t r ≡ heededOf (sentBy (shelfIn b) place store)
+    unfolding sentBy
+    sent-tally t r et er = ap (counted t) er ∙ ap (λ (x : Heeded). counted x (sentRises (x .addressed))) (et ∙ tally-heard h cell s store s-long ∙ ap heededOf sent-heard)
+
+    pub sent-bytes : (now : List ℕ) → now ≡ heededBy h cell s store .bytes → now ≡ sentState b place store
+    unfolding sentState
+    sent-bytes now e = e ∙ (λ i. heededBy ((eh ∙ ap heard ef) i) (is-cell i) (es i) store .bytes)
+
+    pub sent-store : (now : List ℕ) → now ≡ heededBy h cell s store .store → now ≡ sentStore (shelfIn b) place store
+    unfolding sentStore
+    sent-store now e = e ∙ store-heard h cell s store s-long ∙ (λ i. heardStore ((ap shelfIn es ∙ out-shelf) i) ((eh ∙ ap heard ef) i) store (is-cell i))
+
+  pub sent-shelf : shelfIn (sentState b place store) ≡ sentBy (shelfIn b) place store .shelf
+  unfolding sentState sentBy
+  sent-shelf =
+      let f = sentFrame (shelfIn b) place store in
+      shelf-heard (heard f) (take 56 f) (outState b place) store out-long ∙ ap (λ s. heardByAll s (heard f) .shelf) out-shelf
 
 -- State, then Length
 module _ {A : Type 0} (s : Bool) (n : ℕ) (unsound misfit good : A) where

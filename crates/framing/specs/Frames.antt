@@ -8,16 +8,15 @@ use Rattle.card.specs.declared.Card.{Card}
 use Rattle.arbiter.specs.Arbitration.{grantedBy}
 use Rattle.arbiter.specs.declared.Granted.{Granted}
 use Rattle.shelf.specs.Shelves.{declared, findIn}
-use Rattle.shelf.specs.declared.Shelf.{Shelf}
+use Rattle.shelf.specs.Shelf.{Shelf}
 use Rattle.shelf.specs.declared.Found as F
 use Rattle.shelf.specs.declared.Found.the-variants.{At, Nothing}
 use Rattle.soundness.specs.State.{soundOf}
 use Rattle.answer.specs.declared.Answer.the-variants.{Framed}
-use Rattle.answer.specs.declared.Done.{Done}
+use Rattle.answer.specs.Done.{Done}
 use Rattle.answer.specs.Answers.{ends, refused}
 use Rattle.framing.specs.Requests.{requests}
-use Rattle.framing.specs.Sending.{silence, sentBy, sentStore, sentFrame}
-use Rattle.framing.specs.declared.Listened.{Listened}
+use Rattle.framing.specs.Sending.{Listened, silence, sentBy, sentStore, sentFrame}
 
 -- "Then the unit granted in the frame before sends its oldest cell." "An idle frame has no bytes and leaves the frame buffer unchanged."
 abbrev pub sender : Shelf → F.Found

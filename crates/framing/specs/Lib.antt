@@ -1,3 +1,5 @@
 pub mod Requests
 pub mod Sending
 pub mod Frames
+pub mod Scenes
+pub mod InPlace

@@ -10,13 +10,18 @@ use Rattle.store.specs.Rings.{popped}
 use Rattle.store.specs.Places.{Cell, inletSlot, cellAt}
 use Rattle.shelf.specs.Shelves.{declared}
 use Rattle.shelf.specs.declared.Unit as U
-use Rattle.shelf.specs.declared.Shelf.{Shelf}
+use Rattle.shelf.specs.Shelf.{Shelf}
 use Rattle.answer.specs.declared.Hearing as A
 use Rattle.answer.specs.Answers.{#sent, #unheard, hearingRises, queuedOne, isAddressed}
 use Rattle.admit.specs.Admission.{unitAt, withUnit, withInlet, Housed}
-use Rattle.hearing.specs.Hearings.{copyOf, storeOf}
-use Rattle.hearing.specs.declared.Copy.{Copy}
-use Rattle.framing.specs.declared.Listened.{Listened}
+use Rattle.hearing.specs.Hearings.{Copy, copyOf, storeOf}
+
+-- the shelf after a frame, the counters that rise at each declared unit, how many copies were queued, whether some unit was addressed
+pub record Listened : Type 0 where
+  pub shelf : Shelf
+  pub each : List ℕ
+  pub copies : ℕ
+  pub addressed : Bool
 
 -- nothing is heard yet
 abbrev pub silence : Shelf → Listened

@@ -1,48 +1,50 @@
 // Frame: first requests, then the unit granted in the frame before sends and every declared unit hears it, then the grant.
 use answer::Answer;
-use answer::Done;
 use answer::Hearing;
+use answer::Outcome;
 use answer::Rises;
 use arbiter::Arbiter;
 use bus::Heard;
 use card::Card;
-use hearing::Plan;
+use routing::Address;
 use shelf::Found;
-use shelf::Shelf;
 use shelf::Unit;
 ghost use mathlib.Core.Path.{_≡_};
-ghost use Prim.Native.Nat.{_<_, _≤_};
-ghost use lib.ListN.{length};
-ghost use Rattle.shelf.specs.Shelves.{declared};
+ghost use Prim.Native.Nat.{_<_, _≤_, min};
+ghost use lib.ListN.{length, getD};
+ghost use Rattle.bus.specs.Frame.{sealed, heard as heardOf};
+ghost use Rattle.state.specs.Bytes.{shelfIn};
+ghost use Rattle.answer.specs.Done.{outcomeOf};
 ghost use Rattle.answer.specs.Answers.{queuedOne, isAddressed};
 ghost use Rattle.framing.specs.Requests.{askingNow, requests};
-ghost use Rattle.framing.specs.Sending.{silence as silenceOf, heardByAll, heardStore, sentRises, sentBy, sentStore, sentFrame, AllHoused};
-ghost use Rattle.framing.specs.Frames.{listenedOf, doneAt, storeAt, bufferAt, frameDone, frameStore, frameBuffer};
+ghost use Rattle.framing.specs.Sending.{sentRises, sentBy, sentStore, sentFrame};
+ghost use Rattle.framing.specs.Frames.{sender, listenedOf, doneAt, storeAt, bufferAt};
+ghost use Rattle.framing.specs.Scenes.{unheeded, heededOf, heededBy, AllHousedIn};
+ghost use Rattle.framing.specs.InPlace.{sentState, stateBy, stateAt, frameOut, frameState, frameStoreIn, frameBufferIn};
 
-// The shelf after a frame, the counters that rise at each declared unit, how many copies were queued, whether some unit was addressed.
-pub struct Listened {
-    pub shelf: Shelf,
+// What the declared units make of a frame: the counters that rise at each, how many copies were queued, whether some unit was addressed.
+pub struct Heeded {
     pub each: [u16; 32],
     pub copies: u8,
     pub addressed: bool,
 }
 
 // What each declared unit asks now, by its number.
-fn asking_now(shelf: Shelf) -> [u8; 32]
-    ensures { λ r. ⌜ r ≡ askingNow shelf ⌝ }
+fn asking_now(s: &[u8]) -> [u8; 32]
+    requires { ⌜ length (now s) ≡ 2048 ⌝ }
+    ensures { λ r. ⌜ r ≡ askingNow (shelfIn (now (s .entry))) ⌝ }
 {
-    let end = shelf::declared_count(shelf.count);
+    let end = shelf::declared_count(s[805]);
+    let granted = s[803];
     let mut now = [0; 32];
     let mut i: usize = 0;
     while i < end {
-        let unit = shelf.units[i];
-        let settings = unit.settings;
-        let number = settings.number;
+        let number = state::at(s, 0, i);
         if number < 32 {
             now[number as usize] = arbiter::asking(
-                settings.priority,
-                unit.inlet.count,
-                number == shelf.granted,
+                state::at(s, 4, i),
+                state::at(s, 15, i),
+                number == granted,
             );
         }
         i += 1;
@@ -51,11 +53,12 @@ fn asking_now(shelf: Shelf) -> [u8; 32]
 }
 
 // The requests of all declared units.
-fn renew_all(shelf: Shelf) -> Arbiter
-    ensures { λ r. ⌜ r ≡ requests shelf ⌝ }
+fn renew_all(s: &[u8]) -> Arbiter
+    requires { ⌜ length (now s) ≡ 2048 ⌝ }
+    ensures { λ r. ⌜ r ≡ requests (shelfIn (now (s .entry))) ⌝ }
 {
-    let arbiter = shelf.arbiter;
-    arbiter.renew(shelf.bus, shelf.frame, asking_now(shelf))
+    let arbiter = state::arbiter_at(s);
+    arbiter.renew(s[804], state::frame_at(s), asking_now(s))
 }
 
 // One for a copy that is queued.
@@ -87,45 +90,26 @@ fn is_addressed(fate: Hearing) -> bool
     }
 }
 
-// Nothing is heard.
-fn silence(shelf: Shelf) -> Listened
-    ensures { λ r. ⌜ r ≡ silenceOf shelf ⌝ }
+// Every declared unit hears a frame of this cell. The cell goes by value, so that it is copied in words.
+fn hear_all(s: &mut [u8], heard: Heard, cell: [u8; 56], store: &mut [u8]) -> Heeded
+    requires { ⌜ (length (now s) ≡ 2048) × AllHousedIn (now s) (length (now store)) ⌝ }
+    ensures { λ r. ⌜ r ≡ heededBy heard cell (now (s .entry)) (now (store .entry)) .tally ⌝ }
+    ensures kept { λ _. ⌜ (now (s .exit) ≡ heededBy heard cell (now (s .entry)) (now (store .entry)) .bytes)
+        × (now (store .exit) ≡ heededBy heard cell (now (s .entry)) (now (store .entry)) .store) ⌝ }
 {
-    Listened {
-        shelf,
-        each: [0; 32],
-        copies: 0,
-        addressed: false,
-    }
-}
-
-// Every declared unit hears a frame of this cell. The cell goes by value, so that it is copied in words; a unit is put back only where it changed.
-fn hear_all(mut shelf: Shelf, heard: Heard, cell: [u8; 56], store: &mut [u8]) -> Listened
-    requires { ⌜ AllHoused shelf (length (now store)) ⌝ }
-    ensures { λ r. ⌜ r ≡ heardByAll shelf heard ⌝ }
-    ensures kept { λ _. ⌜ now (store .exit) ≡ heardStore shelf heard (now (store .entry)) cell ⌝ }
-{
-    let end = shelf::declared_count(shelf.count);
+    let end = shelf::declared_count(s[805]);
     let mut each = [0; 32];
     let mut copies: u8 = 0;
     let mut addressed = false;
     let mut i: usize = 0;
     while i < end {
-        let unit = shelf.units[i];
-        let plan = hearing::plan_of(unit, heard);
-        if let Plan::Queue(queue) = plan {
-            let outlet = unit.outlet;
-            store::put_cell(store, hearing::slot_of(outlet, i, queue), &cell);
-            shelf.units[i] = hearing::queued_up(unit, queue);
-        }
-        let fate = hearing::fate_by(plan);
+        let fate = hearing::hear_one(s, i, heard, &cell, store);
         each[i] = answer::hearing_rises(fate);
         copies = copies + queued_one(fate);
         addressed = addressed | is_addressed(fate);
         i += 1;
     }
-    Listened {
-        shelf,
+    Heeded {
         each,
         copies,
         addressed,
@@ -143,83 +127,127 @@ fn sent_rises(addressed: bool) -> u16
     }
 }
 
-// The unit in a place sends its oldest cell, and all hear it.
-fn send(mut shelf: Shelf, place: usize, store: &mut [u8], buffer: &mut [u8]) -> Listened
-    requires { ⌜ (length (now buffer) ≡ 57) × (place < length (declared shelf)) × AllHoused shelf (length (now store)) ⌝ }
-    ensures { λ r. ⌜ r ≡ sentBy shelf place (now (store .entry)) ⌝ }
-    ensures kept { λ _. ⌜ (now (store .exit) ≡ sentStore shelf place (now (store .entry))) × (now (buffer .exit) ≡ sentFrame shelf place (now (store .entry))) ⌝ }
+// What the frame of this cell is heard as. Its parity is right, since it was just made.
+fn hear_sent(cell: &[u8]) -> Heard
+    requires { ⌜ length (now cell) ≡ 56 ⌝ }
+    ensures { λ r. ⌜ r ≡ heardOf (sealed (now (cell .entry))) ⌝ }
 {
-    let mut unit = shelf.units[place];
-    let inlet = unit.inlet;
-    bus::seal(
-        store::get_cell(store, store::inlet_at(place, inlet.head)),
-        buffer,
-    );
-    unit.inlet = store::popped(inlet, Unit::INLET);
-    shelf.units[place] = unit;
-    let mut cell = [0; 56];
-    octets::copy(&buffer[..56], &mut cell, 0);
-    let mut listened = hear_all(shelf, bus::hear(buffer), cell, store);
-    let mut each = listened.each;
-    each[place] = each[place] | sent_rises(listened.addressed);
-    listened.each = each;
-    listened
-}
-
-// The unit granted in the frame before sends, if there is one.
-fn send_granted(shelf: Shelf, store: &mut [u8], buffer: &mut [u8]) -> Listened
-    requires { ⌜ (length (now buffer) ≡ 57) × AllHoused shelf (length (now store)) ⌝ }
-    ensures { λ r. ⌜ r ≡ listenedOf shelf (now (store .entry)) ⌝ }
-    ensures kept { λ _. ⌜ (now (store .exit) ≡ storeAt shelf (now (store .entry))) × (now (buffer .exit) ≡ bufferAt shelf (now (store .entry)) (now (buffer .entry))) ⌝ }
-{
-    match shelf::find(shelf, shelf.granted) {
-        Found::At(place) => send(shelf, place, store, buffer),
-        Found::Nothing => silence(shelf),
+    let Address::To { target, class } = routing::read(octets::two(cell, 0)) else {
+        return Heard::Damaged;
+    };
+    let header = octets::four(cell, 4);
+    Heard::Cell {
+        target,
+        class,
+        header,
     }
 }
 
-// A frame on a sound shelf.
-fn frame_on(shelf: Shelf, store: &mut [u8], buffer: &mut [u8]) -> Done
-    requires { ⌜ (length (now buffer) ≡ 57) × AllHoused shelf (length (now store)) ⌝ }
-    ensures { λ r. ⌜ r ≡ doneAt shelf (now (store .entry)) ⌝ }
-    ensures kept { λ _. ⌜ (now (store .exit) ≡ storeAt shelf (now (store .entry))) × (now (buffer .exit) ≡ bufferAt shelf (now (store .entry)) (now (buffer .entry))) ⌝ }
+// The unit in a place sends its oldest cell, and all hear it.
+fn send(s: &mut [u8], place: usize, store: &mut [u8], buffer: &mut [u8]) -> Heeded
+    requires { ⌜ (length (now s) ≡ 2048) × (length (now buffer) ≡ 57) × (place < min (getD (now s) 805 0) 32) × AllHousedIn (now s) (length (now store)) ⌝ }
+    ensures { λ r. ⌜ r ≡ heededOf (sentBy (shelfIn (now (s .entry))) place (now (store .entry))) ⌝ }
+    ensures kept { λ _. ⌜ (now (s .exit) ≡ sentState (now (s .entry)) place (now (store .entry)))
+        × ((now (store .exit) ≡ sentStore (shelfIn (now (s .entry))) place (now (store .entry)))
+        × (now (buffer .exit) ≡ sentFrame (shelfIn (now (s .entry))) place (now (store .entry)))) ⌝ }
 {
-    let number = shelf.frame;
-    let sender = shelf.granted;
-    let requests = renew_all(shelf);
-    let listened = send_granted(shelf, store, buffer);
+    let inlet = state::ring_at(s, 14, 15, place);
+    let mut cell = [0; 56];
+    octets::copy(
+        store::get_cell(store, store::inlet_at(place, inlet.head)),
+        &mut cell,
+        0,
+    );
+    bus::seal(&cell, buffer);
+    state::put_ring(s, 14, 15, place, store::popped(inlet, Unit::INLET));
+    let mut heeded = hear_all(s, hear_sent(&cell), cell, store);
+    let mut each = heeded.each;
+    each[place] = each[place] | sent_rises(heeded.addressed);
+    heeded.each = each;
+    heeded
+}
+
+// Nothing is heard.
+fn silence() -> Heeded
+    ensures { λ r. ⌜ r ≡ unheeded ⌝ }
+{
+    Heeded {
+        each: [0; 32],
+        copies: 0,
+        addressed: false,
+    }
+}
+
+// The unit granted in the frame before sends, if there is one.
+fn send_granted(s: &mut [u8], store: &mut [u8], buffer: &mut [u8]) -> Heeded
+    requires { ⌜ (length (now s) ≡ 2048) × (length (now buffer) ≡ 57) × AllHousedIn (now s) (length (now store)) ⌝ }
+    ensures { λ r. ⌜ r ≡ heededOf (listenedOf (shelfIn (now (s .entry))) (now (store .entry))) ⌝ }
+    ensures kept { λ _. ⌜ (now (s .exit) ≡ stateBy (sender (shelfIn (now (s .entry)))) (now (s .entry)) (now (store .entry)))
+        × ((now (store .exit) ≡ storeAt (shelfIn (now (s .entry))) (now (store .entry)))
+        × (now (buffer .exit) ≡ bufferAt (shelfIn (now (s .entry))) (now (store .entry)) (now (buffer .entry)))) ⌝ }
+{
+    match state::find(s, s[803]) {
+        Found::At(place) => send(s, place, store, buffer),
+        Found::Nothing => silence(),
+    }
+}
+
+// A frame on a sound state.
+fn frame_on(s: &mut [u8], store: &mut [u8], buffer: &mut [u8]) -> Outcome
+    requires { ⌜ (length (now s) ≡ 2048) × (length (now buffer) ≡ 57) × AllHousedIn (now s) (length (now store)) ⌝ }
+    ensures { λ r. ⌜ r ≡ outcomeOf (doneAt (shelfIn (now (s .entry))) (now (store .entry))) ⌝ }
+    ensures kept { λ _. ⌜ (now (s .exit) ≡ stateAt (now (s .entry)) (now (store .entry)))
+        × ((now (store .exit) ≡ storeAt (shelfIn (now (s .entry))) (now (store .entry)))
+        × (now (buffer .exit) ≡ bufferAt (shelfIn (now (s .entry))) (now (store .entry)) (now (buffer .entry)))) ⌝ }
+{
+    let number = state::frame_at(s);
+    let sender = s[803];
+    let count = s[805];
+    let requests = renew_all(s);
+    let heeded = send_granted(s, store, buffer);
     let grant = requests.grant();
-    let mut after = listened.shelf;
     let arbiter = grant.arbiter;
-    let each = listened.each;
-    after.arbiter = arbiter;
-    after.granted = grant.unit;
-    after.frame = std::num::wrapping_add_u16(number, 1);
+    let each = heeded.each;
+    state::put_turn(
+        s,
+        arbiter,
+        grant.unit,
+        std::num::wrapping_add_u16(number, 1),
+    );
     let answer = Answer::Framed {
         number,
         sender,
         granted: grant.unit,
-        copies: listened.copies,
+        copies: heeded.copies,
     };
     let rises = Rises {
         from: 0,
-        to: shelf.count as usize,
+        to: count as usize,
         anew: false,
         each,
     };
-    answer::ends(answer, after, rises)
+    Outcome { answer, rises }
 }
 
 // A frame; everything but the counter rows, of which there are so many.
-pub fn frame(card: Card, shelf: Shelf, store: &mut [u8], rows: usize, buffer: &mut [u8]) -> Done
-    ensures { λ r. ⌜ (r ≡ frameDone card shelf (now (store .entry)) rows (length (now (buffer .entry)))) × ((now (store .exit) ≡ frameStore card shelf (now (store .entry)) rows (length (now (buffer .entry)))) × (now (buffer .exit) ≡ frameBuffer card shelf (now (store .entry)) rows (now (buffer .entry)))) ⌝ }
+pub fn frame(
+    card: Card,
+    s: &mut [u8; 2048],
+    store: &mut [u8],
+    rows: usize,
+    buffer: &mut [u8],
+) -> Outcome
+    ensures { λ r. ⌜ (r ≡ frameOut card (now (s .entry)) (now (store .entry)) rows (length (now (buffer .entry))))
+        × ((now (s .exit) ≡ frameState card (now (s .entry)) (now (store .entry)) rows (length (now (buffer .entry))))
+        × ((now (store .exit) ≡ frameStoreIn card (now (s .entry)) (now (store .entry)) rows (length (now (buffer .entry))))
+        × (now (buffer .exit) ≡ frameBufferIn card (now (s .entry)) (now (store .entry)) rows (now (buffer .entry))))) ⌝ }
     ensures fits { λ r. ⌜ (r .rises .to ≤ 32) × (r .rises .to ≤ rows) ⌝ }
 {
-    if !soundness::sound(card, shelf, store.len(), rows) {
-        return answer::refused(shelf, 8);
+    if !soundness::sound(card, s, store.len(), rows) {
+        return answer::refused(8);
     }
     if buffer.len() != 57 {
-        return answer::refused(shelf, 10);
+        return answer::refused(10);
     }
-    frame_on(shelf, store, buffer)
+    frame_on(s, store, buffer)
 }

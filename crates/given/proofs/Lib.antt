@@ -1,1 +1,2 @@
-mod Leaves
+pub mod Leaves
+pub mod InPlace

@@ -1,17 +1,19 @@
-// What a line that is fine gives: records to the memory, a unit or a session to the shelf.
+// What a line that is fine gives: records to the memory, a unit or a session to the state.
 use card::Card;
 use line::Line;
 use line::Reading;
+use outlet::Outlet;
 use record::Record;
 use shelf::Found;
-use shelf::Shelf;
-use shelf::Unit;
 use verdict::Owner;
 ghost use mathlib.Core.Path.{_≡_};
-ghost use Prim.Native.Nat.{_≤_, _<_};
+ghost use Prim.Native.Nat.{_≤_};
+ghost use lib.ListN.{length};
 ghost use Rattle.shelf.specs.Shelves.{declared as declaredIn, findIn};
-ghost use Rattle.told.specs.Told.{opens, takes as takesOf, declare as declareIn, joinAt, shelfBy};
+ghost use Rattle.state.specs.Bytes.{shelfIn};
+ghost use Rattle.told.specs.Told.{opens, takes as takesOf};
 ghost use Rattle.told.specs.Enact.{putBy, putVc, memoryBy, Places};
+ghost use Rattle.given.specs.InPlace.{joinedAt, stateBy};
 
 // Writes a record at a VPI of a declared unit.
 fn put_path(card: Card, memory: &mut [u8], o: Owner, vpi: u16, r: Record)
@@ -40,8 +42,9 @@ fn put_circuit(card: Card, memory: &mut [u8], o: Owner, vpi: u16, vci: u16, r: R
 }
 
 // Writes what a line gives.
-pub fn write(card: Card, memory: &mut [u8], shelf: Shelf, used: u32, line: Line)
-    ensures { λ _. ⌜ now (memory .exit) ≡ memoryBy card (now (memory .entry)) shelf used line ⌝ }
+pub fn write(card: Card, memory: &mut [u8], s: &[u8], used: u32, line: Line)
+    requires { ⌜ length (now s) ≡ 2048 ⌝ }
+    ensures { λ _. ⌜ now (memory .exit) ≡ memoryBy card (now (memory .entry)) (shelfIn (now (s .entry))) used line ⌝ }
 {
     match line {
         Line::Bus(_) => {}
@@ -62,20 +65,20 @@ pub fn write(card: Card, memory: &mut [u8], shelf: Shelf, used: u32, line: Line)
                 vpi: outvpi,
                 vci: 0,
             };
-            put_path(card, memory, verdict::find_owner(shelf, unit), vpi, r);
+            put_path(card, memory, verdict::find_owner(s, unit), vpi, r);
         }
         Line::Drop { unit, vpi } => {
             put_path(
                 card,
                 memory,
-                verdict::find_owner(shelf, unit),
+                verdict::find_owner(s, unit),
                 vpi,
                 Record::Drop,
             );
         }
         Line::Page { unit, vpi, top } => {
             let r = Record::Page { top, place: used };
-            put_path(card, memory, verdict::find_owner(shelf, unit), vpi, r);
+            put_path(card, memory, verdict::find_owner(s, unit), vpi, r);
         }
         Line::Vc {
             unit,
@@ -92,7 +95,7 @@ pub fn write(card: Card, memory: &mut [u8], shelf: Shelf, used: u32, line: Line)
                 vpi: outvpi,
                 vci: outvci,
             };
-            put_circuit(card, memory, verdict::find_owner(shelf, unit), vpi, vci, r);
+            put_circuit(card, memory, verdict::find_owner(s, unit), vpi, vci, r);
         }
         Line::Mc {
             unit: _,
@@ -101,53 +104,40 @@ pub fn write(card: Card, memory: &mut [u8], shelf: Shelf, used: u32, line: Line)
     }
 }
 
-// One unit more.
-fn declare(mut shelf: Shelf, unit: Unit) -> Shelf
-    requires { ⌜ shelf .count < 32 ⌝ }
-    ensures { λ r. ⌜ r ≡ declareIn shelf unit ⌝ }
-{
-    let i = shelf.count as usize;
-    shelf.units[i] = unit;
-    shelf.count = shelf.count + 1;
-    shelf
-}
-
 // A unit hears one session more.
-fn join(mut shelf: Shelf, number: u8, session: u8) -> Shelf
-    ensures { λ r. ⌜ r ≡ joinAt shelf (findIn (declaredIn shelf) number) session ⌝ }
+fn join(s: &mut [u8], number: u8, session: u8)
+    requires { ⌜ length (now s) ≡ 2048 ⌝ }
+    ensures { λ _. ⌜ now (s .exit) ≡ joinedAt (now (s .entry)) (findIn (declaredIn (shelfIn (now (s .entry)))) number) session ⌝ }
 {
-    let Found::At(i) = shelf::find(shelf, number) else {
-        return shelf;
+    let Found::At(i) = state::find(s, number) else {
+        return;
     };
-    let mut unit = shelf.units[i];
-    let sessions = unit.sessions;
-    let more = shelf::with_session(sessions, session);
-    unit.sessions = more;
-    shelf.units[i] = unit;
-    shelf
+    state::join(s, i, session);
 }
 
-// The shelf after a line.
-pub fn shelf_after(shelf: Shelf, used: u32, line: Line) -> Shelf
-    requires { ⌜ Places shelf (Reading.Good line) ⌝ }
-    ensures { λ r. ⌜ r ≡ shelfBy line used shelf ⌝ }
+// Writes a line into the state.
+pub fn enter(s: &mut [u8], used: u32, line: Line)
+    requires { ⌜ (length (now s) ≡ 2048) × Places (shelfIn (now s)) (Reading.Good line) ⌝ }
+    ensures { λ _. ⌜ now (s .exit) ≡ stateBy line used (now (s .entry)) ⌝ }
 {
     match line {
-        Line::Bus(bus) => Shelf::fresh(bus),
-        Line::Unit { settings, limits } => declare(shelf, Unit::declared(settings, limits, used)),
+        Line::Bus(bus) => state::fresh(s, bus),
+        Line::Unit { settings, limits } => {
+            state::declare(s, settings, Outlet::fresh(limits), used);
+        }
         Line::Vp {
             unit: _,
             vpi: _,
             target: _,
             class: _,
             outvpi: _,
-        } => shelf,
-        Line::Drop { unit: _, vpi: _ } => shelf,
+        } => {}
+        Line::Drop { unit: _, vpi: _ } => {}
         Line::Page {
             unit: _,
             vpi: _,
             top: _,
-        } => shelf,
+        } => {}
         Line::Vc {
             unit: _,
             vpi: _,
@@ -156,8 +146,8 @@ pub fn shelf_after(shelf: Shelf, used: u32, line: Line) -> Shelf
             class: _,
             outvpi: _,
             outvci: _,
-        } => shelf,
-        Line::Mc { unit, session } => join(shelf, unit, session),
+        } => {}
+        Line::Mc { unit, session } => join(s, unit, session),
     }
 }
 

@@ -1,28 +1,27 @@
 -- The two ways a copy ends, and what a queued one may count on. Assumes nothing.
-use Prim.Native.Nat.{ℕ, zero, suc, _+_, _-_, _≤_, _<_}
+use Prim.Native.Nat.{ℕ, _+_, _-_, _≤_, _<_}
 use native.Mathlib.Omega.{arith}
-use mathlib.Core.Path.{_≡_, refl, sym, ap, subst, _∙_}
+use mathlib.Core.Path.{_≡_, subst}
 use mathlib.Core.Bool.{Bool, true, false, cond}
-use mathlib.Core.List.{List, [], _∷_}
-use lib.Dec.{ltb, eqb}
-use lib.ListN.{length, getD, set, take, length-take}
-use Rattle.outlet.specs.Outlets.{capacity, queue, empty as emptyRing}
-use Rattle.outlet.specs.declared.Ring.{Ring}
+use mathlib.Core.List.{List}
+use lib.Dec.{ltb}
+use lib.ListN.{length, take, length-take}
+use Rattle.outlet.specs.Outlets.{capacity, queue}
 use Rattle.bus.specs.declared.Heard as H
 use Rattle.bus.specs.declared.Heard.the-variants as frame
 use Rattle.queueing.specs.Hearing.{queueOf, fate}
 use Rattle.queueing.specs.declared.Fate as F
 use Rattle.queueing.specs.declared.Fate.the-variants as fates
 use Rattle.queueing.proofs.Fates.{queue-lt}
-use Rattle.store.specs.Rings.{back, tail, pushed}
+use Rattle.store.specs.Rings.{back, tail}
 use Rattle.store.specs.Places.{Cell, slotAt, outletSlot, putAt}
 use Rattle.store.proofs.Rounds.{back-lt}
 use Rattle.store.proofs.Slots.{by-lt, start-inside, slot-inside}
 use Rattle.shelf.specs.declared.Unit as U
 use Rattle.answer.specs.declared.Hearing as A
-use Rattle.answer.specs.declared.Hearing.the-variants.{Other, Queued}
+use Rattle.answer.specs.declared.Hearing.the-variants.{Other}
 use Rattle.admit.specs.Admission.{Housed}
-use Rattle.hearing.specs.Hearings.{addressed, planFor, planOf, fateBy, queuedUp, copyWith, copyBy, storeBy}
+use Rattle.hearing.specs.Hearings.{addressed, planFor, planOf, storeBy}
 use Rattle.hearing.specs.declared.Plan.{Plan}
 use Rattle.hearing.specs.declared.Plan.the-variants.{Queue, Lost}
 
@@ -70,48 +69,11 @@ pub outlet-inside : (place bytes : ℕ) (u : U.Unit) (q : ℕ) → Housed place 
 outlet-inside place bytes u q h few =
     omega (arith, slot-inside place (outletSlot (u .outlet .limits) q (tail (queue (u .outlet) q) (capacity (u .outlet .limits) q))) (slot-below place bytes u q h few) .1, h .inside)
 
--- one of four queues has one more cell
-abbrev pub withQueues : U.Unit → List Ring → U.Unit
-withQueues u qs =
-    record {
-      settings = u .settings;
-      outlet = record { limits = u .outlet .limits; queues = qs };
-      inlet = u .inlet;
-      place = u .place;
-      sessions = u .sessions;
-    }
-
-abbrev at : List Ring → ℕ → Ring
-at qs k = getD qs k emptyRing
-
-abbrev grow : List Ring → ℕ → ℕ → Ring
-grow qs q k = cond (eqb q k) (pushed (at qs k)) (at qs k)
-
-pub grown-all : (qs : List Ring) (q : ℕ) → length qs ≡ 4 → q < 4 → (grow qs q 0 ∷ grow qs q 1 ∷ grow qs q 2 ∷ grow qs q 3 ∷ []) ≡ set qs q (pushed (at qs q))
-grown-all [] q l h = absurd (omega arith)
-grown-all (a ∷ []) q l h = absurd (omega arith)
-grown-all (a ∷ b ∷ []) q l h = absurd (omega arith)
-grown-all (a ∷ b ∷ c ∷ []) q l h = absurd (omega arith)
-grown-all (a ∷ b ∷ c ∷ d ∷ []) zero l h = refl
-grown-all (a ∷ b ∷ c ∷ d ∷ []) (suc zero) l h = refl
-grown-all (a ∷ b ∷ c ∷ d ∷ []) (suc (suc zero)) l h = refl
-grown-all (a ∷ b ∷ c ∷ d ∷ []) (suc (suc (suc zero))) l h = refl
-grown-all (a ∷ b ∷ c ∷ d ∷ []) (suc (suc (suc (suc q)))) l h = absurd (omega arith)
-grown-all (a ∷ b ∷ c ∷ d ∷ e ∷ qs) q l h = absurd (omega arith)
-
--- how a copy ends
+-- what a copy makes of the store
 module _ (u : U.Unit) (p : Plan) (place : ℕ) (store : List ℕ) (cell : Cell) where
-  pub lost-copy : (fate : A.Hearing) → p ≡ Lost fate → (x : A.Hearing) → x ≡ fateBy p → copyWith u x ≡ copyBy p u
-  unfolding fateBy copyBy
-  lost-copy fate e x s = rw e (λ i. copyWith u ((s ∙ ap fateBy e) i))
-
   pub lost-store : (fate : A.Hearing) → p ≡ Lost fate → store ≡ storeBy p u place store cell
   unfolding storeBy
   lost-store fate e = rw e
-
-  pub queued-copy : (q : ℕ) → p ≡ Queue q → (after : U.Unit) → after ≡ queuedUp u q → copyWith after Queued ≡ copyBy p u
-  unfolding copyBy
-  queued-copy q e after r = rw e (λ i. copyWith (r i) Queued)
 
   pub queued-store : (q : ℕ) → p ≡ Queue q →
       putAt store place (outletSlot (u .outlet .limits) q (tail (queue (u .outlet) q) (capacity (u .outlet .limits) q))) cell ≡ storeBy p u place store cell

@@ -20,17 +20,21 @@ use Rattle.store.specs.Places.{Cell, slotAt, outletSlot, putAt}
 use Rattle.shelf.specs.Sessions.{hears}
 use Rattle.shelf.specs.Shelves.{numberOf}
 use Rattle.shelf.specs.declared.Unit as U
-use Rattle.shelf.specs.declared.Shelf.{Shelf}
+use Rattle.shelf.specs.Shelf.{Shelf}
 use Rattle.answer.specs.declared.Hearing as A
 use Rattle.answer.specs.declared.Hearing.the-variants.{Damaged, Other, Wide, Full, Clp, Queued}
 use Rattle.answer.specs.declared.Answer.the-variants.{Heard}
-use Rattle.answer.specs.declared.Done.{Done}
+use Rattle.answer.specs.Done.{Done}
 use Rattle.answer.specs.Answers.{hearingRises, row, ends, refused}
 use Rattle.admit.specs.declared.Admitted as D
 use Rattle.admit.specs.Admission.{admitted, decided, unitAt, withUnit, withQueue}
 use Rattle.hearing.specs.declared.Plan.{Plan}
 use Rattle.hearing.specs.declared.Plan.the-variants.{Queue, Lost}
-use Rattle.hearing.specs.declared.Copy.{Copy}
+
+-- a unit after it has heard a frame, and the fate of the frame there
+pub record Copy : Type 0 where
+  pub unit : U.Unit
+  pub fate : A.Hearing
 
 -- "address 8 (unit, session, or 0 for broadcast)", "`mc` unit, session: the unit hears that session", "All declared units hear a broadcast, the
 -- sender too."

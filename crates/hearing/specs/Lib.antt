@@ -1,1 +1,2 @@
 pub mod Hearings
+pub mod InPlace

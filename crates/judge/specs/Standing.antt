@@ -10,7 +10,7 @@ use Rattle.record.specs.declared.Got.the-variants.{Nothing as Got·Nothing}
 use Rattle.shelf.specs.Shelves.{declared, findIn, isAt}
 use Rattle.shelf.specs.Sessions.{hears}
 use Rattle.shelf.specs.declared.Unit as U
-use Rattle.shelf.specs.declared.Shelf.{Shelf}
+use Rattle.shelf.specs.Shelf.{Shelf}
 use Rattle.line.specs.declared.Line.{Line}
 use Rattle.line.specs.declared.Line.the-variants.{Bus, Unit as L·Unit, Vp, Drop, Page, Vc, Mc}
 use Rattle.verdict.specs.declared.Paged.{Paged}

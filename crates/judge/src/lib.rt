@@ -4,12 +4,13 @@ use card::Card;
 use line::Line;
 use routing::Target;
 use shelf::Settings;
-use shelf::Shelf;
 use verdict::Owner;
 use verdict::Verdict;
 ghost use mathlib.Core.Path.{_≡_};
+ghost use lib.ListN.{length};
 ghost use Rattle.record.specs.Record.{recordAt};
 ghost use Rattle.shelf.specs.Sessions.{hears};
+ghost use Rattle.state.specs.Bytes.{shelfIn};
 ghost use Rattle.verdict.specs.Owners.{ownedBy, spot as spotOf};
 ghost use Rattle.judge.specs.Judge.{judgeUnit, judgeVp, judgeDrop, judgePage, judgeMc};
 ghost use Rattle.judge.specs.Standing.{judgeVcAt, judgeFirst, judgeAt};
@@ -204,23 +205,25 @@ pub fn judge(
     room: usize,
     first: bool,
     memory: &[u8],
-    shelf: Shelf,
+    s: &[u8],
     used: u32,
     line: Line,
 ) -> Verdict
-    ensures { λ r. ⌜ r ≡ judgeAt card room first (recordAt card (now (memory .entry))) shelf used line ⌝ }
+    requires { ⌜ length (now s) ≡ 2048 ⌝ }
+    ensures { λ r. ⌜ r ≡ judgeAt card room first (recordAt card (now (memory .entry))) (shelfIn (now (s .entry))) used line ⌝ }
 {
     if first {
         return judge_first(card, line);
     }
+    let bus = s[804];
     match line {
         Line::Bus(_) => Verdict::Order(1),
         Line::Unit {
             settings,
             limits: _,
         } => {
-            let o = verdict::find_owner(shelf, settings.number);
-            judge_unit(card, shelf.bus, o.known, room, used, settings)
+            let o = verdict::find_owner(s, settings.number);
+            judge_unit(card, bus, o.known, room, used, settings)
         }
         Line::Vp {
             unit,
@@ -231,20 +234,20 @@ pub fn judge(
         } => judge_vp(
             card,
             memory,
-            shelf.bus,
-            verdict::find_owner(shelf, unit),
+            bus,
+            verdict::find_owner(s, unit),
             vpi,
             target,
             outvpi,
         ),
-        Line::Drop { unit, vpi } => judge_drop(card, memory, verdict::find_owner(shelf, unit), vpi),
+        Line::Drop { unit, vpi } => judge_drop(card, memory, verdict::find_owner(s, unit), vpi),
         Line::Page { unit, vpi, top } => {
             judge_page(
                 card,
                 memory,
                 room,
                 used,
-                verdict::find_owner(shelf, unit),
+                verdict::find_owner(s, unit),
                 vpi,
                 top,
             )
@@ -260,13 +263,13 @@ pub fn judge(
         } => judge_vc(
             card,
             memory,
-            shelf.bus,
-            verdict::find_owner(shelf, unit),
+            bus,
+            verdict::find_owner(s, unit),
             vpi,
             vci,
             target,
             outvpi,
         ),
-        Line::Mc { unit, session } => judge_mc(verdict::find_owner(shelf, unit), session),
+        Line::Mc { unit, session } => judge_mc(verdict::find_owner(s, unit), session),
     }
 }

@@ -2,6 +2,8 @@
 use Prim.Native.Nat.{ℕ}
 use mathlib.Core.Bool.{cond}
 use mathlib.Core.List.{List}
+use lib.Dec.{eqb}
+use lib.ListN.{length}
 use Rattle.card.specs.declared.Card.the-variants.{Narrow, Wide}
 use Rattle.text.specs.Text.{fieldsOf, fieldOf, same}
 use Rattle.lent.specs.declared.Bank.{Bank}
@@ -15,8 +17,8 @@ use Rattle.fields.specs.declared.Octet.{Octet}
 use Rattle.fields.specs.declared.Octet.the-variants.{Byte, NoByte}
 use Rattle.fields.specs.declared.Span.{Span}
 use Rattle.fields.specs.declared.Span.the-variants.{From, NoSpan}
-use Rattle.fields.specs.Fields.{numberIn, byteIn, spanIn}
-use Rattle.lent.specs.Names.{wNarrow, wWide, wMemory, wStore, wRows, wShelf}
+use Rattle.fields.specs.Fields.{numberIn, unitIn, byteIn, spanIn}
+use Rattle.lent.specs.Names.{wNarrow, wWide, wMemory, wStore, wRows, wState, wUnit}
 
 -- what comes of a number, and of bytes
 abbrev pub num : Num → (ℕ → Reading) → Reading
@@ -50,19 +52,31 @@ lendLine fs =
     (cond (same (fieldOf 2 fs) wStore) (lendBank fs Store)
     (cond (same (fieldOf 2 fs) wRows) (lendRows fs) Bad))
 
--- `poke memory AT HEX`, `poke store AT HEX`: what is lent ends at 300,000 or before; no line has more than 75,000 bytes
+-- `poke memory AT HEX`, `poke store AT HEX`, `poke state AT HEX`: what is lent ends at 300,000 or before; no line has more than 75,000 bytes
 unfoldable pub pokeBank : List ℕ → Bank → Reading
 pokeBank text bank = num (numberIn (fieldsOf text) 3 300000) λ at. span (spanIn text 4 75000) λ from. Does (command.Poke bank at from)
+
+unfoldable pub pokeState : List ℕ → Reading
+pokeState text = num (numberIn (fieldsOf text) 3 300000) λ at. span (spanIn text 4 75000) λ from. Does (command.PokeState at from)
 
 unfoldable pub pokeLine : List ℕ → Reading
 pokeLine text =
     cond (same (fieldOf 2 (fieldsOf text)) wMemory) (pokeBank text Memory)
-    (cond (same (fieldOf 2 (fieldsOf text)) wStore) (pokeBank text Store) Bad)
+    (cond (same (fieldOf 2 (fieldsOf text)) wStore) (pokeBank text Store)
+    (cond (same (fieldOf 2 (fieldsOf text)) wState) (pokeState text) Bad))
 
--- `show memory`, `show store`, `show rows`, `show shelf`
-unfoldable pub showLine : List (List ℕ) → Reading
-showLine fs =
+-- `show memory`, `show store`, `show rows`, `show state`
+unfoldable pub showLent : List (List ℕ) → Reading
+showLent fs =
     cond (same (fieldOf 2 fs) wMemory) (Does (command.Show Memory))
     (cond (same (fieldOf 2 fs) wStore) (Does (command.Show Store))
     (cond (same (fieldOf 2 fs) wRows) (Does command.ShowRows)
-    (cond (same (fieldOf 2 fs) wShelf) (Does command.ShowShelf) Bad)))
+    (cond (same (fieldOf 2 fs) wState) (Does command.ShowState) Bad)))
+
+-- `show unit UNIT`
+unfoldable pub showUnit : List (List ℕ) → Reading
+showUnit fs = cond (same (fieldOf 2 fs) wUnit) (octet (unitIn fs 3) λ unit. Does (command.ShowUnit unit)) Bad
+
+-- those have two fields, this has three
+unfoldable pub showLine : List (List ℕ) → Reading
+showLine fs = cond (eqb (length fs) 2) (showLent fs) (cond (eqb (length fs) 3) (showUnit fs) Bad)

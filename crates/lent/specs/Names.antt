@@ -17,5 +17,8 @@ wStore = 115 ∷ 116 ∷ 111 ∷ 114 ∷ 101 ∷ []
 abbrev pub wRows : List ℕ
 wRows = 114 ∷ 111 ∷ 119 ∷ 115 ∷ []
 
-abbrev pub wShelf : List ℕ
-wShelf = 115 ∷ 104 ∷ 101 ∷ 108 ∷ 102 ∷ []
+abbrev pub wState : List ℕ
+wState = 115 ∷ 116 ∷ 97 ∷ 116 ∷ 101 ∷ []
+
+abbrev pub wUnit : List ℕ
+wUnit = 117 ∷ 110 ∷ 105 ∷ 116 ∷ []

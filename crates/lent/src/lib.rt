@@ -5,7 +5,7 @@ use fields::Octet;
 use fields::Span;
 ghost use mathlib.Core.Path.{_≡_};
 ghost use Rattle.text.specs.Text.{fieldsOf};
-ghost use Rattle.lent.specs.Lent.{cardLine, lendBank, lendRows, lendLine, pokeBank, pokeLine, showLine};
+ghost use Rattle.lent.specs.Lent.{cardLine, lendBank, lendRows, lendLine, pokeBank, pokeState, pokeLine, showLent, showUnit, showLine};
 
 // What is lent in bytes.
 pub enum Bank {
@@ -13,7 +13,7 @@ pub enum Bank {
     Store,
 }
 
-// Bytes in hex are always the last field of a line: `from` is where it starts. `field` is a place in the table of fields.
+// Bytes in hex are always the last field of a line: `from` is where it starts.
 pub enum Command {
     Card(Card),
     Lend { bank: Bank, length: u32, byte: u8 },
@@ -25,10 +25,11 @@ pub enum Command {
     Take { unit: u8, length: u16 },
     Count(u8),
     Poke { bank: Bank, at: u32, from: usize },
-    State { field: u8, place: u64, value: u64 },
+    PokeState { at: u32, from: usize },
     Show(Bank),
     ShowRows,
-    ShowShelf,
+    ShowState,
+    ShowUnit(u8),
 }
 
 // What reading a line comes to.
@@ -111,6 +112,21 @@ fn poke_bank(s: &[u8], bank: Bank) -> Reading
     }
 }
 
+fn poke_state(s: &[u8]) -> Reading
+    ensures { λ r. ⌜ r ≡ pokeState (now (s .entry)) ⌝ }
+{
+    match fields::number_at(s, 3, 300000) {
+        Num::Is(n) => match fields::span_at(s, 4, 75000) {
+            Span::From(from) => {
+                let at = n as u32;
+                Reading::Does(Command::PokeState { at, from })
+            }
+            Span::NoSpan => Reading::Bad,
+        },
+        Num::NoNum => Reading::Bad,
+    }
+}
+
 pub fn poke_line(s: &[u8]) -> Reading
     ensures { λ r. ⌜ r ≡ pokeLine (now (s .entry)) ⌝ }
 {
@@ -121,11 +137,14 @@ pub fn poke_line(s: &[u8]) -> Reading
     if text::is(which, b"store") {
         return poke_bank(s, Bank::Store);
     }
+    if text::is(which, b"state") {
+        return poke_state(s);
+    }
     Reading::Bad
 }
 
-pub fn show_line(s: &[u8]) -> Reading
-    ensures { λ r. ⌜ r ≡ showLine (fieldsOf (now (s .entry))) ⌝ }
+fn show_lent(s: &[u8]) -> Reading
+    ensures { λ r. ⌜ r ≡ showLent (fieldsOf (now (s .entry))) ⌝ }
 {
     let which = text::field(s, 2);
     if text::is(which, b"memory") {
@@ -137,8 +156,31 @@ pub fn show_line(s: &[u8]) -> Reading
     if text::is(which, b"rows") {
         return Reading::Does(Command::ShowRows);
     }
-    if text::is(which, b"shelf") {
-        return Reading::Does(Command::ShowShelf);
+    if text::is(which, b"state") {
+        return Reading::Does(Command::ShowState);
     }
     Reading::Bad
+}
+
+fn show_unit(s: &[u8]) -> Reading
+    ensures { λ r. ⌜ r ≡ showUnit (fieldsOf (now (s .entry))) ⌝ }
+{
+    if text::is(text::field(s, 2), b"unit") {
+        return match fields::unit_at(s, 3) {
+            Octet::Byte(unit) => Reading::Does(Command::ShowUnit(unit)),
+            Octet::NoByte => Reading::Bad,
+        };
+    }
+    Reading::Bad
+}
+
+// The one command whose lines have two fields or three.
+pub fn show_line(s: &[u8]) -> Reading
+    ensures { λ r. ⌜ r ≡ showLine (fieldsOf (now (s .entry))) ⌝ }
+{
+    match text::count(s) {
+        2 => show_lent(s),
+        3 => show_unit(s),
+        _ => Reading::Bad,
+    }
 }

@@ -9,7 +9,7 @@ use borrow.Author.Tests.{ltb-false}
 use Rattle.card.specs.declared.Card.{Card}
 use Rattle.record.specs.Record.{size, usable}
 use Rattle.table.specs.declared.Outcome.the-variants.{Loaded, Refused}
-use Rattle.table.specs.declared.Loading.{Loading}
+use Rattle.table.specs.Loading.{Loading}
 use Rattle.table.specs.Load.{ranOf, tooLittle, refusal, loadingOf, isLong, load}
 use Rattle.told.specs.Told.{total, shelfOf}
 use Rattle.told.specs.Lines.{Ran, done, stopped}

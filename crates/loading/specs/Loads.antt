@@ -6,11 +6,11 @@ use lib.ListN.{replicate}
 use Rattle.card.specs.declared.Card.{Card}
 use Rattle.answer.specs.declared.Answer as A
 use Rattle.answer.specs.declared.Answer.the-variants.{Loaded, Unloaded}
-use Rattle.answer.specs.declared.Done.{Done}
+use Rattle.answer.specs.Done.{Done}
 use Rattle.answer.specs.Answers.{ends}
 use Rattle.table.specs.declared.Outcome as O
 use Rattle.table.specs.declared.Outcome.the-variants as outcome
-use Rattle.table.specs.declared.Loading.{Loading}
+use Rattle.table.specs.Loading.{Loading}
 use Rattle.table.specs.Load.{load, loaded}
 
 -- "`ok` and bytes used, or `refused`, number and line"

@@ -1,114 +1,224 @@
-// The entry points for a program that keeps its counter rows in an array: the rows go in by value and come back.
-use answer::Reply;
+// The entry points for a program that keeps 40 counter rows in an array and lends the first so many of them: rows go in by value and come back.
+// Where all 40 are lent the public entry points do the work; else the rooms below them do it, and the rows are settled by value.
+use answer::Answer;
+use answer::Outcome;
 use card::Card;
 use counters::Counters;
 use entry::Counted;
-use shelf::Shelf;
 ghost use mathlib.Core.Path.{_≡_};
+ghost use Prim.Native.Nat.{_≤_};
+ghost use Rattle.counters.specs.Counting.{settled};
 ghost use Rattle.entry.specs.Outcomes.{arrives, frames, hears, takes, countsOf, loads, LeavesStore, LeavesAll, LeavesBytes, LeavesMemory};
 
 // What is given back, and the rows afterwards.
 pub struct After {
-    pub reply: Reply,
+    pub answer: Answer,
     pub rows: [Counters; 40],
 }
 
-pub fn joined(reply: Reply, rows: [Counters; 40]) -> After
-    ensures { λ r. ⌜ (r .reply ≡ reply) × (r .rows ≡ rows) ⌝ }
+pub fn joined(answer: Answer, rows: [Counters; 40]) -> After
+    ensures { λ r. ⌜ (r .answer ≡ answer) × (r .rows ≡ rows) ⌝ }
 {
-    After { reply, rows }
+    After { answer, rows }
 }
 
-pub fn arrive(
+// All 40 rows are lent: `entry` itself does the work, from here on five times.
+fn load_by_entry(
     card: Card,
-    shelf: Shelf,
+    text: &[u8],
+    memory: &mut [u8],
+    state: &mut [u8; 2048],
+    store: &[u8],
+    rows: [Counters; 40],
+) -> After
+    ensures { λ r. ⌜ LeavesMemory (loads card (now (text .entry)) (now (memory .entry)) (now (store .entry)) rows 40) (r .answer) (now (memory .exit)) (now (state .exit)) (r .rows) ⌝ }
+{
+    let mut rs = rows;
+    let answer = entry::load(card, text, memory, state, store, &mut rs);
+    joined(answer, rs)
+}
+
+fn arrive_by_entry(
+    card: Card,
+    state: &mut [u8; 2048],
     memory: &[u8],
     store: &mut [u8],
     rows: [Counters; 40],
     unit: u8,
     cell: &[u8],
 ) -> After
-    ensures { λ r. ⌜ LeavesStore (arrives card shelf (now (memory .entry)) (now (store .entry)) rows 40 unit (now (cell .entry))) (r .reply) (now (store .exit)) (r .rows) ⌝ }
+    ensures { λ r. ⌜ LeavesStore (arrives card (now (state .entry)) (now (memory .entry)) (now (store .entry)) rows 40 unit (now (cell .entry))) (r .answer) (now (state .exit)) (now (store .exit)) (r .rows) ⌝ }
 {
     let mut rs = rows;
-    let reply = entry::arrive(card, shelf, memory, store, &mut rs, unit, cell);
-    joined(reply, rs)
+    let answer = entry::arrive(card, state, memory, store, &mut rs, unit, cell);
+    joined(answer, rs)
 }
 
-pub fn frame(
+fn frame_by_entry(
     card: Card,
-    shelf: Shelf,
+    state: &mut [u8; 2048],
     store: &mut [u8],
     rows: [Counters; 40],
     buffer: &mut [u8],
 ) -> After
-    ensures { λ r. ⌜ LeavesAll (frames card shelf (now (store .entry)) rows 40 (now (buffer .entry))) (r .reply) (now (store .exit)) (now (buffer .exit)) (r .rows) ⌝ }
+    ensures { λ r. ⌜ LeavesAll (frames card (now (state .entry)) (now (store .entry)) rows 40 (now (buffer .entry))) (r .answer) (now (state .exit)) (now (store .exit)) (now (buffer .exit)) (r .rows) ⌝ }
 {
     let mut rs = rows;
-    let reply = entry::frame(card, shelf, store, &mut rs, buffer);
-    joined(reply, rs)
+    let answer = entry::frame(card, state, store, &mut rs, buffer);
+    joined(answer, rs)
 }
 
-pub fn take(
+fn hear_by_entry(
     card: Card,
-    shelf: Shelf,
-    store: &[u8],
-    rows: [Counters; 40],
-    unit: u8,
-    buffer: &mut [u8],
-) -> After
-    ensures { λ r. ⌜ LeavesBytes (takes card shelf (now (store .entry)) rows 40 unit (now (buffer .entry))) (r .reply) (now (buffer .exit)) (r .rows) ⌝ }
-{
-    let mut rs = rows;
-    let reply = entry::take(card, shelf, store, &mut rs, unit, buffer);
-    joined(reply, rs)
-}
-
-pub fn hear(
-    card: Card,
-    shelf: Shelf,
+    state: &mut [u8; 2048],
     store: &mut [u8],
     rows: [Counters; 40],
     unit: u8,
     frame: &[u8],
 ) -> After
-    ensures { λ r. ⌜ LeavesStore (hears card shelf (now (store .entry)) rows 40 unit (now (frame .entry))) (r .reply) (now (store .exit)) (r .rows) ⌝ }
+    ensures { λ r. ⌜ LeavesStore (hears card (now (state .entry)) (now (store .entry)) rows 40 unit (now (frame .entry))) (r .answer) (now (state .exit)) (now (store .exit)) (r .rows) ⌝ }
 {
     let mut rs = rows;
-    let reply = entry::hear(card, shelf, store, &mut rs, unit, frame);
-    joined(reply, rs)
+    let answer = entry::hear(card, state, store, &mut rs, unit, frame);
+    joined(answer, rs)
 }
 
-pub fn load(card: Card, text: &[u8], memory: &mut [u8], store: &[u8], rows: [Counters; 40]) -> After
-    ensures { λ r. ⌜ LeavesMemory (loads card (now (text .entry)) (now (memory .entry)) (now (store .entry)) rows 40) (r .reply) (now (memory .exit)) (r .rows) ⌝ }
-{
-    let mut rs = rows;
-    let reply = entry::load(card, text, memory, store, &mut rs);
-    joined(reply, rs)
-}
-
-// The calls that `entry::count` makes, of the first so many rows: no rows are lent, which would be a walk by hand.
-pub fn count_among(
+fn take_by_entry(
     card: Card,
-    shelf: Shelf,
+    state: &mut [u8; 2048],
+    store: &[u8],
+    rows: [Counters; 40],
+    unit: u8,
+    buffer: &mut [u8],
+) -> After
+    ensures { λ r. ⌜ LeavesBytes (takes card (now (state .entry)) (now (store .entry)) rows 40 unit (now (buffer .entry))) (r .answer) (now (state .exit)) (now (buffer .exit)) (r .rows) ⌝ }
+{
+    let mut rs = rows;
+    let answer = entry::take(card, state, store, &mut rs, unit, buffer);
+    joined(answer, rs)
+}
+
+// The rows after an event: by value what `counters::settle` does to lent ones.
+fn settle(rows: [Counters; 40], o: Outcome) -> After
+    requires { ⌜ o .rises .to ≤ 32 ⌝ }
+    ensures { λ r. ⌜ (r .answer ≡ o .answer) × (r .rows ≡ settled rows (o .rises)) ⌝ }
+{
+    let mut rs = rows;
+    let rises = counters::rises_of(o);
+    let n = counters::last(rises);
+    let mut i = counters::first(rises);
+    while i < n {
+        let c = rs[i];
+        rs[i] = counters::row_by(c, counters::rise_at(rises, i));
+        i += 1;
+    }
+    joined(counters::answer_of(o), rs)
+}
+
+pub fn load(
+    card: Card,
+    text: &[u8],
+    memory: &mut [u8],
+    state: &mut [u8; 2048],
+    store: &[u8],
+    rows: [Counters; 40],
+    lent: usize,
+) -> After
+    ensures { λ r. ⌜ LeavesMemory (loads card (now (text .entry)) (now (memory .entry)) (now (store .entry)) rows lent) (r .answer) (now (memory .exit)) (now (state .exit)) (r .rows) ⌝ }
+{
+    if lent == 40 {
+        return load_by_entry(card, text, memory, state, store, rows);
+    }
+    settle(rows, loading::load(card, text, memory, state, store, lent))
+}
+
+pub fn arrive(
+    card: Card,
+    state: &mut [u8; 2048],
+    memory: &[u8],
+    store: &mut [u8],
+    rows: [Counters; 40],
+    lent: usize,
+    unit: u8,
+    cell: &[u8],
+) -> After
+    ensures { λ r. ⌜ LeavesStore (arrives card (now (state .entry)) (now (memory .entry)) (now (store .entry)) rows lent unit (now (cell .entry))) (r .answer) (now (state .exit)) (now (store .exit)) (r .rows) ⌝ }
+{
+    if lent == 40 {
+        return arrive_by_entry(card, state, memory, store, rows, unit, cell);
+    }
+    settle(
+        rows,
+        arriving::arrive(card, state, memory, store, lent, unit, cell),
+    )
+}
+
+pub fn frame(
+    card: Card,
+    state: &mut [u8; 2048],
+    store: &mut [u8],
+    rows: [Counters; 40],
+    lent: usize,
+    buffer: &mut [u8],
+) -> After
+    ensures { λ r. ⌜ LeavesAll (frames card (now (state .entry)) (now (store .entry)) rows lent (now (buffer .entry))) (r .answer) (now (state .exit)) (now (store .exit)) (now (buffer .exit)) (r .rows) ⌝ }
+{
+    if lent == 40 {
+        return frame_by_entry(card, state, store, rows, buffer);
+    }
+    settle(rows, framing::frame(card, state, store, lent, buffer))
+}
+
+pub fn hear(
+    card: Card,
+    state: &mut [u8; 2048],
+    store: &mut [u8],
+    rows: [Counters; 40],
+    lent: usize,
+    unit: u8,
+    frame: &[u8],
+) -> After
+    ensures { λ r. ⌜ LeavesStore (hears card (now (state .entry)) (now (store .entry)) rows lent unit (now (frame .entry))) (r .answer) (now (state .exit)) (now (store .exit)) (r .rows) ⌝ }
+{
+    if lent == 40 {
+        return hear_by_entry(card, state, store, rows, unit, frame);
+    }
+    settle(rows, hearing::hear(card, state, store, lent, unit, frame))
+}
+
+pub fn take(
+    card: Card,
+    state: &mut [u8; 2048],
+    store: &[u8],
+    rows: [Counters; 40],
+    lent: usize,
+    unit: u8,
+    buffer: &mut [u8],
+) -> After
+    ensures { λ r. ⌜ LeavesBytes (takes card (now (state .entry)) (now (store .entry)) rows lent unit (now (buffer .entry))) (r .answer) (now (state .exit)) (now (buffer .exit)) (r .rows) ⌝ }
+{
+    if lent == 40 {
+        return take_by_entry(card, state, store, rows, unit, buffer);
+    }
+    settle(rows, taking::take(card, state, store, lent, unit, buffer))
+}
+
+// The calls that `entry::count` makes: no rows are lent, which would be a walk by hand.
+pub fn count(
+    card: Card,
+    state: &[u8; 2048],
     store: &[u8],
     rows: [Counters; 40],
     lent: usize,
     unit: u8,
 ) -> Counted
-    ensures { λ r. ⌜ r ≡ countsOf card shelf (now (store .entry)) rows lent unit ⌝ }
+    ensures { λ r. ⌜ r ≡ countsOf card (now (state .entry)) (now (store .entry)) rows lent unit ⌝ }
 {
-    let place = admit::counted(card, shelf, store, lent, unit);
+    let place = admit::counted(card, state, store, lent, unit);
     let at = entry::row_at(place);
     if at < 40 {
         let row = rows[at];
         return entry::counted_at(place, row);
     }
     entry::counted_at(place, Counters::zero())
-}
-
-pub fn count(card: Card, shelf: Shelf, store: &[u8], rows: [Counters; 40], unit: u8) -> Counted
-    ensures { λ r. ⌜ r ≡ countsOf card shelf (now (store .entry)) rows 40 unit ⌝ }
-{
-    count_among(card, shelf, store, rows, 40, unit)
 }

@@ -33,7 +33,7 @@ use Rattle.paper.proofs.Outlets.{number-is, capacity-is, limit-iff}
 -- a session
 pub hears-iff : (sessions : List ℕ) (s : ℕ) → (hears sessions s ≡ true) ↔ Hears sessions s
 unfolding hears
-hears-iff sessions s = (eqb-true (getD sessions (s / 64) 0 / 2 ^ (s % 64) % 2) 1, eq-eqb (getD sessions (s / 64) 0 / 2 ^ (s % 64) % 2) 1)
+hears-iff sessions s = (eqb-true (getD sessions (s / 8) 0 / 2 ^ (s % 8) % 2) 1, eq-eqb (getD sessions (s / 8) 0 / 2 ^ (s % 8) % 2) 1)
 
 -- the queue of a class is one of this mode
 number-in : (mode : Mode) (l c v class : ℕ) → class < 4 → numberFor mode class < length (queuesIn mode l c v)

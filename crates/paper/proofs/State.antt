@@ -19,18 +19,21 @@ use Rattle.outlet.specs.declared.Limits.{Limits}
 use Rattle.outlet.specs.declared.Ring.{Ring}
 use Rattle.arbiter.specs.Arbitration.{besides}
 use Rattle.shelf.specs.declared.Unit as U
-use Rattle.shelf.specs.declared.Shelf.{Shelf}
+use Rattle.shelf.specs.Shelf.{Shelf}
 use Rattle.shelf.specs.declared.Found.{Found}
 use Rattle.shelf.specs.declared.Found.the-variants.{At, Nothing}
 use Rattle.shelf.specs.Shelves.{declared, findIn, isAt}
 use Rattle.shelf.proofs.Finding.{find-at, find-nothing}
 use Rattle.soundness.specs.State as state
+use Rattle.soundness.specs.Lanes.{formed}
+use Rattle.soundness.specs.Soundings.{formedAll}
 use Rattle.soundness.proofs.Facts.{sound-iff as code-sound-iff}
+use Rattle.soundness.proofs.Sounding.{lanes-at, lanes-all}
 use Rattle.store.specs.Rings as rings
 use Rattle.store.proofs.Rounds.{tail-lt}
 use Rattle.paper.specs.Outlets.{Given, GivenIn, queuesIn, queues, nowhere, queueAt, ringAt, behind}
-use Rattle.paper.specs.State.{units, unitAt, numberAt, askOf, DeclaredAt, Declared, RingFits, UnitSound, Sound}
-use Rattle.outlet.proofs.Truth.{decide}
+use Rattle.paper.specs.State.{units, unitAt, numberAt, askOf, DeclaredAt, Declared, RingFits, UnitSound, Sound, Formed}
+use Rattle.outlet.proofs.Truth.{decide, le-iff, and-iff}
 use Rattle.paper.proofs.Outlets.{capacity-is, behind-is}
 
 -- the limits of a `unit` line
@@ -170,3 +173,16 @@ found-iff shelf unit = by (findIn (declared shelf) unit) refl
 pub found-at : (card : Card) (shelf : Shelf) (bytes rows : ℕ) → Sound card shelf bytes rows → (unit place : ℕ) → DeclaredAt shelf unit place → findIn (declared shelf) unit ≡ At place
 found-at card shelf bytes rows s unit place d =
     find-at unit (declared shelf) place .1 (record { inside = d .inside; named = d .named; first = λ j h e. s .once j place h (d .inside) (e ∙ sym (d .named)) })
+
+-- bytes that are a state
+formed-at : (b : List ℕ) (i : ℕ) → (formed (λ c. getD b (c * 32 + i) 0) ≡ true) ↔ (((getD b (32 + i) 0 ≤ 1) × (getD b (160 + i) 0 ≤ 1)) × (getD b (288 + i) 0 ≤ 1))
+formed-at b i = and-iff (and-iff (le-iff (getD b (32 + i) 0) 1) (le-iff (getD b (160 + i) 0) 1)) (le-iff (getD b (288 + i) 0) 1)
+
+pub formed-iff : (state : List ℕ) → (formedAll state ≡ true) ↔ Formed state
+formed-iff b = (
+  λ t.
+      let at : (i : ℕ) → i < 32 → i < getD b 805 0 → ((getD b (32 + i) 0 ≤ 1) × (getD b (160 + i) 0 ≤ 1)) × (getD b (288 + i) 0 ≤ 1)
+      = λ i h c. formed-at b i .0 (lanes-at _ _ 0 32 i t (omega arith) (omega arith) c) in
+      record { link = λ i h c. at i h c .0 .0; mode = λ i h c. at i h c .0 .1; mark = λ i h c. at i h c .1 },
+  λ f. lanes-all _ _ 0 32 (λ i a l c. let h : i < 32 = omega arith in formed-at b i .1 ((f .link i h c, f .mode i h c), f .mark i h c)),
+)

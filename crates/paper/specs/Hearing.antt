@@ -11,9 +11,9 @@ use Rattle.answer.specs.declared.Hearing.the-variants as hearing
 use Rattle.paper.specs.Cells.{two, four, vpi, clp, kind, class, address, Damaged}
 use Rattle.paper.specs.Outlets.{numberFor, queueAt, held, AtLimit}
 
--- "`mc` unit, session: the unit hears that session": session s is bit s % 64 of number s / 64
+-- "`mc` unit, session: the unit hears that session": session s is bit s % 8 of byte s / 8
 abbrev pub Hears : List ℕ → ℕ → Type 0
-Hears sessions s = getD sessions (s / 64) 0 / 2 ^ (s % 64) % 2 ≡ 1
+Hears sessions s = getD sessions (s / 8) 0 / 2 ^ (s % 8) % 2 ≡ 1
 
 -- "address 8 (unit, session, or 0 for broadcast)"; "All declared units hear a broadcast, the sender too."
 pub data Addressed (u : U.Unit) (routing : ℕ) : Type 0 where

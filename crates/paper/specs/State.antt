@@ -1,17 +1,17 @@
 -- When a state is sound, item by item of 01's State, in its own numbers. Assumes nothing.
-use Prim.Native.Nat.{ℕ, _*_, _≤_, _<_}
+use Prim.Native.Nat.{ℕ, _+_, _*_, _≤_, _<_}
 use mathlib.Core.Path.{_≡_}
 use mathlib.Core.Logic.{_⊎_}
 use mathlib.Core.Bool.{false}
 use mathlib.Core.List.{List, [], _∷_}
-use lib.ListN.{length, getD, take}
+use lib.ListN.{length, getD, take, replicate}
 use Rattle.header.specs.declared.Link.the-variants.{Uni, Nni}
 use Rattle.card.specs.declared.Card.{Card}
 use Rattle.card.specs.declared.Card.the-variants.{Wide}
 use Rattle.outlet.specs.declared.Mode.the-variants.{One}
 use Rattle.outlet.specs.declared.Ring.{Ring}
 use Rattle.shelf.specs.declared.Unit as U
-use Rattle.shelf.specs.declared.Shelf.{Shelf}
+use Rattle.shelf.specs.Shelf.{Shelf}
 use Rattle.paper.specs.Outlets.{Given, queueAt, ringAt}
 
 -- the declared units, in `unit` line order, and the one in a place
@@ -31,7 +31,7 @@ blank =
       };
       inlet = none;
       place = 0;
-      sessions = 0 ∷ 0 ∷ 0 ∷ 0 ∷ [];
+      sessions = replicate 32 0;
     }
 
 abbrev pub unitAt : Shelf → ℕ → U.Unit
@@ -94,6 +94,13 @@ pub record Sound (card : Card) (shelf : Shelf) (bytes rows : ℕ) : Type 0 where
   -- "store or counter rows smaller than Store asks": "cell store below 8,192 bytes a declared unit, or fewer counter rows than units"
   pub store : 8192 * shelf .count ≤ bytes
   pub records : shelf .count ≤ rows
+
+-- of a state in bytes, "a setting that its `unit` line .. could not give" is also a byte of a declared unit that is no link (0 for `uni`, 1 for `nni`), no mode (0 for `one`, 1 for `four`) or
+-- no mark (0 or 1): columns 1, 5 and 9 of 32 bytes each; byte 805 is the count of the declared units
+pub record Formed (state : List ℕ) : Type 0 where
+  pub link : (i : ℕ) → i < 32 → i < getD state 805 0 → getD state (32 + i) 0 ≤ 1
+  pub mode : (i : ℕ) → i < 32 → i < getD state 805 0 → getD state (160 + i) 0 ≤ 1
+  pub mark : (i : ℕ) → i < 32 → i < getD state 805 0 → getD state (288 + i) 0 ≤ 1
 
 -- the arrays of a shelf have their places, as every shelf that Rattle hands over has
 pub record Whole (shelf : Shelf) : Type 0 where

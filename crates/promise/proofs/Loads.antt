@@ -19,7 +19,7 @@ use Rattle.arbiter.specs.Arbitration.{nobody}
 use Rattle.shelf.specs.Shelves.{unit, blank, fresh, declared, numberOf, findIn, FoundNowhere}
 use Rattle.shelf.specs.declared.Settings.{Settings}
 use Rattle.shelf.specs.declared.Unit as U
-use Rattle.shelf.specs.declared.Shelf.{Shelf}
+use Rattle.shelf.specs.Shelf.{Shelf}
 use Rattle.shelf.specs.declared.Found.{Found}
 use Rattle.shelf.specs.declared.Found.the-variants.{At, Nothing}
 use Rattle.shelf.proofs.Finding.{find-at, find-nothing}

@@ -13,7 +13,7 @@ use Rattle.record.specs.Record.{size, usable, cleared}
 use Rattle.line.specs.Lines.{readingOf}
 use Rattle.line.specs.declared.Line.{Line}
 use Rattle.line.specs.declared.Reading.{Reading}
-use Rattle.shelf.specs.declared.Shelf.{Shelf}
+use Rattle.shelf.specs.Shelf.{Shelf}
 use Rattle.verdict.specs.declared.Verdict.{Verdict}
 use Rattle.verdict.specs.declared.Verdict.the-variants.{Fine, Form, Order, Twice, Wide, Room}
 use Rattle.verdict.specs.Verdicts.{numberOf}
@@ -22,7 +22,7 @@ use Rattle.told.specs.Lines.{Good, Ran, done, stopped, verdictOn}
 use Rattle.told.proofs.Memory.{AllRanged}
 use Rattle.told.proofs.Grown.{decide}
 use Rattle.table.specs.declared.Outcome.the-variants.{Loaded, Refused}
-use Rattle.table.specs.declared.Loading.{Loading}
+use Rattle.table.specs.Loading.{Loading}
 use Rattle.table.specs.Load.{ranOf, refusal, tooLittle, loadingOf, memoryRan, load, loaded}
 use Rattle.table.proofs.Cleared.{load-long, load-short}
 use Rattle.promise.specs.Says.{recordsOf, unitLines}

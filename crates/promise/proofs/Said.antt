@@ -13,7 +13,7 @@ use Rattle.record.specs.declared.Record.the-variants.{Empty, Page as R·Page}
 use Rattle.record.specs.declared.Got.the-variants.{Is}
 use Rattle.card.specs.declared.Card.{Card}
 use Rattle.shelf.specs.Shelves.{findIn}
-use Rattle.shelf.specs.declared.Shelf.{Shelf}
+use Rattle.shelf.specs.Shelf.{Shelf}
 use Rattle.shelf.specs.declared.Found.{Found}
 use Rattle.shelf.specs.declared.Found.the-variants.{At, Nothing}
 use Rattle.line.specs.declared.Line.{Line}

@@ -16,7 +16,7 @@ use Rattle.store.proofs.Queues.{inlet-elsewhere, outlet-elsewhere}
 use Rattle.shelf.specs.Sessions.{hears}
 use Rattle.shelf.specs.Shelves as S
 use Rattle.shelf.specs.declared.Unit as U
-use Rattle.shelf.specs.declared.Shelf.{Shelf}
+use Rattle.shelf.specs.Shelf.{Shelf}
 use Rattle.line.specs.declared.Line.{Line}
 use Rattle.told.specs.Told.{hearsIn}
 use Rattle.promise.specs.Served.{lookupAt, saidBy}

@@ -25,7 +25,7 @@ use Rattle.store.proofs.Rounds.{tail-lt}
 use Rattle.store.proofs.Queues.{length-cells, inlet-pushed, outlet-above}
 use Rattle.shelf.specs.declared.Settings.{Settings}
 use Rattle.shelf.specs.declared.Unit as U
-use Rattle.shelf.specs.declared.Shelf.{Shelf}
+use Rattle.shelf.specs.Shelf.{Shelf}
 use Rattle.line.specs.Ranges.{WayIn}
 use Rattle.line.specs.declared.Line.{Line}
 use Rattle.line.specs.declared.Line.the-variants.{Bus as L·Bus, Unit as L·Unit, Vp, Drop, Page, Vc, Mc}

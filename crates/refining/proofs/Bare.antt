@@ -11,7 +11,7 @@ use Rattle.record.specs.Record.{cleared}
 use Rattle.shelf.specs.Shelves.{declared, findIn, placeFrom, fresh, isAt}
 use Rattle.shelf.specs.declared.Found.{Found}
 use Rattle.shelf.specs.declared.Found.the-variants.{At, Nothing}
-use Rattle.shelf.specs.declared.Shelf.{Shelf}
+use Rattle.shelf.specs.Shelf.{Shelf}
 use Rattle.soundness.specs.State.{soundOf}
 use Rattle.counters.specs.Counting.{settled, settledTo}
 use Rattle.counters.specs.declared.Counters as C
@@ -26,9 +26,10 @@ use Rattle.running.specs.Refusing.{known, fits}
 use Rattle.running.proofs.Refused.{refusal-changes-nothing}
 use Rattle.running.specs.Tables.{Zeroed}
 use Rattle.running.proofs.Tables.{zeroed, refused-leaves}
-use Rattle.refining.specs.Refines.{gives, RefinesRefused}
+use Rattle.running.proofs.InPlace.{runs-in-place}
+use Rattle.refining.specs.Refines.{RefinesRefused}
 use Rattle.refining.proofs.Alike.{WorldAlike}
-use Rattle.refining.proofs.Refined.{gives-alike}
+use Rattle.refining.proofs.Refined.{given, gives-alike, loaded-gives}
 
 -- nobody is found
 not-there : (shelf : Shelf) → shelf .count ≡ 0 → (unit : ℕ) → findIn (declared shelf) unit ≡ Nothing
@@ -111,9 +112,10 @@ refines-refused card text memory store rows number line r es =
     let k = refused-leaves card text memory store rows number line r in
     let sound = ap (λ w. soundOf card (w .shelf) (length store) (length rows)) (sym k) ∙ load-sound card text memory (length store) (length rows) in
     let s = stays-all card (bare memory store rows) refl es in
+    let ran = runs-in-place card text memory store rows es .same ∙ ap (λ w. run card w es) k in
     record {
-      events = ap (λ w. gives card w es) k ∙ gives-alike card (bare memory store rows) (D.opened []) (bare-alike card memory store rows sound) es;
-      zeroed = subst (Zeroed memory) (sym (ap (λ w. run card w es .memory) k ∙ s .memory)) (zeroed memory);
-      store-kept = ap (λ w. run card w es .store) k ∙ s .store;
-      rows-kept = ap (λ w. run card w es .rows) k ∙ s .rows;
+      events = loaded-gives card text memory store rows es ∙ ap (λ w. given card w es) k ∙ gives-alike card (bare memory store rows) (D.opened []) (bare-alike card memory store rows sound) es;
+      zeroed = subst (Zeroed memory) (sym (ap (λ w. w .memory) ran ∙ s .memory)) (zeroed memory);
+      store-kept = ap (λ w. w .store) ran ∙ s .store;
+      rows-kept = ap (λ w. w .rows) ran ∙ s .rows;
     }

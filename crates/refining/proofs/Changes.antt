@@ -11,7 +11,7 @@ use borrow.Author.Tests.{eqb-true, eqb-false}
 use Rattle.card.specs.declared.Card.{Card}
 use Rattle.shelf.specs.Shelves as S
 use Rattle.shelf.specs.declared.Unit as U
-use Rattle.shelf.specs.declared.Shelf.{Shelf}
+use Rattle.shelf.specs.Shelf.{Shelf}
 use Rattle.told.proofs.Grown.{decide}
 use Rattle.admit.specs.Admission.{unitAt, withUnit}
 use Rattle.document.specs.Counters.{Entry}

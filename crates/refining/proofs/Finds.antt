@@ -8,7 +8,7 @@ use lib.Seq.{ext-getD}
 use Rattle.card.specs.declared.Card.{Card}
 use Rattle.shelf.specs.Shelves as S
 use Rattle.shelf.specs.declared.Found.the-variants as found
-use Rattle.shelf.specs.declared.Shelf.{Shelf}
+use Rattle.shelf.specs.Shelf.{Shelf}
 use Rattle.shelf.proofs.Finding.{declared-at, find-at}
 use Rattle.admit.specs.Admission.{unitAt}
 use Rattle.document.specs.Shelf as D

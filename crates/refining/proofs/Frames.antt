@@ -28,7 +28,7 @@ use Rattle.shelf.specs.Shelves as S
 use Rattle.shelf.specs.declared.Found as F
 use Rattle.shelf.specs.declared.Found.the-variants as found
 use Rattle.shelf.specs.declared.Unit as U
-use Rattle.shelf.specs.declared.Shelf.{Shelf}
+use Rattle.shelf.specs.Shelf.{Shelf}
 use Rattle.shelf.proofs.Finding.{find-at}
 use Rattle.line.specs.declared.Line.{Line}
 use Rattle.soundness.specs.State.{soundOf}
@@ -42,7 +42,7 @@ use Rattle.hearing.specs.Hearings as hearing
 use Rattle.framing.specs.Requests as requests
 use Rattle.framing.specs.Sending as sending
 use Rattle.framing.specs.Frames as framing
-use Rattle.framing.specs.declared.Listened.{Listened}
+use Rattle.framing.specs.Sending.{Listened}
 use Rattle.framing.proofs.Sends.{out-housed}
 use Rattle.document.specs.Shelf as D
 use Rattle.document.specs.Hearing as paper

@@ -33,7 +33,7 @@ use Rattle.store.proofs.Rounds.{tail-lt}
 use Rattle.store.proofs.Slots.{start-inside}
 use Rattle.store.proofs.Queues.{length-cells, outlet-pushed, outlet-beside, inlet-below}
 use Rattle.shelf.specs.declared.Unit as U
-use Rattle.shelf.specs.declared.Shelf.{Shelf}
+use Rattle.shelf.specs.Shelf.{Shelf}
 use Rattle.line.specs.declared.Line.{Line}
 use Rattle.told.specs.Told.{hearsIn}
 use Rattle.soundness.specs.State.{soundOf}

@@ -8,5 +8,6 @@ pub mod Arrives
 pub mod Takes
 pub mod Opens
 pub mod Steps
+pub mod States
 pub mod Refined
 pub mod Bare

@@ -16,7 +16,7 @@ use Rattle.record.specs.Record.{size, usable, recordAt}
 use Rattle.lookup.specs.Lookup.{translated}
 use Rattle.shelf.specs.Shelves.{unit, blank, fresh, declared, findIn, numberOf}
 use Rattle.shelf.specs.declared.Unit as U
-use Rattle.shelf.specs.declared.Shelf.{Shelf}
+use Rattle.shelf.specs.Shelf.{Shelf}
 use Rattle.shelf.specs.declared.Found.{Found}
 use Rattle.shelf.specs.declared.Found.the-variants.{At, Nothing}
 use Rattle.shelf.proofs.Finding.{find-at, declared-at}
@@ -74,7 +74,7 @@ opened-idle (Mc u session ∷ told) = joined-idle (shelfOf told) (findIn (declar
 -- B. the units
 -- a unit without the place of its records and its sessions; and the fresh unit of the document's unit
 abbrev plain : U.Unit → U.Unit
-plain u = record { settings = u .settings; outlet = u .outlet; inlet = u .inlet; place = 0; sessions = replicate 4 0 }
+plain u = record { settings = u .settings; outlet = u .outlet; inlet = u .inlet; place = 0; sessions = replicate 32 0 }
 
 abbrev made : D.Unit → U.Unit
 made d = unit (d .settings) (d .limits) 0

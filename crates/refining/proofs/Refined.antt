@@ -3,6 +3,7 @@ use Prim.Native.Nat.{ℕ, _*_, _<_, _≤_, min}
 use native.Mathlib.Omega.{arith}
 use mathlib.Core.Path.{_≡_, refl, sym, ap, subst, _∙_}
 use mathlib.Core.Logic.{⊎-elim}
+use mathlib.Core.Bool.{true}
 use mathlib.Core.List.{List, [], _∷_}
 use lib.ListN.{length, getD, List·getD-map}
 use Rattle.card.specs.declared.Card.{Card}
@@ -15,27 +16,32 @@ use Rattle.told.specs.Lines.{Good}
 use Rattle.table.specs.declared.Outcome.the-variants.{Loaded, Refused}
 use Rattle.table.specs.Load.{load}
 use Rattle.loading.specs.Loads.{answerOf}
+use Rattle.loading.proofs.InPlace.{load-formed, load-long}
 use Rattle.promise.specs.Refusals.{Accepts}
 use Rattle.promise.specs.Says.{unitLines}
 use Rattle.promise.proofs.Faults.{good-iff}
 use Rattle.promise.proofs.Refusals.{accepts-good, accepted}
 use Rattle.promise.specs.Narrow.{FirstWide}
 use Rattle.promise.proofs.Cards.{wide-or-not, narrow-accepts, narrow-refuses-iff}
-use Rattle.document.specs.Events.{Event, arrive, frame, hear, take-cell, count}
+use Rattle.document.specs.Events.{Event, arrive, frame, hear, take-cell, count, Back}
 use Rattle.document.specs.Counters.{counterOf}
 use Rattle.document.specs.Shelf as D
 use Rattle.document.specs.Steps as document
 use Rattle.document.proofs.Fixed.{givenOf, given-stays}
 use Rattle.running.specs.Events.{World, happens}
 use Rattle.running.specs.Keeping.{run, loaded}
-use Rattle.paper.specs.Counters.{rowAt}
+use Rattle.running.specs.Lent.{Lent, Long, does, loadedIn, seen}
+use Rattle.paper.specs.Counters.{rowAt, valueOf}
 use Rattle.paper.proofs.Counters.{value-is}
 use Rattle.paper.specs.Answers.{IsRefused}
 use Rattle.running.proofs.Tables.{table-refused, refused-is}
 use Rattle.running.proofs.Kept.{soundness-kept}
+use Rattle.running.proofs.InPlace.{same, formed-after, long-after, loaded-seen, runs-in-place}
+use Rattle.soundness.specs.Soundings.{formedAll}
 use Rattle.refining.specs.Refines.{gives, Refines, CountersAreHistory}
 use Rattle.refining.specs.Cards.{Equal, TooWide, SameCard}
 use Rattle.refining.proofs.Alike.{WorldAlike}
+use Rattle.refining.proofs.States.{accepted-state, begins, same-states}
 use Rattle.refining.proofs.Opens.{opened-alike, opened-rows}
 use Rattle.refining.proofs.Steps.{StepAlike, arrive-step, frame-step, hear-step, take-step, count-step}
 
@@ -57,17 +63,37 @@ then-alike card w d a e =
     }
 
 -- so they are over every sequence of events
-pub gives-alike : (card : Card) (w : World) (d : D.Shelf) → WorldAlike card w d → (es : List Event) → gives card w es ≡ document.gives d es
-unfolding gives document.gives
+unfoldable pub given : Card → World → List Event → List Back
+given card w [] = []
+given card w (e ∷ es) = record { said = happens card w e .said; bytes = happens card w e .bytes } ∷ given card (happens card w e .world) es
+
+pub gives-alike : (card : Card) (w : World) (d : D.Shelf) → WorldAlike card w d → (es : List Event) → given card w es ≡ document.gives d es
+unfolding given document.gives
 gives-alike card w d a [] = refl
 gives-alike card w d a (e ∷ es) =
     let x = step-alike card w d a e in
     let rest = gives-alike card (happens card w e .world) (document.happensTo d e .shelf) (then-alike card w d a e) es in
     λ t. record { said = x .said t; bytes = x .bytes t } ∷ rest t
 
+-- what lent bytes give back is what the shelf that they are gives
+gives-seen : (card : Card) (l : Lent) (es : List Event) → Long l → formedAll (l .state) ≡ true → gives card l es ≡ given card (seen l) es
+unfolding gives given
+gives-seen card l [] long formed = refl
+gives-seen card l (e ∷ es) long formed =
+    let x = same card l long formed e in
+    let rest = gives-seen card (does card l e .lent) es (long-after card l long formed e) (formed-after card l long formed e) ∙ ap (λ o. given card (o .world) es) x in
+    λ t. record { said = x t .said; bytes = x t .bytes } ∷ rest t
+
+pub loaded-gives : (card : Card) (text memory store : List ℕ) (rows : List C.Counters) (es : List Event) →
+    gives card (loadedIn card text memory store rows) es ≡ given card (loaded card text memory store rows) es
+loaded-gives card text memory store rows es =
+    gives-seen card (loadedIn card text memory store rows) es (load-long card text memory (length store) (length rows)) (load-formed card text memory (length store) (length rows))
+    ∙ ap (λ w. given card w es) (loaded-seen card text memory store rows)
+
 pub refines : Refines
 refines card text memory store rows told good es =
-    gives-alike card (loaded card text memory store rows) (D.opened told) (opened-alike card text memory store rows told good) es
+    loaded-gives card text memory store rows es
+    ∙ gives-alike card (loaded card text memory store rows) (D.opened told) (opened-alike card text memory store rows told good) es
 
 -- what is left after the events: rows alike, rows beyond as they were, and the units are the same ones
 pub record Left (card : Card) (w : World) (d : D.Shelf) (w′ : World) (d′ : D.Shelf) : Type 0 where
@@ -95,10 +121,11 @@ number-stays d es i =
 
 pub counters-are-history : CountersAreHistory
 counters-are-history card text memory store rows told good es =
+    let rows-are = ap (λ w. w .rows) (runs-in-place card text memory store rows es .same) in
     let left = run-alike card (loaded card text memory store rows) (D.opened told) (opened-alike card text memory store rows told good) es in
     record {
-      equal = λ i h c. value-is (rowAt (run card (loaded card text memory store rows) es .rows) i) c ∙ left .alike .rows i (subst (λ n. i < n) (sym (left .many)) h) c ∙ ap (λ n. counterOf (document.becomes (D.opened told) es .history) n c) (number-stays (D.opened told) es i);
-      untouched = λ i h. left .beyond i h ∙ opened-rows card text memory store rows told good i h;
+      equal = λ i h c. ap (λ r. valueOf (rowAt r i) c) rows-are ∙ value-is (rowAt (run card (loaded card text memory store rows) es .rows) i) c ∙ left .alike .rows i (subst (λ n. i < n) (sym (left .many)) h) c ∙ ap (λ n. counterOf (document.becomes (D.opened told) es .history) n c) (number-stays (D.opened told) es i);
+      untouched = λ i h. ap (λ r. rowAt r i) rows-are ∙ left .beyond i h ∙ opened-rows card text memory store rows told good i h;
     }
 
 -- the same lines are good with equal room
@@ -149,9 +176,14 @@ same-card text memory memory′ store store′ rows rows′ equal told a none es
     let b = moved text memory memory′ store store′ rows rows′ equal told Wide a in
     let n = narrow-accepts text memory′ (length store′) (length rows′) told b none in
     let wide = refines Wide text memory store rows told a es in
+    let alike = refines Narrow text memory′ store′ rows′ told n es ∙ sym wide in
     record {
       answer =
           ap (λ x. answerOf (x .outcome)) (accepted Narrow text memory′ (length store′) (length rows′) told n .0 ∙ sym (accepted Wide text memory (length store) (length rows) told a .0));
-      events = refines Narrow text memory′ store′ rows′ told n es ∙ sym wide;
+      events = alike;
+      states =
+          same-states Narrow Wide (loadedIn Narrow text memory′ store′ rows′) (loadedIn Wide text memory store rows) es
+          (accepted-state Narrow text memory′ (length store′) (length rows′) told n ∙ sym (accepted-state Wide text memory (length store) (length rows) told a))
+          (begins Narrow text memory′ store′ rows′) (begins Wide text memory store rows) alike;
       both = wide;
     }

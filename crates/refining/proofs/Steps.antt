@@ -12,7 +12,7 @@ use Rattle.card.specs.declared.Card.{Card}
 use Rattle.shelf.specs.Shelves as S
 use Rattle.shelf.specs.declared.Found as F
 use Rattle.shelf.specs.declared.Found.the-variants as found
-use Rattle.shelf.specs.declared.Shelf.{Shelf}
+use Rattle.shelf.specs.Shelf.{Shelf}
 use Rattle.soundness.specs.State.{Sound}
 use Rattle.soundness.proofs.Facts.{sound-iff}
 use Rattle.queueing.specs.Taking.{leaving}

@@ -12,7 +12,7 @@ use Rattle.promise.specs.Narrow.{NoneWide, FirstWide}
 use Rattle.document.specs.Events.{Event}
 use Rattle.document.specs.Shelf.{opened}
 use Rattle.document.specs.Steps as document
-use Rattle.running.specs.Keeping.{loaded}
+use Rattle.running.specs.Lent.{runIn, loadedIn}
 use Rattle.paper.specs.Answers.{IsRefused}
 use Rattle.running.specs.Tables.{answerTo}
 use Rattle.refining.specs.Refines.{gives}
@@ -35,8 +35,10 @@ TooWide =
 -- of demand 2.": load's answer too, whatever the two memories, stores and rows held before
 pub record Same (text memory memory′ store store′ : List ℕ) (rows rows′ : List C.Counters) (told : List Line) (es : List Event) : Type 0 where
   pub answer : answerTo Narrow text memory′ (length store′) (length rows′) ≡ answerTo Wide text memory (length store) (length rows)
-  pub events : gives Narrow (loaded Narrow text memory′ store′ rows′) es ≡ gives Wide (loaded Wide text memory store rows) es
-  pub both : gives Wide (loaded Wide text memory store rows) es ≡ document.gives (opened told) es
+  pub events : gives Narrow (loadedIn Narrow text memory′ store′ rows′) es ≡ gives Wide (loadedIn Wide text memory store rows) es
+  -- the two states are equal byte for byte, after the load and after the events
+  pub states : runIn Narrow (loadedIn Narrow text memory′ store′ rows′) es .state ≡ runIn Wide (loadedIn Wide text memory store rows) es .state
+  pub both : gives Wide (loadedIn Wide text memory store rows) es ≡ document.gives (opened told) es
 
 abbrev pub SameCard : Type 0
 SameCard =

@@ -14,7 +14,7 @@ use Rattle.arbiter.proofs.Requests.{renewed-at, renewed-past}
 use Rattle.store.proofs.Slots.{by-lt}
 use Rattle.shelf.specs.Shelves.{declared, blank, numberOf}
 use Rattle.shelf.specs.declared.Unit as U
-use Rattle.shelf.specs.declared.Shelf.{Shelf}
+use Rattle.shelf.specs.Shelf.{Shelf}
 use Rattle.soundness.specs.State.{DeclaredIn, Sound}
 use Rattle.arbiter.specs.Arbitration.{asksNow}
 use Rattle.framing.specs.Requests.{askingOf, askingNow, requests}

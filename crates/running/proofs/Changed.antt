@@ -15,7 +15,7 @@ use Rattle.outlet.specs.declared.Ring.{Ring}
 use Rattle.outlet.specs.declared.Outlet.{Outlet}
 use Rattle.shelf.specs.Shelves.{declared, blank, numberOf}
 use Rattle.shelf.specs.declared.Unit as U
-use Rattle.shelf.specs.declared.Shelf.{Shelf}
+use Rattle.shelf.specs.Shelf.{Shelf}
 use Rattle.shelf.proofs.Finding.{declared-at}
 use Rattle.soundness.specs.State.{UnitSound, DeclaredIn, Sound}
 use Rattle.admit.specs.Admission.{unitAt, withUnit, withQueue}

@@ -1,4 +1,4 @@
--- Each entry point's contract is the step that `happens` speaks of. Assumes nothing.
+-- Each entry point's contract is the step that `does` speaks of. Assumes nothing.
 use mathlib.Core.Path.{_≡_, refl, sym, _∙_}
 use mathlib.Core.List.{[]}
 use Rattle.card.specs.declared.Card.{Card}
@@ -9,7 +9,8 @@ use Rattle.entry.proofs.hear.Met as code-hear
 use Rattle.entry.proofs.take.Met as code-take
 use Rattle.entry.proofs.count.Met as code-count
 use Rattle.entry.proofs.load.Met as code-load
-use Rattle.running.specs.Events.{countSaid, happens}
+use Rattle.running.specs.Events.{countSaid}
+use Rattle.running.specs.Lent.{does}
 use Rattle.running.specs.Contracts.{EntrySays, EntryAsksNothing, EntryMeets, Steps, Only, Determined}
 
 -- by computing, each entry point's `ensures` is what `running: Contracts` writes out
@@ -40,19 +41,19 @@ entry-meets M = record { arrives = code-arrive.met; frames = code-frame.met; hea
 
 -- whatever meets it is the step
 pub steps : (card : Card) → Steps card
-unfolding happens
+unfolding does
 steps card =
     record {
-      arrives = λ w unit cell r store rows e t.
-          record { said = answers (e .0 t .answer); world = record { shelf = e .0 t .shelf; memory = w .memory; store = e .1 .0 t; rows = e .1 .1 t }; bytes = cell };
-      frames = λ w buffer r store rows bytes e t.
-          record { said = answers (e .0 t .answer); world = record { shelf = e .0 t .shelf; memory = w .memory; store = e .1 .0 t; rows = e .1 .1 .1 t }; bytes = e .1 .1 .0 t };
-      hears = λ w unit heard r store rows e t.
-          record { said = answers (e .0 t .answer); world = record { shelf = e .0 t .shelf; memory = w .memory; store = e .1 .0 t; rows = e .1 .1 t }; bytes = heard };
-      takes = λ w unit buffer r rows bytes e t.
-          record { said = answers (e .0 t .answer); world = record { shelf = e .0 t .shelf; memory = w .memory; store = w .store; rows = e .1 .1 t }; bytes = e .1 .0 t };
-      counts = λ w unit r e t. record { said = countSaid (e t); world = w; bytes = [] };
-      loads = λ text memory store rows r memory′ rows′ e t. record { shelf = e .0 t .shelf; memory = e .1 .0 t; store = store; rows = e .1 .1 t };
+      arrives = λ l unit cell r state store rows e t.
+          record { said = answers (e .0 t); lent = record { state = e .1 .0 t; memory = l .memory; store = e .1 .1 .0 t; rows = e .1 .1 .1 t }; bytes = cell };
+      frames = λ l buffer r state store rows bytes e t.
+          record { said = answers (e .0 t); lent = record { state = e .1 .0 t; memory = l .memory; store = e .1 .1 .0 t; rows = e .1 .1 .1 .1 t }; bytes = e .1 .1 .1 .0 t };
+      hears = λ l unit heard r state store rows e t.
+          record { said = answers (e .0 t); lent = record { state = e .1 .0 t; memory = l .memory; store = e .1 .1 .0 t; rows = e .1 .1 .1 t }; bytes = heard };
+      takes = λ l unit buffer r state rows bytes e t.
+          record { said = answers (e .0 t); lent = record { state = e .1 .0 t; memory = l .memory; store = l .store; rows = e .1 .1 .1 t }; bytes = e .1 .1 .0 t };
+      counts = λ l unit r e t. record { said = countSaid (e t); lent = l; bytes = [] };
+      loads = λ text memory store rows r memory′ state′ rows′ e t. record { state = e .1 .1 .0 t; memory = e .1 .0 t; store = store; rows = e .1 .1 .1 t };
     }
 
 -- where a contract says what a result is, there is one
@@ -62,10 +63,10 @@ only-one P z is x y p q = is x p ∙ sym (is y q)
 pub determined : (card : Card) → Determined card
 determined card =
     record {
-      arrives = λ w unit cell. only-one _ _ (λ x e t. (e .0 t, e .1 .0 t, e .1 .1 t));
-      frames = λ w buffer. only-one _ _ (λ x e t. (e .0 t, e .1 .0 t, e .1 .1 .1 t, e .1 .1 .0 t));
-      hears = λ w unit heard. only-one _ _ (λ x e t. (e .0 t, e .1 .0 t, e .1 .1 t));
-      takes = λ w unit buffer. only-one _ _ (λ x e t. (e .0 t, e .1 .1 t, e .1 .0 t));
-      counts = λ w unit. only-one _ _ (λ x e. e);
-      loads = λ text memory store rows. only-one _ _ (λ x e t. (e .0 t, e .1 .0 t, e .1 .1 t));
+      arrives = λ l unit cell. only-one _ _ (λ x e t. (e .0 t, e .1 .0 t, e .1 .1 .0 t, e .1 .1 .1 t));
+      frames = λ l buffer. only-one _ _ (λ x e t. (e .0 t, e .1 .0 t, e .1 .1 .0 t, e .1 .1 .1 .1 t, e .1 .1 .1 .0 t));
+      hears = λ l unit heard. only-one _ _ (λ x e t. (e .0 t, e .1 .0 t, e .1 .1 .0 t, e .1 .1 .1 t));
+      takes = λ l unit buffer. only-one _ _ (λ x e t. (e .0 t, e .1 .0 t, e .1 .1 .1 t, e .1 .1 .0 t));
+      counts = λ l unit. only-one _ _ (λ x e. e);
+      loads = λ text memory store rows. only-one _ _ (λ x e t. (e .0 t, e .1 .0 t, e .1 .1 .0 t, e .1 .1 .1 t));
     }

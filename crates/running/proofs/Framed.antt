@@ -25,7 +25,7 @@ use Rattle.shelf.specs.Shelves.{declared, blank, numberOf, findIn}
 use Rattle.shelf.specs.declared.Found as F
 use Rattle.shelf.specs.declared.Found.the-variants as found
 use Rattle.shelf.specs.declared.Unit as U
-use Rattle.shelf.specs.declared.Shelf.{Shelf}
+use Rattle.shelf.specs.Shelf.{Shelf}
 use Rattle.shelf.proofs.Finding.{declared-at, find-at, find-nothing}
 use Rattle.soundness.specs.State.{soundOf, UnitSound, DeclaredIn, Sound}
 use Rattle.soundness.proofs.Facts.{sound-iff}

@@ -24,14 +24,15 @@ use Rattle.store.specs.Rings.{tail, pushed, popped}
 use Rattle.store.proofs.Rounds.{pushed-fits, popped-fits}
 use Rattle.shelf.specs.Shelves.{declared}
 use Rattle.shelf.specs.declared.Unit as U
-use Rattle.shelf.specs.declared.Shelf.{Shelf}
+use Rattle.shelf.specs.Shelf.{Shelf}
 use Rattle.shelf.proofs.Finding.{find-at}
 use Rattle.soundness.specs.State.{Sound, soundOf}
 use Rattle.soundness.proofs.Facts.{sound-iff}
 use Rattle.counters.specs.Counting.{settled, settledTo}
+use Rattle.counters.specs.declared.Counters as C
 use Rattle.counters.proofs.Settling.{length-settled}
 use Rattle.answer.specs.Answers.{refused}
-use Rattle.answer.specs.declared.Done.{Done}
+use Rattle.answer.specs.Done.{Done}
 use Rattle.answer.specs.declared.Arrival.the-variants.{Inletfull, Queued}
 use Rattle.admit.specs.Admission.{admitted, decided, unitAt, withUnit, withQueue, Housed}
 use Rattle.admit.specs.declared.Admitted as A
@@ -54,6 +55,7 @@ use Rattle.running.proofs.Refused.{refused-iff}
 use Rattle.running.proofs.Framed.{frame-shelf, frame-store}
 use Rattle.running.proofs.Changed.{queue-changed, shelf-changed}
 use Rattle.running.proofs.Copies.{put-kept, copied, store-kept}
+use Rattle.running.proofs.InPlace.{after-load}
 
 -- an event at a unit: what it does to the shelf, and the store's length
 module _ (card : Card) (w : World) (inside : ℕ → Done) (store : ℕ → List ℕ) (unit : ℕ) (right : Bool) where
@@ -195,9 +197,12 @@ other false k f t q = false≢true t
 not-state : (card : Card) (w : World) (e : Event) → soundIn card w ≡ true → numberSaid (happens card w e .said) ≡ 8 → ⊥
 not-state card w e sound eight = other (soundIn card w) (known (w .shelf) e) (fits e) sound (sym (refused-iff card w e) ∙ eight)
 
-pub never-state : NeverState
-never-state card text memory store rows es e =
+pub loads-sound : (card : Card) (text memory store : List ℕ) (rows : List C.Counters) → soundIn card (loaded card text memory store rows) ≡ true
+loads-sound card text memory store rows =
     let done = loadDone card text memory (length store) (length rows) in
-    not-state card (run card (loaded card text memory store rows) es) e
-    (runs-kept card (loaded card text memory store rows) es
-    (ap (soundOf card (done .reply .shelf) (length store)) (length-settled rows (done .rises) (done .rises .to)) ∙ load-sound card text memory (length store) (length rows)))
+    ap (soundOf card (done .reply .shelf) (length store)) (length-settled rows (done .rises) (done .rises .to)) ∙ load-sound card text memory (length store) (length rows)
+
+pub never-state : NeverState
+never-state card text memory store rows es e eight =
+    not-state card (run card (loaded card text memory store rows) es) e (runs-kept card (loaded card text memory store rows) es (loads-sound card text memory store rows))
+    (ap (λ o. numberSaid (o .said)) (sym (after-load card text memory store rows es e)) ∙ eight)

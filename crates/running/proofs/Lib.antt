@@ -4,6 +4,7 @@ pub mod Copies
 pub mod Asking
 pub mod Sent
 pub mod Framed
+pub mod InPlace
 pub mod Kept
 pub mod Contracts
 pub mod Laid

@@ -16,7 +16,7 @@ use Rattle.shelf.specs.Shelves.{unit, blank, declared, findIn, numberOf}
 use Rattle.shelf.specs.Sessions.{hears}
 use Rattle.shelf.specs.declared.Settings.{Settings}
 use Rattle.shelf.specs.declared.Unit as U
-use Rattle.shelf.specs.declared.Shelf.{Shelf}
+use Rattle.shelf.specs.Shelf.{Shelf}
 use Rattle.shelf.specs.declared.Found.{Found}
 use Rattle.shelf.specs.declared.Found.the-variants.{At, Nothing}
 use Rattle.shelf.proofs.Finding.{find-at, declared-at}
@@ -56,7 +56,7 @@ told-idle (Mc u session ∷ told) = joined-idle (shelfOf told) (findIn (declared
 
 -- B. the units, but for the sessions that they hear
 abbrev plain : U.Unit → U.Unit
-plain u = record { settings = u .settings; outlet = u .outlet; inlet = u .inlet; place = u .place; sessions = replicate 4 0 }
+plain u = record { settings = u .settings; outlet = u .outlet; inlet = u .inlet; place = u .place; sessions = replicate 32 0 }
 
 plain-set : (us : List U.Unit) (i j : ℕ) (u : U.Unit) → plain u ≡ plain (getD us i blank) → plain (getD (set us i u) j blank) ≡ plain (getD us j blank)
 plain-set [] i j u e = refl
@@ -144,9 +144,9 @@ nothing-at : {i : ℕ} → Nothing ≡ At i → ⊥
 nothing-at e = let z : _≡_ {A = ℕ} 0 1 = cc in omega arith
 
 -- "the unit hears that session": its bit is 1
-hears-iff : (sessions : List ℕ) (s : ℕ) → (getD sessions (s / 64) 0 / 2 ^ (s % 64) % 2 ≡ 1) ↔ (hears sessions s ≡ true)
+hears-iff : (sessions : List ℕ) (s : ℕ) → (getD sessions (s / 8) 0 / 2 ^ (s % 8) % 2 ≡ 1) ↔ (hears sessions s ≡ true)
 unfolding hears
-hears-iff sessions s = (eq-eqb (getD sessions (s / 64) 0 / 2 ^ (s % 64) % 2) 1, eqb-true (getD sessions (s / 64) 0 / 2 ^ (s % 64) % 2) 1)
+hears-iff sessions s = (eq-eqb (getD sessions (s / 8) 0 / 2 ^ (s % 8) % 2) 1, eqb-true (getD sessions (s / 8) 0 / 2 ^ (s % 8) % 2) 1)
 
 module _ (card : Card) (room store rows : ℕ) (told : List Line) (good : Good card room told) (ranged : AllRanged told) (sound : soundOf card (shelfOf told) store rows ≡ true) where
   w : Shelved told
@@ -157,11 +157,11 @@ module _ (card : Card) (room store rows : ℕ) (told : List Line) (good : Good c
 
   -- a declared unit is found in its own place, and stands there as the lines have it
   hears-as : (i n : ℕ) → i < shelf .count → numberOf (getD (shelf .units) i blank) ≡ n →
-      (length (getD (shelf .units) i blank .sessions) ≡ 4) × ((s : ℕ) → s < 256 → hears (getD (shelf .units) i blank .sessions) s ≡ hearsIn told n s)
+      (length (getD (shelf .units) i blank .sessions) ≡ 32) × ((s : ℕ) → s < 256 → hears (getD (shelf .units) i blank .sessions) s ≡ hearsIn told n s)
   hears-as i n h e = go (topOf told (ofUnit n)) refl
     where
       Heard : ℕ → Type 0
-      Heard j = (length (getD (shelf .units) j blank .sessions) ≡ 4) × ((s : ℕ) → s < 256 → hears (getD (shelf .units) j blank .sessions) s ≡ hearsIn told n s)
+      Heard j = (length (getD (shelf .units) j blank .sessions) ≡ 32) × ((s : ℕ) → s < 256 → hears (getD (shelf .units) j blank .sessions) s ≡ hearsIn told n s)
 
       inside : i < length (declared shelf)
       inside = let c = w .counted in omega (arith, h, length-take (shelf .count) (shelf .units), w .long)
@@ -173,7 +173,7 @@ module _ (card : Card) (room store rows : ℕ) (told : List Line) (good : Good c
 
       go : (o : Option ℕ) → topOf told (ofUnit n) ≡ o → Heard i
       go none k = absurd (nothing-at (sym (w .gone n k) ∙ found))
-      go (some top) k = let s = w .here n top k in subst Heard (at-is (sym (s .found) ∙ found)) (s .four, s .hearing)
+      go (some top) k = let s = w .here n top k in subst Heard (at-is (sym (s .found) ∙ found)) (s .all, s .hearing)
 
   declared-as : (after : List Line) (settings : Settings) (limits : Limits) (before : List Line) → told ≡ after ++ (L·Unit settings limits ∷ before) →
       Declared told settings limits (8 * recordsOf before) (getD (shelf .units) (unitLines before) noUnit)

@@ -8,12 +8,12 @@ use lib.ListN.{length}
 use borrow.Author.Tests.{eqb-true}
 use Rattle.card.specs.declared.Card.{Card}
 use Rattle.shelf.specs.Shelves.{declared, findIn, isAt}
-use Rattle.shelf.specs.declared.Shelf.{Shelf}
+use Rattle.shelf.specs.Shelf.{Shelf}
 use Rattle.shelf.specs.declared.Found as F
 use Rattle.shelf.specs.declared.Found.the-variants as found
 use Rattle.soundness.specs.State.{soundOf}
 use Rattle.answer.specs.Answers.{numberOf, refused}
-use Rattle.answer.specs.declared.Done.{Done}
+use Rattle.answer.specs.Done.{Done}
 use Rattle.counters.specs.Counting.{settledTo}
 use Rattle.counters.specs.declared.Counters as C
 use Rattle.admit.specs.Admission.{atUnit, admitted, decided, toldApart, unitAt}

@@ -18,7 +18,7 @@ use Rattle.store.specs.Rings.{popped}
 use Rattle.store.proofs.Rounds.{popped-fits}
 use Rattle.shelf.specs.Shelves.{declared, blank, numberOf}
 use Rattle.shelf.specs.declared.Unit as U
-use Rattle.shelf.specs.declared.Shelf.{Shelf}
+use Rattle.shelf.specs.Shelf.{Shelf}
 use Rattle.shelf.proofs.Finding.{declared-at}
 use Rattle.answer.specs.Answers.{hearingRises}
 use Rattle.answer.specs.declared.Hearing as A
@@ -27,8 +27,7 @@ use Rattle.paper.specs.Counters.{sent, unheard, damaged, queued, full, clp, wid
 use Rattle.paper.proofs.Counters.{tallies, Agree, agree}
 use Rattle.admit.specs.Admission.{unitAt, withUnit, withInlet, Housed}
 use Rattle.hearing.specs.Hearings.{copyOf, storeOf}
-use Rattle.framing.specs.Sending.{silence, after, heardFrom, storeFrom, heardByAll, sentRises}
-use Rattle.framing.specs.declared.Listened.{Listened}
+use Rattle.framing.specs.Sending.{Listened, silence, after, heardFrom, storeFrom, heardByAll, sentRises}
 use Rattle.running.proofs.Changed.{set-or}
 use Rattle.running.proofs.Copies.{Copied, copied, store-kept}
 

@@ -9,6 +9,7 @@ use lib.ListN.{length, getD, set, drop, replicate, length-append, length-drop, l
 use lib.Seq.{drop-cons, getD-append-add, getD-drop, set-at}
 use Rattle.card.specs.declared.Card.{Card}
 use Rattle.record.specs.Record.{usable, cleared}
+use Rattle.line.specs.declared.Line.{Line}
 use Rattle.shelf.specs.Shelves.{fresh}
 use Rattle.soundness.specs.State.{soundOf}
 use Rattle.told.specs.Told.{shelfOf}
@@ -23,7 +24,7 @@ use Rattle.table.specs.declared.Outcome.the-variants as outcome
 use Rattle.table.specs.Load.{load}
 use Rattle.loading.specs.Loads.{answerOf, doneOf}
 use Rattle.promise.specs.Says.{unitLines}
-use Rattle.promise.specs.Refusals.{Refuses}
+use Rattle.promise.specs.Refusals.{Accepts, Refuses}
 use Rattle.promise.proofs.Refusals as promise
 use Rattle.promise.proofs.Loads.{loaded-sound}
 use Rattle.running.specs.Opened.{Opened}
@@ -31,10 +32,11 @@ use Rattle.running.specs.Laid.{Laid}
 use Rattle.paper.specs.Answers.{IsOk, IsRefused}
 use Rattle.paper.proofs.Answers.{is-ok, is-refused}
 use Rattle.paper.specs.Counters.{zeroRow}
-use Rattle.running.specs.Tables.{TableRefusedIff, TableLoadedIff, Zeroed, RefusedTableZeroes, GoodLoad}
+use Rattle.running.specs.Tables.{TableRefusedIff, TableLoadedIff, Zeroed, RefusedTableZeroes, Fresh, GoodLoad}
 use Rattle.running.specs.Keeping.{loaded}
 use Rattle.running.proofs.Laid.{laid}
 use Rattle.running.proofs.Opened.{opened}
+use Rattle.running.proofs.InPlace.{loaded-seen}
 
 -- A. the number and the values of the answer are those of the outcome
 one-is : {a b : ℕ} → a ∷ [] ≡ b ∷ [] → a ≡ b
@@ -101,7 +103,7 @@ zeroed memory =
 
 pub refused-table-zeroes : RefusedTableZeroes
 refused-table-zeroes card text memory store rows number line r =
-    let e = refused-leaves card text memory store rows number line r in
+    let e = loaded-seen card text memory store rows ∙ refused-leaves card text memory store rows number line r in
     record {
       shelf-empty = ap (λ w. w .shelf) e;
       memory-zeroed = subst (Zeroed memory) (sym (ap (λ w. w .memory) e)) (zeroed memory);
@@ -126,8 +128,9 @@ module _ (rows : List C.Counters) (to : ℕ) (each : List ℕ) where
       ∙ ap (λ x. x ++ drop (suc n) rows) (replicate-append-replicate n 1 zeroRow ∙ ap (λ m. replicate m zeroRow) (add-one n))
 
 -- D. a good load
-pub good-load : GoodLoad
-good-load card text memory store rows told a =
+loads-well : (card : Card) (text memory store : List ℕ) (rows : List C.Counters) (told : List Line) → Accepts card text memory (length store) (length rows) told →
+    Fresh card memory store rows told (loaded card text memory store rows)
+loads-well card text memory store rows told a =
     let k = promise.accepted card text memory (length store) (length rows) told a in
     let good = promise.accepts-good card text memory (length store) (length rows) told a in
     let ranged = promise.accepts-ranged card text memory (length store) (length rows) told a in
@@ -143,3 +146,7 @@ good-load card text memory store rows told a =
       rows-zeroed = ap (λ x. C·.settled rows (doneOf x .rises)) (k .0) ∙ rows-anew rows (min (shelfOf told .count) 32) (replicate 32 0) (min (shelfOf told .count) 32) (omega (arith, a .rows-enough))
           ∙ ap (λ n. replicate n zeroRow ++ drop n rows) few;
     }
+
+pub good-load : GoodLoad
+good-load card text memory store rows told a =
+    subst (Fresh card memory store rows told) (sym (loaded-seen card text memory store rows)) (loads-well card text memory store rows told a)

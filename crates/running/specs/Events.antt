@@ -1,14 +1,20 @@
--- One event on a running shelf: what the contracts of `entry` say, side by side. Assumes nothing.
+-- One event on a running shelf, the shelf as a value: what `InPlace` shows that the bytes lent to `entry` come to. Assumes nothing.
 use Prim.Native.Nat.{ℕ}
 use mathlib.Core.List.{List, []}
 use lib.ListN.{length}
 use Rattle.card.specs.declared.Card.{Card}
-use Rattle.shelf.specs.declared.Shelf.{Shelf}
+use Rattle.shelf.specs.Shelf.{Shelf}
 use Rattle.answer.specs.declared.Answer.the-variants as answer
-use Rattle.answer.specs.declared.Done.{Done}
+use Rattle.answer.specs.Done.{Done}
+use Rattle.counters.specs.Counting.{settled}
 use Rattle.counters.specs.declared.Counters as C
+use Rattle.admit.specs.Admission.{counted}
+use Rattle.arriving.specs.Arriving.{arriveDone, arriveStore}
+use Rattle.framing.specs.Frames.{frameDone, frameStore, frameBuffer}
+use Rattle.hearing.specs.Hearings.{hearDone, hearStore}
+use Rattle.taking.specs.Takes.{takeDone, takeBuffer}
 use Rattle.document.specs.Events.{Event, arrive, frame, hear, take-cell, count, Said, answers, counts}
-use Rattle.entry.specs.Outcomes.{Left, left, arrives, frames, hears, takes, countsOf}
+use Rattle.entry.specs.Counts.{countOf}
 use Rattle.entry.specs.declared.Counted.{Counted}
 use Rattle.entry.specs.declared.Counted.the-variants.{Counters, Refused}
 
@@ -25,27 +31,28 @@ pub record Outcome : Type 0 where
   pub world : World
   pub bytes : List ℕ
 
--- what an event leaves is the world that it came to
-abbrev pub came : World → Left → Outcome
-came w l =
-    record {
-      said = answers (l .reply .answer);
-      world = record { shelf = l .reply .shelf; memory = w .memory; store = l .store; rows = l .rows };
-      bytes = l .bytes;
-    }
-
--- the same of what is done, with the store and the lent bytes afterwards
+-- what is done, with the store and the lent bytes afterwards, is the world that the event came to
 abbrev pub ended : World → Done → List ℕ → List ℕ → Outcome
-ended w done store bytes = came w (left done store (w .rows) bytes)
+ended w done store bytes =
+    record {
+      said = answers (done .reply .answer);
+      world = record { shelf = done .reply .shelf; memory = w .memory; store = store; rows = settled (w .rows) (done .rises) };
+      bytes = bytes;
+    }
 
 unfoldable pub countSaid : Counted → Said
 countSaid (Counters row) = counts row
 countSaid (Refused number) = answers (answer.Refused number)
 
--- each line is the contract of the entry point with that name
+-- what each of the five does
 unfoldable pub happens : Card → World → Event → Outcome
-happens card w (arrive unit cell) = came w (arrives card (w .shelf) (w .memory) (w .store) (w .rows) (length (w .rows)) unit cell)
-happens card w (frame buffer) = came w (frames card (w .shelf) (w .store) (w .rows) (length (w .rows)) buffer)
-happens card w (hear unit heard) = came w (hears card (w .shelf) (w .store) (w .rows) (length (w .rows)) unit heard)
-happens card w (take-cell unit buffer) = came w (takes card (w .shelf) (w .store) (w .rows) (length (w .rows)) unit buffer)
-happens card w (count unit) = record { said = countSaid (countsOf card (w .shelf) (w .store) (w .rows) (length (w .rows)) unit); world = w; bytes = [] }
+happens card w (arrive unit cell) =
+    ended w (arriveDone card (w .shelf) (w .memory) (length (w .store)) (length (w .rows)) unit cell) (arriveStore card (w .shelf) (w .memory) (w .store) (length (w .rows)) unit cell) cell
+happens card w (frame buffer) =
+    ended w (frameDone card (w .shelf) (w .store) (length (w .rows)) (length buffer)) (frameStore card (w .shelf) (w .store) (length (w .rows)) (length buffer))
+    (frameBuffer card (w .shelf) (w .store) (length (w .rows)) buffer)
+happens card w (hear unit heard) =
+    ended w (hearDone card (w .shelf) (length (w .store)) (length (w .rows)) unit heard) (hearStore card (w .shelf) (w .store) (length (w .rows)) unit heard) heard
+happens card w (take-cell unit buffer) =
+    ended w (takeDone card (w .shelf) (length (w .store)) (length (w .rows)) unit (length buffer)) (w .store) (takeBuffer card (w .shelf) (w .store) (length (w .rows)) unit buffer)
+happens card w (count unit) = record { said = countSaid (countOf (counted card (w .shelf) (length (w .store)) (length (w .rows)) unit) (w .rows)); world = w; bytes = [] }

@@ -6,10 +6,12 @@ use mathlib.Core.List.{List, [], _∷_}
 use lib.ListN.{length}
 use Rattle.card.specs.declared.Card.{Card}
 use Rattle.soundness.specs.State.{soundOf}
+use Rattle.counters.specs.Counting.{settled}
 use Rattle.counters.specs.declared.Counters as C
-use Rattle.entry.specs.Outcomes.{loads}
+use Rattle.loading.specs.Loads.{loadDone, loadMemory}
 use Rattle.document.specs.Events.{Event, numberSaid}
 use Rattle.running.specs.Events.{World, happens}
+use Rattle.running.specs.Lent.{does, runIn, loadedIn}
 
 -- whether no event on this world is refused as State
 abbrev pub soundIn : Card → World → Bool
@@ -24,13 +26,14 @@ unfoldable pub run : Card → World → List Event → World
 run card w [] = w
 run card w (e ∷ es) = run card (happens card w e .world) es
 
--- the world that the contract of `entry::load` leaves, good table or not
+-- the world after a load, good table or not
 abbrev pub loaded : Card → List ℕ → List ℕ → List ℕ → List C.Counters → World
 loaded card text memory store rows =
-    let l = loads card text memory store rows (length rows) in
-    record { shelf = l .reply .shelf; memory = l .memory; store = store; rows = l .rows }
+    let d = loadDone card text memory (length store) (length rows) in
+    record { shelf = d .reply .shelf; memory = loadMemory card text memory (length store) (length rows); store = store; rows = settled rows (d .rises) }
 
 -- from any load on, over every sequence of events, none is refused as State
 abbrev pub NeverState : Type 0
 NeverState =
-    (card : Card) (text memory store : List ℕ) (rows : List C.Counters) (es : List Event) (e : Event) → numberSaid (happens card (run card (loaded card text memory store rows) es) e .said) ≡ 8 → ⊥
+    (card : Card) (text memory store : List ℕ) (rows : List C.Counters) (es : List Event) (e : Event) →
+    numberSaid (does card (runIn card (loadedIn card text memory store rows) es) e .said) ≡ 8 → ⊥

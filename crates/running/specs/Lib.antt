@@ -1,6 +1,8 @@
 pub mod Events
 pub mod Refusing
+pub mod Lent
 pub mod Keeping
+pub mod InPlace
 pub mod Opened
 pub mod Laid
 pub mod Tables

@@ -11,7 +11,7 @@ use Rattle.outlet.specs.declared.Mode.the-variants.{One}
 use Rattle.outlet.specs.declared.Ring.{Ring}
 use Rattle.shelf.specs.declared.Settings.{Settings}
 use Rattle.shelf.specs.declared.Unit as U
-use Rattle.shelf.specs.declared.Shelf.{Shelf}
+use Rattle.shelf.specs.Shelf.{Shelf}
 use Rattle.line.specs.declared.Line.{Line}
 use Rattle.line.specs.declared.Line.the-variants.{Bus, Unit as L·Unit, Mc}
 use Rattle.promise.specs.Says.{recordsOf, unitLines}
@@ -31,7 +31,7 @@ noUnit =
       };
       inlet = noCell;
       place = 0;
-      sessions = 0 ∷ 0 ∷ 0 ∷ 0 ∷ [];
+      sessions = replicate 32 0;
     }
 
 -- "a fresh 16 bus with no units": nobody is granted, 255, nobody was at any of the three priorities, nobody asks, and frames are "numbered from 0"
@@ -51,9 +51,9 @@ pub record Declared (told : List Line) (settings : Settings) (limits : Limits) (
   pub settings-are : u .settings ≡ settings
   pub limits-are : u .outlet .limits ≡ limits
   pub place-is : u .place ≡ place
-  -- "`mc` unit, session: the unit hears that session": session s is bit s % 64 of number s / 64
-  pub sessions : length (u .sessions) ≡ 4
-  pub hears : (s : ℕ) → s ≤ 255 → (getD (u .sessions) (s / 64) 0 / 2 ^ (s % 64) % 2 ≡ 1) ↔ In (Mc (settings .number) s) told
+  -- "`mc` unit, session: the unit hears that session": session s is bit s % 8 of byte s / 8
+  pub sessions : length (u .sessions) ≡ 32
+  pub hears : (s : ℕ) → s ≤ 255 → (getD (u .sessions) (s / 8) 0 / 2 ^ (s % 8) % 2 ≡ 1) ↔ In (Mc (settings .number) s) told
   -- "starts with all queues empty"
   pub inlet : u .inlet ≡ noCell
   pub queues : u .outlet .queues ≡ noCell ∷ noCell ∷ noCell ∷ noCell ∷ []

@@ -8,19 +8,19 @@ use Rattle.card.specs.declared.Card.{Card}
 use Rattle.line.specs.declared.Line.{Line}
 use Rattle.counters.specs.declared.Counters as C
 use Rattle.answer.specs.declared.Answer as A
-use Rattle.loading.specs.Loads.{loadDone}
+use Rattle.loading.specs.InPlace.{loadOut}
 use Rattle.paper.specs.Answers.{IsOk, IsRefused}
 use Rattle.paper.specs.Counters.{zeroRow}
 use Rattle.promise.specs.Says.{recordsOf, unitLines}
 use Rattle.promise.specs.Refusals.{Accepts, Refuses}
 use Rattle.running.specs.Events.{World}
-use Rattle.running.specs.Keeping.{loaded}
+use Rattle.running.specs.Lent.{loadedIn, seen}
 use Rattle.running.specs.Opened.{emptyBus, Opened}
 use Rattle.running.specs.Laid.{Laid}
 
 -- the answer that the contract of `entry::load` gives
 abbrev pub answerTo : Card → List ℕ → List ℕ → ℕ → ℕ → A.Answer
-answerTo card text memory store rows = loadDone card text memory store rows .reply .answer
+answerTo card text memory store rows = loadOut card text memory store rows .answer
 
 -- "A bad table .. is refused with a fixed number": each of 1 to 7, with its line, exactly when 01 says so
 abbrev pub TableRefusedIff : Type 0
@@ -50,7 +50,7 @@ pub record Emptied (memory store : List ℕ) (rows : List C.Counters) (w : World
 abbrev pub RefusedTableZeroes : Type 0
 RefusedTableZeroes =
     (card : Card) (text memory store : List ℕ) (rows : List C.Counters) (number line : ℕ) → Refuses card text memory (length store) (length rows) number line →
-    Emptied memory store rows (loaded card text memory store rows)
+    Emptied memory store rows (seen (loadedIn card text memory store rows))
 
 -- the world after a good load of these lines
 pub record Fresh (card : Card) (memory store : List ℕ) (rows : List C.Counters) (told : List Line) (w : World) : Type 0 where
@@ -64,4 +64,4 @@ pub record Fresh (card : Card) (memory store : List ℕ) (rows : List C.Counters
 abbrev pub GoodLoad : Type 0
 GoodLoad =
     (card : Card) (text memory store : List ℕ) (rows : List C.Counters) (told : List Line) → Accepts card text memory (length store) (length rows) told →
-    Fresh card memory store rows told (loaded card text memory store rows)
+    Fresh card memory store rows told (seen (loadedIn card text memory store rows))

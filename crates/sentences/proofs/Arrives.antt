@@ -16,11 +16,11 @@ use Rattle.lookup.specs.Lookup as lookup
 use Rattle.store.specs.Places as places
 use Rattle.store.specs.Rings as rings
 use Rattle.shelf.specs.declared.Unit as U
-use Rattle.shelf.specs.declared.Shelf.{Shelf}
+use Rattle.shelf.specs.Shelf.{Shelf}
 use Rattle.shelf.specs.declared.Found.the-variants as found
 use Rattle.soundness.specs.State.{soundOf}
 use Rattle.answer.specs.Answers.{arrivalRises}
-use Rattle.answer.specs.declared.Done.{Done}
+use Rattle.answer.specs.Done.{Done}
 use Rattle.answer.specs.declared.Answer.the-variants.{Arrived}
 use Rattle.answer.specs.declared.Arrival as A
 use Rattle.answer.specs.declared.Arrival.the-variants as arrival
@@ -42,7 +42,7 @@ use Rattle.paper.proofs.Outlets.{slot-is, longer-is}
 use Rattle.paper.proofs.Counters.{agree-arrival, risen-at}
 use Rattle.paper.proofs.State.{sound-iff, tail-is}
 use Rattle.paper.proofs.Arrival.{lookedAs, looked-up, some-way, one-way, never-hec}
-use Rattle.sentences.specs.Changes.{withUnit, withInlet, withCell, Runs}
+use Rattle.sentences.specs.Changes.{withUnit, withInlet, withCell, Runs, OnShelves}
 use Rattle.sentences.specs.Arrival.{Lost, onBus, Queued, ComesTo, Arrives, ArrivalRule}
 use Rattle.paper.proofs.State.{found-at}
 use Rattle.sentences.proofs.Found.{many-units, unit-at}
@@ -154,7 +154,7 @@ module _ (card : Card) (w : World) (runs : Runs card w) (unit place : ℕ) (d : 
     λ h. rw (sym same, lt-leb 4 (u .inlet .count) h) (queued r v c h),
   )
 
-  arrives : Arrives card w unit place cell
+  arrives : Arrives card w place cell (happens card w (arrive unit cell))
   arrives =
       let m = some-way card (w .memory) u cell in
       record {
@@ -164,5 +164,5 @@ module _ (card : Card) (w : World) (runs : Runs card w) (unit place : ℕ) (d : 
         comes-to = subst (ComesTo w place cell (m .0)) (sym (comes (m .0) (m .1))) (by-way (m .0));
       }
 
-pub arrival-rule : ArrivalRule
+pub arrival-rule : OnShelves ArrivalRule
 arrival-rule card w runs unit place d cell whole = arrives card w runs unit place d cell whole

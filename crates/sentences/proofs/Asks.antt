@@ -11,7 +11,7 @@ use Rattle.card.specs.declared.Card.{Card}
 use Rattle.arbiter.proofs.Order.{below-or}
 use Rattle.shelf.specs.Shelves.{numberOf}
 use Rattle.shelf.specs.declared.Unit as U
-use Rattle.shelf.specs.declared.Shelf.{Shelf}
+use Rattle.shelf.specs.Shelf.{Shelf}
 use Rattle.arbiter.specs.Arbitration.{asksNow}
 use Rattle.framing.specs.Requests.{askingOf, askingNow, requests}
 use Rattle.running.proofs.Asking.{stranger-asks}

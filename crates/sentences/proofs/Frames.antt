@@ -22,7 +22,7 @@ use Rattle.shelf.specs.Shelves as shelves
 use Rattle.shelf.specs.declared.Found.{Found}
 use Rattle.shelf.specs.declared.Found.the-variants.{At, Nothing}
 use Rattle.shelf.specs.declared.Unit as U
-use Rattle.shelf.specs.declared.Shelf.{Shelf}
+use Rattle.shelf.specs.Shelf.{Shelf}
 use Rattle.shelf.proofs.Finding.{find-nothing, declared-at}
 use Rattle.soundness.specs.State.{soundOf}
 use Rattle.answer.specs.Answers.{hearingRises}
@@ -40,7 +40,7 @@ use Rattle.octets.proofs.Parts.{getD-any}
 use Rattle.framing.specs.Frames as framing
 use Rattle.framing.specs.Requests.{askingNow, requests}
 use Rattle.framing.specs.Sending as sending
-use Rattle.framing.specs.declared.Listened.{Listened}
+use Rattle.framing.specs.Sending.{Listened}
 use Rattle.framing.proofs.Sends.{head-inside, out-housed}
 use Rattle.document.specs.Events.{frame, answers}
 use Rattle.running.specs.Events.{World, Outcome, happens, ended}
@@ -60,7 +60,7 @@ use Rattle.paper.proofs.Outlets.{slot-is, cell-is, shorter-is}
 use Rattle.paper.proofs.Counters.{Agree, agree, agree-hearing, risen-in}
 use Rattle.paper.proofs.State.{sound-iff}
 use Rattle.paper.proofs.Grants.{Turns, granted, none, turns}
-use Rattle.sentences.specs.Changes.{withInlet, Runs}
+use Rattle.sentences.specs.Changes.{withInlet, Runs, OnShelves}
 use Rattle.sentences.specs.Hearing.{slotFor, withCopy}
 use Rattle.sentences.specs.Frame.{Requests, Idle, without, counted, Sends, Framed, FrameRule}
 use Rattle.paper.proofs.State.{found-at}
@@ -459,5 +459,5 @@ module _ (card : Card) (w : World) (runs : Runs card w) (buffer : List ℕ) (who
       (λ d. subst (Framed w buffer) (sym (comes ∙ ap (outcome w buffer) (found (d .0) (d .1)))) (sent-frame (d .0) (d .1)))
       (runs .sound .granted)
 
-pub frame-rule : FrameRule
+pub frame-rule : OnShelves FrameRule
 frame-rule card w runs buffer whole = frames card w runs buffer whole

@@ -24,7 +24,7 @@ use Rattle.store.specs.Places as places
 use Rattle.store.specs.Rings as rings
 use Rattle.shelf.specs.Shelves.{numberOf}
 use Rattle.shelf.specs.declared.Unit as U
-use Rattle.shelf.specs.declared.Shelf.{Shelf}
+use Rattle.shelf.specs.Shelf.{Shelf}
 use Rattle.answer.specs.declared.Hearing as H
 use Rattle.answer.specs.declared.Hearing.the-variants as fate·
 use Rattle.hearing.specs.Hearings as hearing
@@ -42,7 +42,7 @@ use Rattle.paper.specs.State.{unitAt, DeclaredAt, UnitSound}
 use Rattle.paper.proofs.Outlets.{capacity-is, first-is, slot-is, longer-is}
 use Rattle.paper.proofs.Counters.{agree-hearing, risen-at}
 use Rattle.paper.proofs.State.{tail-is, capacity-most}
-use Rattle.sentences.specs.Changes.{withUnit, withQueue, Runs}
+use Rattle.sentences.specs.Changes.{withUnit, withQueue, Runs, OnShelves}
 use Rattle.sentences.specs.Hearing.{slotFor, withCopy, Hears as Hears·, HearingRule}
 use Rattle.sentences.proofs.Found.{many-units, unit-at, itself}
 use Rattle.sentences.proofs.Arrives.{let-in}
@@ -217,7 +217,7 @@ module _ (card : Card) (w : World) (runs : Runs card w) (unit place : ℕ) (d : 
   rows-risen : (x : H.Hearing) → RisenAt (w .rows) place (hearingCounts x) (settled (w .rows) (row place (hearingRises x)))
   rows-risen x = risen-at (w .rows) place (hearingRises x) (hearingCounts x) (omega (arith, below, runs .sound .records)) (omega (arith, below, runs .sound .count)) (agree-hearing x)
 
-  lost : (x : H.Hearing) → HearingIs own f x → x ≢ fate·.Queued → Hears· card w unit place f (outcome w place f (Lost x))
+  lost : (x : H.Hearing) → HearingIs own f x → x ≢ fate·.Queued → Hears· w place f (outcome w place f (Lost x))
   unfolding outcome hearing.copyBy hearing.storeBy
   lost x is not =
       record {
@@ -234,7 +234,7 @@ module _ (card : Card) (w : World) (runs : Runs card w) (unit place : ℕ) (d : 
         stored = λ e. absurd (not e);
       }
 
-  held-it : HearingIs own f fate·.Queued → Hears· card w unit place f (outcome w place f (Queue (queueOf own f)))
+  held-it : HearingIs own f fate·.Queued → Hears· w place f (outcome w place f (Queue (queueOf own f)))
   unfolding outcome hearing.copyBy hearing.storeBy places.putAt
   held-it is =
       record {
@@ -256,9 +256,9 @@ module _ (card : Card) (w : World) (runs : Runs card w) (unit place : ℕ) (d : 
             ∙ ap (λ n. take (slotFor own place f) (w .store) ++ take 56 f ++ drop (slotFor own place f + n) (w .store)) (before-parity f whole);
       }
 
-  heard-by : Planned own f → Hears· card w unit place f (happens card w (hear unit f))
-  heard-by (loses x is not e) = subst (Hears· card w unit place f) (sym (comes ∙ ap (outcome w place f) e)) (lost x is not)
-  heard-by (holds is e) = subst (Hears· card w unit place f) (sym (comes ∙ ap (outcome w place f) e)) (held-it is)
+  heard-by : Planned own f → Hears· w place f (happens card w (hear unit f))
+  heard-by (loses x is not e) = subst (Hears· w place f) (sym (comes ∙ ap (outcome w place f) e)) (lost x is not)
+  heard-by (holds is e) = subst (Hears· w place f) (sym (comes ∙ ap (outcome w place f) e)) (held-it is)
 
-pub hearing-rule : HearingRule
+pub hearing-rule : OnShelves HearingRule
 hearing-rule card w runs unit place d f whole = heard-by card w runs unit place d f whole (planned (unitAt (w .shelf) place) f whole)

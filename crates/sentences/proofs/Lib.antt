@@ -6,3 +6,4 @@ pub mod Takes
 pub mod Asks
 pub mod Listens
 pub mod Frames
+pub mod InPlace

@@ -27,8 +27,7 @@ use Rattle.hearing.specs.Hearings.{addressed, planOf, copyOf, storeOf, storeBy,
 use Rattle.hearing.specs.declared.Plan.{Plan}
 use Rattle.hearing.specs.declared.Plan.the-variants.{Queue, Lost}
 use Rattle.hearing.proofs.Plans.{plan-queue, slot-below, outlet-inside}
-use Rattle.framing.specs.Sending.{after, heardFrom, storeFrom}
-use Rattle.framing.specs.declared.Listened.{Listened}
+use Rattle.framing.specs.Sending.{Listened, after, heardFrom, storeFrom}
 use Rattle.running.proofs.Copies.{store-kept}
 use Rattle.paper.specs.State.{blank}
 use Rattle.paper.specs.Hearing.{queuedIn, Quiet}

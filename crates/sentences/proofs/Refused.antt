@@ -1,25 +1,28 @@
 -- Refusals 8 to 10. Assumes nothing.
 use Prim.Native.Nat.{ℕ}
 use native.Mathlib.Omega.{arith}
-use mathlib.Core.Path.{_≡_, refl, sym, ap, _∙_}
+use mathlib.Core.Path.{_≡_, refl, sym, ap, subst, _∙_}
 use mathlib.Core.Logic.{_≢_, _↔_}
-use mathlib.Core.Bool.{Bool, true, false, cond, false≢true}
-use lib.Dec.{eqb}
+use mathlib.Core.Bool.{Bool, true, false, cond, _&&_, false≢true}
 use lib.ListN.{length}
-use borrow.Author.Tests.{eqb-true, eq-eqb}
 use Rattle.card.specs.declared.Card.{Card}
-use Rattle.shelf.specs.declared.Shelf.{Shelf}
+use Rattle.shelf.specs.Shelf.{Shelf}
 use Rattle.soundness.specs.State.{soundOf}
+use Rattle.soundness.specs.Soundings.{formedAll}
+use Rattle.answer.specs.Answers.{numberOf}
 use Rattle.answer.specs.declared.Answer.the-variants as answer
 use Rattle.document.specs.Events.{Event, arrive, frame, hear, take-cell, count, bytesOf, answers, numberSaid}
-use Rattle.running.specs.Events.{World, happens}
-use Rattle.running.specs.Refusing.{known, fits, refusal}
-use Rattle.running.proofs.Refused.{refused-iff, refusal-changes-nothing}
+use Rattle.running.specs.Events.{happens}
+use Rattle.running.specs.Lent.{Lent, Long, does, seen}
+use Rattle.running.specs.Refusing.{known, fits}
+use Rattle.running.proofs.Refused.{refused-iff}
+use Rattle.running.proofs.InPlace.{same, refused-keeps, in-place}
 use Rattle.running.proofs.Kept.{soundness-kept}
-use Rattle.outlet.proofs.Truth.{eq-iff}
-use Rattle.paper.proofs.State.{sound-iff}
-use Rattle.sentences.specs.Refusals.{StateGood, UnitGood, LengthGood, Refused, RefusedRule, StateKept}
-use Rattle.paper.proofs.State.{found-iff}
+use Rattle.outlet.proofs.Truth.{eq-iff, and-iff}
+use Rattle.paper.specs.State.{Sound, Formed}
+use Rattle.paper.proofs.State.{sound-iff, found-iff, formed-iff}
+use Rattle.sentences.specs.Changes.{StateGood}
+use Rattle.sentences.specs.Refusals.{UnitGood, LengthGood, Refused, RefusedRule, StateKept}
 
 -- the three tests
 known-iff : (shelf : Shelf) (e : Event) → (known shelf e ≡ true) ↔ UnitGood shelf e
@@ -83,23 +86,59 @@ by-tests S K F true true true is ik if =
     }
 
 -- what is said is that number, and with one nothing has changed
+module _ (card : Card) (l : Lent) (e : Event) (long : Long l) where
+  abbrev formed : Bool
+  formed = formedAll (l .state)
+
+  abbrev sound : Bool
+  sound = soundOf card (seen l .shelf) (length (l .store)) (length (l .rows))
+
+  abbrev number : Bool → ℕ
+  number t = given (t && sound) (known (seen l .shelf) e) (fits e)
+
+  unformed : formed ≡ false → Formed (l .state) → ⊥
+  unformed f h = false≢true (sym f ∙ formed-iff (l .state) .1 h)
+
+  number-is : (t : Bool) → formed ≡ t → numberSaid (does card l e .said) ≡ number t
+  unfolding numberSaid numberOf
+  number-is true f = ap (λ o. numberSaid (o .said)) (same card l long f e) ∙ refused-iff card (seen l) e
+  number-is false f = ap (λ o. numberSaid (o .said)) (in-place card l e long .1 (unformed f))
+
+  keeps : (t : Bool) → formed ≡ t → (number t ≡ 0 → ⊥) → does card l e ≡ record { said = answers (answer.Refused (number t)); lent = l; bytes = bytesOf e }
+  keeps true f h = refused-keeps card l long f e h
+  keeps false f h = in-place card l e long .1 (unformed f)
+
+  state-iff : ((formed && sound) ≡ true) ↔ StateGood card l
+  state-iff =
+      let both = and-iff (formed-iff (l .state)) (sound-iff card (seen l .shelf) (length (l .store)) (length (l .rows))) in
+      (λ t. let x = both .0 t in record { formed = x .0; sound = x .1 }, λ g. both .1 (g .formed, g .sound))
+
+  refused-at : Refused card l e
+  refused-at =
+      let n = number-is formed refl in
+      let g = by-tests (StateGood card l) (UnitGood (seen l .shelf) e) (LengthGood e) (formed && sound) (known (seen l .shelf) e) (fits e) state-iff (known-iff (seen l .shelf) e) (fits-iff e) in
+      let kept = keeps formed refl in
+      record {
+        state-8 = (λ q. g .eight .0 (sym n ∙ q), λ q. n ∙ g .eight .1 q);
+        unit-9 = (λ q. g .nine .0 (sym n ∙ q), λ q. n ∙ g .nine .1 q);
+        length-10 = (λ q. g .ten .0 (sym n ∙ q), λ q. n ∙ g .ten .1 q);
+        let-in = (λ q. g .none .0 (sym n ∙ q), λ q. n ∙ g .none .1 q);
+        only-number = λ q. let s = ap (λ o. o .said) (kept (λ z. q (n ∙ z))) in s ∙ ap (λ k. answers (answer.Refused k)) (sym n);
+        same-lent = λ q. ap (λ o. o .lent) (kept (λ z. q (n ∙ z)));
+        same-bytes = λ q. ap (λ o. o .bytes) (kept (λ z. q (n ∙ z)));
+      }
+
 pub refused : RefusedRule
-refused card w e =
-    let n = refused-iff card w e in
-    let g = by-tests (StateGood card w) (UnitGood (w .shelf) e) (LengthGood e) (soundOf card (w .shelf) (length (w .store)) (length (w .rows))) (known (w .shelf) e) (fits e)
-    (sound-iff card (w .shelf) (length (w .store)) (length (w .rows))) (known-iff (w .shelf) e) (fits-iff e) in
-    let same = refusal-changes-nothing card w e in
-    record {
-      state-8 = (λ q. g .eight .0 (sym n ∙ q), λ q. n ∙ g .eight .1 q);
-      unit-9 = (λ q. g .nine .0 (sym n ∙ q), λ q. n ∙ g .nine .1 q);
-      length-10 = (λ q. g .ten .0 (sym n ∙ q), λ q. n ∙ g .ten .1 q);
-      let-in = (λ q. g .none .0 (sym n ∙ q), λ q. n ∙ g .none .1 q);
-      only-number = λ q. let s = ap (λ o. o .said) (same (λ z. q (n ∙ z))) in s ∙ ap (λ k. answers (answer.Refused k)) (sym n);
-      same-world = λ q. ap (λ o. o .world) (same (λ z. q (n ∙ z)));
-      same-bytes = λ q. ap (λ o. o .bytes) (same (λ z. q (n ∙ z)));
-    }
+refused card l e long = refused-at card l e long
 
 pub state-kept : StateKept
-state-kept card w e good =
+state-kept card l e long good =
+    let t = in-place card l e long .0 (good .formed) in
+    let w = seen l in
     let o = happens card w e .world in
-    sound-iff card (o .shelf) (length (o .store)) (length (o .rows)) .0 (soundness-kept card w e (sound-iff card (w .shelf) (length (w .store)) (length (w .rows)) .1 good))
+    record {
+      formed = t .formed;
+      sound =
+          subst (λ v. Sound card (v .shelf) (length (v .store)) (length (v .rows))) (sym (ap (λ x. x .world) (t .same)))
+          (sound-iff card (o .shelf) (length (o .store)) (length (o .rows)) .0 (soundness-kept card w e (sound-iff card (w .shelf) (length (w .store)) (length (w .rows)) .1 (good .sound))));
+    }

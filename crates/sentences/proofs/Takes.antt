@@ -15,7 +15,7 @@ use Rattle.queueing.specs.declared.Leaving.{Leaving}
 use Rattle.store.specs.Places as places
 use Rattle.store.specs.Rings as rings
 use Rattle.shelf.specs.declared.Unit as U
-use Rattle.shelf.specs.declared.Shelf.{Shelf}
+use Rattle.shelf.specs.Shelf.{Shelf}
 use Rattle.answer.specs.Answers.{#taken}
 use Rattle.counters.specs.Counting.{settledTo}
 use Rattle.admit.specs.Admission as admit
@@ -31,7 +31,7 @@ use Rattle.paper.specs.Take.{Leaves, HandedOut}
 use Rattle.paper.proofs.Outlets.{capacity-is, first-is, cell-is, shorter-is}
 use Rattle.paper.proofs.Counters.{agree-taken, risen-at}
 use Rattle.paper.proofs.Take.{leavingAs, leaves-from, leaves-some, leaves-one, handed-out}
-use Rattle.sentences.specs.Changes.{withUnit, withQueue, Runs}
+use Rattle.sentences.specs.Changes.{withUnit, withQueue, Runs, OnShelves}
 use Rattle.sentences.specs.Take.{TakesNone, Takes, TakenFrom, TakenAt, TakeRule}
 use Rattle.sentences.specs.Count.{Counts, CountRule}
 use Rattle.sentences.proofs.Found.{many-units, unit-at}
@@ -76,7 +76,7 @@ module _ (card : Card) (w : World) (runs : Runs card w) (unit place : ℕ) (d : 
               (handed-out u (taking.oldest u q place (w .store)));
         }
 
-    pub taken-at : TakenAt card w unit place buffer (happens card w (take-cell unit buffer))
+    pub taken-at : TakenAt w place buffer (happens card w (take-cell unit buffer))
     taken-at =
         let o = leaves-some (u .outlet) in
         record {
@@ -93,8 +93,8 @@ module _ (card : Card) (w : World) (runs : Runs card w) (unit place : ℕ) (d : 
       (sym (ap (λ a. record { said = countSaid (counting.countOf (admit.toldApart a) (w .rows)); world = w; bytes = [] }) (let-in card (w .shelf) (length (w .store)) (length (w .rows)) (runs .sound) unit place d true refl)))
       (record { said = refl; world = refl })
 
-pub take-rule : TakeRule
+pub take-rule : OnShelves TakeRule
 take-rule card w runs unit place d buffer whole = taken-at card w runs unit place d buffer whole
 
-pub count-rule : CountRule
+pub count-rule : OnShelves CountRule
 count-rule card w runs unit place d = counts-it card w runs unit place d

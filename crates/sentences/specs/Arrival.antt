@@ -13,9 +13,9 @@ use Rattle.paper.specs.Outlets.{slotAt, behind, longer}
 use Rattle.paper.specs.Counters.{arrivalCounts, RisenAt}
 use Rattle.paper.specs.State.{unitAt, DeclaredAt}
 use Rattle.paper.specs.Arrival.{Way, hec, ignored, misrouted, routed, Meets}
-use Rattle.document.specs.Events.{arrive, answers}
-use Rattle.running.specs.Events.{World, Outcome, happens}
-use Rattle.sentences.specs.Changes.{withUnit, withInlet, withCell, Runs}
+use Rattle.document.specs.Events.{Event, arrive, answers}
+use Rattle.running.specs.Events.{World, Outcome}
+use Rattle.sentences.specs.Changes.{withUnit, withInlet, withCell}
 
 -- a cell is lost: its fate is said, it is counted as arrived and by its fate at its unit, and nothing else changes
 pub record Lost (w : World) (place : ℕ) (cell : List ℕ) (fate : A.Arrival) (o : Outcome) : Type 0 where
@@ -49,12 +49,11 @@ ComesTo w place cell (routed routing v c) o =
     × (unitAt (w .shelf) place .inlet .count < 4 → Queued w place cell (onBus routing v c cell) o)
 
 -- a cell of 53 bytes meets exactly one way, and comes to what 01 says of that
-pub record Arrives (card : Card) (w : World) (unit place : ℕ) (cell : List ℕ) : Type 0 where
+pub record Arrives (card : Card) (w : World) (place : ℕ) (cell : List ℕ) (o : Outcome) : Type 0 where
   pub way : Way
   pub meets : Meets card (w .memory) (unitAt (w .shelf) place) cell way
   pub only : (other : Way) → Meets card (w .memory) (unitAt (w .shelf) place) cell other → other ≡ way
-  pub comes-to : ComesTo w place cell way (happens card w (arrive unit cell))
+  pub comes-to : ComesTo w place cell way o
 
-abbrev pub ArrivalRule : Type 0
-ArrivalRule =
-    (card : Card) (w : World) → Runs card w → (unit place : ℕ) → DeclaredAt (w .shelf) unit place → (cell : List ℕ) → length cell ≡ 53 → Arrives card w unit place cell
+abbrev pub ArrivalRule : Card → World → (Event → Outcome) → Type 0
+ArrivalRule card w comes = (unit place : ℕ) → DeclaredAt (w .shelf) unit place → (cell : List ℕ) → length cell ≡ 53 → Arrives card w place cell (comes (arrive unit cell))

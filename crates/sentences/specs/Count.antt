@@ -5,14 +5,13 @@ use mathlib.Core.List.{List, []}
 use Rattle.card.specs.declared.Card.{Card}
 use Rattle.paper.specs.Counters.{rowAt}
 use Rattle.paper.specs.State.{DeclaredAt}
-use Rattle.document.specs.Events.{count, counts}
-use Rattle.running.specs.Events.{World, Outcome, happens}
-use Rattle.sentences.specs.Changes.{Runs}
+use Rattle.document.specs.Events.{Event, count, counts}
+use Rattle.running.specs.Events.{World, Outcome}
 
 -- "The counters of the units are a lent row of records, in `unit` line order": the row of the unit's place, and nothing changes
 pub record Counts (w : World) (place : ℕ) (o : Outcome) : Type 0 where
   pub said : o .said ≡ counts (rowAt (w .rows) place)
   pub world : o .world ≡ w
 
-abbrev pub CountRule : Type 0
-CountRule = (card : Card) (w : World) → Runs card w → (unit place : ℕ) → DeclaredAt (w .shelf) unit place → Counts w place (happens card w (count unit))
+abbrev pub CountRule : Card → World → (Event → Outcome) → Type 0
+CountRule card w comes = (unit place : ℕ) → DeclaredAt (w .shelf) unit place → Counts w place (comes (count unit))

@@ -8,7 +8,7 @@ use lib.Dec.{eqb}
 use lib.ListN.{length, getD, take, drop}
 use Rattle.card.specs.declared.Card.{Card}
 use Rattle.shelf.specs.declared.Unit as U
-use Rattle.shelf.specs.declared.Shelf.{Shelf}
+use Rattle.shelf.specs.Shelf.{Shelf}
 use Rattle.answer.specs.declared.Answer as N
 use Rattle.answer.specs.declared.Hearing as H
 use Rattle.answer.specs.declared.Hearing.the-variants as hearing
@@ -19,9 +19,9 @@ use Rattle.paper.specs.State.{units, unitAt, numberAt, blank, askOf, DeclaredAt
 use Rattle.paper.specs.Grants.{Wants, Renewed, GrantTo, NoGrant}
 use Rattle.paper.specs.Hearing.{HearingIs, queuedIn, Quiet}
 use Rattle.paper.specs.Answers.{IsFramed}
-use Rattle.document.specs.Events.{frame, answers}
-use Rattle.running.specs.Events.{World, Outcome, happens}
-use Rattle.sentences.specs.Changes.{withInlet, Runs}
+use Rattle.document.specs.Events.{Event, frame, answers}
+use Rattle.running.specs.Events.{World, Outcome}
+use Rattle.sentences.specs.Changes.{withInlet}
 use Rattle.sentences.specs.Hearing.{slotFor, withCopy}
 
 -- "First requests: a unit asks if it has a cell besides one already granted.", at its priority; who is not renewed stands; nobody asks at a number that no unit has
@@ -99,5 +99,5 @@ pub record Framed (w : World) (buffer : List ℕ) (o : Outcome) : Type 0 where
   pub idle : w .shelf .granted ≡ 255 → Idle w buffer copies o
   pub sends : w .shelf .granted ≢ 255 → (p : ℕ) × Sends w p copies o
 
-abbrev pub FrameRule : Type 0
-FrameRule = (card : Card) (w : World) → Runs card w → (buffer : List ℕ) → length buffer ≡ 57 → Framed w buffer (happens card w (frame buffer))
+abbrev pub FrameRule : Card → World → (Event → Outcome) → Type 0
+FrameRule card w comes = (buffer : List ℕ) → length buffer ≡ 57 → Framed w buffer (comes (frame buffer))

@@ -13,9 +13,9 @@ use Rattle.paper.specs.Outlets.{queueAt, ringAt, slotAt, behind, longer}
 use Rattle.paper.specs.Counters.{hearingCounts, RisenAt}
 use Rattle.paper.specs.State.{unitAt, DeclaredAt}
 use Rattle.paper.specs.Hearing.{queueOf, HearingIs}
-use Rattle.document.specs.Events.{hear, answers}
-use Rattle.running.specs.Events.{World, Outcome, happens}
-use Rattle.sentences.specs.Changes.{withUnit, withQueue, withCell, Runs}
+use Rattle.document.specs.Events.{Event, hear, answers}
+use Rattle.running.specs.Events.{World, Outcome}
+use Rattle.sentences.specs.Changes.{withUnit, withQueue, withCell}
 
 -- a copy that is queued stands behind the others in the queue of its class: where in the store, and the unit with it
 abbrev pub slotFor : U.Unit → ℕ → List ℕ → ℕ
@@ -27,7 +27,7 @@ abbrev pub withCopy : U.Unit → List ℕ → U.Unit
 withCopy u f = withQueue u (queueOf u f) (longer (ringAt (u .outlet) (queueOf u f)))
 
 -- a frame of 57 bytes meets exactly one fate at the unit named with it; that fate is said and counted there, and nothing else changes but that a queued copy is held
-pub record Hears (card : Card) (w : World) (unit place : ℕ) (f : List ℕ) (o : Outcome) : Type 0 where
+pub record Hears (w : World) (place : ℕ) (f : List ℕ) (o : Outcome) : Type 0 where
   pub fate : H.Hearing
   pub is : HearingIs (unitAt (w .shelf) place) f fate
   pub only : (other : H.Hearing) → HearingIs (unitAt (w .shelf) place) f other → other ≡ fate
@@ -40,6 +40,5 @@ pub record Hears (card : Card) (w : World) (unit place : ℕ) (f : List ℕ) (o 
   pub held : fate ≡ hearing.Queued → o .world .shelf ≡ withUnit (w .shelf) place (withCopy (unitAt (w .shelf) place) f)
   pub stored : fate ≡ hearing.Queued → o .world .store ≡ withCell (w .store) (slotFor (unitAt (w .shelf) place) place f) (take 56 f)
 
-abbrev pub HearingRule : Type 0
-HearingRule =
-    (card : Card) (w : World) → Runs card w → (unit place : ℕ) → DeclaredAt (w .shelf) unit place → (f : List ℕ) → length f ≡ 57 → Hears card w unit place f (happens card w (hear unit f))
+abbrev pub HearingRule : Card → World → (Event → Outcome) → Type 0
+HearingRule card w comes = (unit place : ℕ) → DeclaredAt (w .shelf) unit place → (f : List ℕ) → length f ≡ 57 → Hears w place f (comes (hear unit f))

@@ -10,9 +10,9 @@ use Rattle.paper.specs.Outlets.{queueAt, ringAt, cellAt, shorter}
 use Rattle.paper.specs.Counters.{taken, RisenAt}
 use Rattle.paper.specs.State.{unitAt, DeclaredAt}
 use Rattle.paper.specs.Take.{Leaves, HandedOut}
-use Rattle.document.specs.Events.{take-cell, answers}
-use Rattle.running.specs.Events.{World, Outcome, happens}
-use Rattle.sentences.specs.Changes.{withUnit, withQueue, Runs}
+use Rattle.document.specs.Events.{Event, take-cell, answers}
+use Rattle.running.specs.Events.{World, Outcome}
+use Rattle.sentences.specs.Changes.{withUnit, withQueue}
 
 -- "`empty` with the buffer unchanged"
 pub record TakesNone (w : World) (buffer : List ℕ) (o : Outcome) : Type 0 where
@@ -38,12 +38,11 @@ TakenFrom w place buffer none o = TakesNone w buffer o
 TakenFrom w place buffer (some q) o = Takes w place q o
 
 -- a buffer of 53 bytes
-pub record TakenAt (card : Card) (w : World) (unit place : ℕ) (buffer : List ℕ) (o : Outcome) : Type 0 where
+pub record TakenAt (w : World) (place : ℕ) (buffer : List ℕ) (o : Outcome) : Type 0 where
   pub queue : Option ℕ
   pub is : Leaves (unitAt (w .shelf) place .outlet) queue
   pub only : (other : Option ℕ) → Leaves (unitAt (w .shelf) place .outlet) other → other ≡ queue
   pub comes-to : TakenFrom w place buffer queue o
 
-abbrev pub TakeRule : Type 0
-TakeRule =
-    (card : Card) (w : World) → Runs card w → (unit place : ℕ) → DeclaredAt (w .shelf) unit place → (buffer : List ℕ) → length buffer ≡ 53 → TakenAt card w unit place buffer (happens card w (take-cell unit buffer))
+abbrev pub TakeRule : Card → World → (Event → Outcome) → Type 0
+TakeRule card w comes = (unit place : ℕ) → DeclaredAt (w .shelf) unit place → (buffer : List ℕ) → length buffer ≡ 53 → TakenAt w place buffer (comes (take-cell unit buffer))

@@ -13,7 +13,7 @@ use lib.Seq.{drop-cons, getD-take, map-set-same}
 use borrow.Author.Tests.{eq-eqb, ne-eqb, eqb-true, eqb-false}
 use Rattle.shelf.specs.Shelves.{declared, numberOf, numbers, placeFrom, findIn, FoundAt, FoundNowhere}
 use Rattle.shelf.specs.declared.Unit as U
-use Rattle.shelf.specs.declared.Shelf.{Shelf}
+use Rattle.shelf.specs.Shelf.{Shelf}
 use Rattle.shelf.specs.declared.Found.{Found}
 use Rattle.shelf.specs.declared.Found.the-variants.{At, Nothing}
 

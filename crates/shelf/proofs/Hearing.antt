@@ -49,34 +49,34 @@ word-same w k = bit-or w (2 ^ k) k ∙ ap (bitOr (bit w k)) (bit-same k) ∙ or-
 word-other : (w k j : ℕ) → (k ≡ j → ⊥) → bit (bitOr w (2 ^ k)) j ≡ bit w j
 word-other w k j h = bit-or w (2 ^ k) j ∙ ap (bitOr (bit w j)) (bit-other k j h) ∙ or-zero-r (bit w j)
 
-module _ (sessions : List ℕ) (four : length sessions ≡ 4) (s t : ℕ) (hs : s < 256) (ht : t < 256) where
+module _ (sessions : List ℕ) (four : length sessions ≡ 32) (s t : ℕ) (hs : s < 256) (ht : t < 256) where
   -- the words of the two sessions, the same or not, and their bits, the same or not
-  at-words : (b : Bool) → eqb (s / 64) (t / 64) ≡ b → (d : Bool) → eqb (s % 64) (t % 64) ≡ d → hears (withSession sessions s) t ≡ (eqb s t || hears sessions t)
+  at-words : (b : Bool) → eqb (s / 8) (t / 8) ≡ b → (d : Bool) → eqb (s % 8) (t % 8) ≡ d → hears (withSession sessions s) t ≡ (eqb s t || hears sessions t)
   unfolding hears withSession bit
   at-words false p d q =
-      let other : s / 64 ≡ t / 64 → ⊥ = eqb-false (s / 64) (t / 64) p in
-      rw (ne-eqb s t (λ e. other (ap (λ n. n / 64) e)))
-      (ap (λ w. eqb (bit w (t % 64)) 1) (getD-set-other sessions (s / 64) (t / 64) (bitOr (getD sessions (s / 64) 0) (2 ^ (s % 64))) 0 (λ e. other (sym e))))
+      let other : s / 8 ≡ t / 8 → ⊥ = eqb-false (s / 8) (t / 8) p in
+      rw (ne-eqb s t (λ e. other (ap (λ n. n / 8) e)))
+      (ap (λ w. eqb (bit w (t % 8)) 1) (getD-set-other sessions (s / 8) (t / 8) (bitOr (getD sessions (s / 8) 0) (2 ^ (s % 8))) 0 (λ e. other (sym e))))
   at-words true p true q =
-      let x : s / 64 ≡ t / 64 = eqb-true (s / 64) (t / 64) p in
-      let y : s % 64 ≡ t % 64 = eqb-true (s % 64) (t % 64) q in
+      let x : s / 8 ≡ t / 8 = eqb-true (s / 8) (t / 8) p in
+      let y : s % 8 ≡ t % 8 = eqb-true (s % 8) (t % 8) q in
       rw (eq-eqb s t (omega arith))
-      (eq-eqb (bit (getD (withSession sessions s) (t / 64) 0) (t % 64)) 1
+      (eq-eqb (bit (getD (withSession sessions s) (t / 8) 0) (t % 8)) 1
       (ap₂ (λ n k. bit (getD (withSession sessions s) n 0) k) (sym x) (sym y)
-      ∙ ap (λ w. bit w (s % 64)) (getD-set-same sessions (s / 64) (bitOr (getD sessions (s / 64) 0) (2 ^ (s % 64))) 0 (omega arith))
-      ∙ word-same (getD sessions (s / 64) 0) (s % 64)))
+      ∙ ap (λ w. bit w (s % 8)) (getD-set-same sessions (s / 8) (bitOr (getD sessions (s / 8) 0) (2 ^ (s % 8))) 0 (omega arith))
+      ∙ word-same (getD sessions (s / 8) 0) (s % 8)))
   at-words true p false q =
-      let x : s / 64 ≡ t / 64 = eqb-true (s / 64) (t / 64) p in
-      let other : s % 64 ≡ t % 64 → ⊥ = eqb-false (s % 64) (t % 64) q in
-      rw (ne-eqb s t (λ e. other (ap (λ n. n % 64) e)))
+      let x : s / 8 ≡ t / 8 = eqb-true (s / 8) (t / 8) p in
+      let other : s % 8 ≡ t % 8 → ⊥ = eqb-false (s % 8) (t % 8) q in
+      rw (ne-eqb s t (λ e. other (ap (λ n. n % 8) e)))
       (ap (λ n. eqb n 1)
-      (ap (λ n. bit (getD (withSession sessions s) n 0) (t % 64)) (sym x)
-      ∙ ap (λ w. bit w (t % 64)) (getD-set-same sessions (s / 64) (bitOr (getD sessions (s / 64) 0) (2 ^ (s % 64))) 0 (omega arith))
-      ∙ word-other (getD sessions (s / 64) 0) (s % 64) (t % 64) other
-      ∙ ap (λ n. bit (getD sessions n 0) (t % 64)) x))
+      (ap (λ n. bit (getD (withSession sessions s) n 0) (t % 8)) (sym x)
+      ∙ ap (λ w. bit w (t % 8)) (getD-set-same sessions (s / 8) (bitOr (getD sessions (s / 8) 0) (2 ^ (s % 8))) 0 (omega arith))
+      ∙ word-other (getD sessions (s / 8) 0) (s % 8) (t % 8) other
+      ∙ ap (λ n. bit (getD sessions n 0) (t % 8)) x))
 
   pub hears-with : hears (withSession sessions s) t ≡ (eqb s t || hears sessions t)
-  hears-with = at-words (eqb (s / 64) (t / 64)) refl (eqb (s % 64) (t % 64)) refl
+  hears-with = at-words (eqb (s / 8) (t / 8)) refl (eqb (s % 8) (t % 8)) refl
 
 -- a freshly declared unit hears none
 zeros : (n q : ℕ) → _≡_ {A = ℕ} (getD (replicate n 0) q 0) 0
@@ -84,6 +84,6 @@ zeros zero q = refl
 zeros (suc n) zero = refl
 zeros (suc n) (suc q) = zeros n q
 
-pub hears-none : (t : ℕ) → hears (replicate 4 0) t ≡ false
+pub hears-none : (t : ℕ) → hears (replicate 32 0) t ≡ false
 unfolding hears
-hears-none t = ap (λ n. eqb (n % 2) 1) (ap (λ w. w / 2 ^ (t % 64)) (zeros 4 (t / 64)) ∙ zero-div (2 ^ (t % 64)))
+hears-none t = ap (λ n. eqb (n % 2) 1) (ap (λ w. w / 2 ^ (t % 8)) (zeros 32 (t / 8)) ∙ zero-div (2 ^ (t % 8)))

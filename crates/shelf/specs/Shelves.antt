@@ -11,14 +11,14 @@ use Rattle.outlet.specs.declared.Limits.{Limits}
 use Rattle.arbiter.specs.Arbitration.{nobody, fresh as freshArbiter}
 use Rattle.shelf.specs.declared.Settings.{Settings}
 use Rattle.shelf.specs.declared.Unit as U
-use Rattle.shelf.specs.declared.Shelf.{Shelf}
+use Rattle.shelf.specs.Shelf.{Shelf}
 use Rattle.shelf.specs.declared.Found.{Found}
 use Rattle.shelf.specs.declared.Found.the-variants.{At, Nothing}
 
 -- a freshly declared unit: "A good load .. starts with all queues empty"
 abbrev pub unit : Settings → Limits → ℕ → U.Unit
 unit settings limits place =
-    record { settings = settings; outlet = freshOutlet limits; inlet = empty; place = place; sessions = replicate 4 0 }
+    record { settings = settings; outlet = freshOutlet limits; inlet = empty; place = place; sessions = replicate 32 0 }
 
 -- a place without a unit
 abbrev pub blank : U.Unit
@@ -28,7 +28,7 @@ blank =
       outlet = one 0 false;
       inlet = empty;
       place = 0;
-      sessions = replicate 4 0;
+      sessions = replicate 32 0;
     }
 
 -- a bus without a unit, as "a fresh 16 bus with no units"

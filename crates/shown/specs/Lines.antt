@@ -57,6 +57,10 @@ tCount = 99 ∷ 111 ∷ 117 ∷ 110 ∷ 116 ∷ []
 abbrev pub tShowRows : List ℕ
 tShowRows = 115 ∷ 104 ∷ 111 ∷ 119 ∷ 9 ∷ 114 ∷ 111 ∷ 119 ∷ 115 ∷ []
 
+-- `show state`
+abbrev pub tShowState : List ℕ
+tShowState = 115 ∷ 104 ∷ 111 ∷ 119 ∷ 9 ∷ 115 ∷ 116 ∷ 97 ∷ 116 ∷ 101 ∷ []
+
 -- `frame NUMBER SENDER GRANTED COPIES`: "SENDER and GRANTED are `-` where there is none"
 abbrev pub frameText : ℕ → ℕ → ℕ → ℕ → List ℕ
 frameText number sender granted copies = (((tFrame ++ numberField number) ++ tabbed (who sender)) ++ tabbed (who granted)) ++ numberField copies
@@ -79,6 +83,10 @@ countText unit c = (tCount ++ numberField unit) ++ numberFields (listed c)
 -- `show memory LENGTH SUM`: eight hex digits
 abbrev pub sumText : List ℕ → ℕ → ℕ → List ℕ
 sumText text count sum = (text ++ numberField count) ++ (9 ∷ hexOf (be4 sum))
+
+-- `show state HEX`
+abbrev pub stateText : List ℕ → List ℕ
+stateText bytes = tShowState ++ (9 ∷ hexOf bytes)
 
 -- `show rows COUNT` and, row by row, the thirteen counters
 abbrev pub rowFields : Counters → List ℕ

@@ -7,10 +7,10 @@ ghost use lib.ListN.{length};
 ghost use Rattle.hex.specs.Writing.{Wrote};
 ghost use Rattle.words.specs.Decimals.{numberField};
 ghost use Rattle.hex.specs.Hex.{hexOf};
-ghost use Rattle.shown.specs.Lines.{frameText, saidText, countText, sumText, rowsText};
+ghost use Rattle.shown.specs.Lines.{frameText, saidText, countText, sumText, stateText, rowsText};
 
 // A text and a number.
-fn say(out: &mut [u8], at: usize, text: &[u8], n: u64) -> usize
+pub fn say(out: &mut [u8], at: usize, text: &[u8], n: u64) -> usize
     requires { ⌜ at + length (now text) + 21 ≤ length (now out) ⌝ }
     ensures { λ r. ⌜ Wrote (now (out .entry)) at (now (text .entry) ++ numberField n) r (now (out .exit)) × (r ≤ at + length (now (text .entry)) + 21) ⌝ }
 {
@@ -95,6 +95,15 @@ pub fn summed(out: &mut [u8], at: usize, text: &[u8], count: u64, sum: u32) -> u
     let mut bytes = [0u8; 4];
     octets::put_four(&mut bytes, 0, sum);
     put_bytes(out, next, &bytes)
+}
+
+// All bytes of the state.
+pub fn state(out: &mut [u8], at: usize, bytes: &[u8]) -> usize
+    requires { ⌜ at + 11 + 2 * length (now bytes) ≤ length (now out) ⌝ }
+    ensures { λ r. ⌜ Wrote (now (out .entry)) at (stateText (now (bytes .entry))) r (now (out .exit)) ⌝ }
+{
+    let next = words::put(out, at, b"show\tstate");
+    put_bytes(out, next, bytes)
 }
 
 // How many rows there are, and the counters of each.

@@ -21,7 +21,7 @@ use Rattle.outlet.proofs.Laws.{given-iff, fits-iff, rings-iff}
 use Rattle.arbiter.specs.Arbitration.{nobody, besides}
 use Rattle.shelf.specs.Shelves.{declared, blank, fresh, numberOf, numbers, findIn}
 use Rattle.shelf.specs.declared.Unit as U
-use Rattle.shelf.specs.declared.Shelf.{Shelf}
+use Rattle.shelf.specs.Shelf.{Shelf}
 use Rattle.shelf.specs.declared.Found.the-variants.{At}
 use Rattle.shelf.proofs.Finding.{find-at}
 use Rattle.soundness.specs.State.{every, among, noneRepeated, settingsGiven, belowBus, couldBeGiven, withinCapacity, grantHasCell, requestHasCell, nobodyOr, asksKnown, arbiterKnown, soundOf, UnitSound, DeclaredIn, Sound}
@@ -32,12 +32,12 @@ not-iff : {a : Bool} {P : Type 0} → (a ≡ true) ↔ P → (not a ≡ true) �
 not-iff {a = true} p = (λ e. absurd (false≢true e), λ f. absurd (f (p .0 refl)))
 not-iff {a = false} p = (λ e x. false≢true (p .1 x), λ f. refl)
 
-imp-iff : {a b : Bool} {P Q : Type 0} → (a ≡ true) ↔ P → (b ≡ true) ↔ Q → ((not a || b) ≡ true) ↔ (P → Q)
+pub imp-iff : {a b : Bool} {P Q : Type 0} → (a ≡ true) ↔ P → (b ≡ true) ↔ Q → ((not a || b) ≡ true) ↔ (P → Q)
 imp-iff {a = true} p q = (λ e x. q .0 e, λ f. q .1 (f (p .0 refl)))
 imp-iff {a = false} p q = (λ e x. absurd (false≢true (p .1 x)), λ f. refl)
 
 -- every unit
-every-iff : (f : U.Unit → Bool) (P : U.Unit → Type 0) → ((u : U.Unit) → (f u ≡ true) ↔ P u) → (us : List U.Unit) → (every f us ≡ true) ↔ ((i : ℕ) → i < length us → P (getD us i blank))
+pub every-iff : (f : U.Unit → Bool) (P : U.Unit → Type 0) → ((u : U.Unit) → (f u ≡ true) ↔ P u) → (us : List U.Unit) → (every f us ≡ true) ↔ ((i : ℕ) → i < length us → P (getD us i blank))
 unfolding every
 every-iff f P e [] = (λ t i h. absurd (not-suc-le-zero h), λ g. refl)
 every-iff f P e (u ∷ us) =
@@ -47,7 +47,7 @@ every-iff f P e (u ∷ us) =
     )
 
 -- a declared number, and none repeated
-among-iff : (us : List U.Unit) (n : ℕ) → (among (numbers us) n ≡ true) ↔ DeclaredIn us n
+pub among-iff : (us : List U.Unit) (n : ℕ) → (among (numbers us) n ≡ true) ↔ DeclaredIn us n
 unfolding among
 among-iff [] n = (λ e. absurd (false≢true e), λ w. absurd (not-suc-le-zero (w .1)))
 among-iff (u ∷ us) n =
@@ -105,7 +105,7 @@ asks-iff known n (a ∷ asks) =
       λ g. b .1 (rw add-zero at (g 0), λ k. subst (λ j. (getD asks k 0 ≡ 0) ⊎ (known j ≡ true)) (sym (there k)) (g (suc k))),
     )
 
-quiet-iff : (us : List U.Unit) (asks : List ℕ) → (asksKnown (among (numbers us)) 0 asks ≡ true) ↔ ((n : ℕ) → (DeclaredIn us n → ⊥) → getD asks n 0 ≡ 0)
+pub quiet-iff : (us : List U.Unit) (asks : List ℕ) → (asksKnown (among (numbers us)) 0 asks ≡ true) ↔ ((n : ℕ) → (DeclaredIn us n → ⊥) → getD asks n 0 ≡ 0)
 quiet-iff us asks =
     let b = asks-iff (among (numbers us)) 0 asks in
     let at : (g : (n : ℕ) → (DeclaredIn us n → ⊥) → getD asks n 0 ≡ 0) (k : ℕ) (t : Bool) → among (numbers us) k ≡ t → (getD asks k 0 ≡ 0) ⊎ (among (numbers us) k ≡ true) =

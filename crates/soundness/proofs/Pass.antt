@@ -1,175 +1,171 @@
--- The one pass over the declared units, with the numbers seen so far, and that it comes to what the document says. Assumes nothing.
+-- The one pass over the declared units, that puts the priority and the cells of each in its number's place, and what stands there in the end. Assumes nothing.
 use mathlib.Core.Path.{_≡_, refl, sym, ap, ap₂, _∙_}
-use mathlib.Core.Bool.{Bool, true, false, not, _&&_, _||_, and-false, and-assoc, or-assoc, or-false, or-true, false≢true}
-use mathlib.Core.Logic.{_↔_, _⊎_, ⊎-elim, Iff·rfl}
+use mathlib.Core.Bool.{Bool, true, false, not, _&&_, _||_, and-false, and-assoc, false≢true}
+use mathlib.Core.Logic.{_↔_, _⊎_, ⊎-elim}
 use mathlib.Core.List.{List, [], _∷_}
 use Prim.Native.Nat.{ℕ, zero, suc, _+_, _*_, _≤_, _<_}
-use native.Mathlib.Numerals.{add-one}
 use native.Mathlib.Omega.{arith}
 use lib.Dec.{eqb}
-use lib.ListN.{length, getD, set, drop, replicate, length-set, drop-of-length-le}
-use lib.Seq.{drop-cons, getD-set-same, getD-set-other}
-use borrow.Author.Tests.{ltb-true, eqb-true, eqb-false}
+use lib.ListN.{length, getD, set, replicate, length-set}
+use lib.Seq.{getD-set-same, getD-set-other}
+use borrow.Author.Tests.{eqb-true, eqb-false, ne-eqb}
 use Rattle.outlet.proofs.Truth.{same, and-iff, or-iff, eq-iff, le-iff}
-use Rattle.card.specs.declared.Card.{Card}
-use Rattle.shelf.specs.Shelves.{declared, numberOf, numbers}
+use Rattle.shelf.specs.Shelves.{blank, numberOf, numbers}
 use Rattle.shelf.specs.declared.Unit as U
-use Rattle.shelf.specs.declared.Shelf.{Shelf}
-use Rattle.shelf.proofs.Finding.{declared-length, declared-at}
-use Rattle.soundness.specs.State.{every, among, noneRepeated, roomy, belowBus, couldBeGiven, withinCapacity, unitFits, waitsAt, grantHasCell, requestHasCell, arbiterKnown, soundOf}
+use Rattle.soundness.specs.State.{among, noneRepeated, roomy}
+use Rattle.soundness.specs.Numbered.{free, marks, arbiterHeld}
 
--- the numbers of a list, marked one after the other, none of them marked before
-abbrev marked : List Bool → List ℕ → List Bool
-marked seen [] = seen
-marked seen (n ∷ ns) = marked (set seen n true) ns
+-- what is put for a unit
+abbrev pub priorityOf : U.Unit → ℕ
+priorityOf u = u .settings .priority
 
-abbrev fresh : List Bool → List ℕ → Bool
-fresh seen [] = true
-fresh seen (n ∷ ns) = not (getD seen n false) && fresh (set seen n true) ns
+abbrev pub cellsOf : U.Unit → ℕ
+cellsOf u = u .inlet .count
 
-abbrev unmarked : List Bool → List ℕ → Bool
-unmarked seen [] = true
-unmarked seen (n ∷ ns) = not (getD seen n false) && unmarked seen ns
+-- it is put for each, in the place of its number
+abbrev pub put : (U.Unit → ℕ) → List ℕ → List U.Unit → List ℕ
+put f xs [] = xs
+put f xs (u ∷ us) = put f (set xs (numberOf u) (f u)) us
 
-Below : ℕ → List ℕ → Type 0
-Below k [] = Unit {0}
-Below k (n ∷ ns) = (n < k) × Below k ns
+-- no place was taken before
+abbrev fresh : List ℕ → List U.Unit → Bool
+fresh ps [] = true
+fresh ps (u ∷ us) = free ps (numberOf u) && fresh (set ps (numberOf u) (priorityOf u)) us
 
--- one number more is marked
-set-at : (seen : List Bool) (n k : ℕ) → n < length seen → (b : Bool) → eqb n k ≡ b → getD (set seen n true) k false ≡ (getD seen k false || b)
-set-at seen n k h true e =
-    ap (λ m. getD (set seen n true) m false) (sym (eqb-true n k e)) ∙ getD-set-same seen n true false h ∙ sym (or-true (getD seen k false))
-set-at seen n k h false e = getD-set-other seen n k true false (λ x. eqb-false n k e (sym x)) ∙ sym (or-false (getD seen k false))
+abbrev unmarked : List ℕ → List U.Unit → Bool
+unmarked ps [] = true
+unmarked ps (u ∷ us) = free ps (numberOf u) && unmarked ps us
 
-marked-at : (seen : List Bool) (ns : List ℕ) (k : ℕ) → Below (length seen) ns → getD (marked seen ns) k false ≡ (getD seen k false || among ns k)
-unfolding among Below
-marked-at seen [] k b = sym (or-false (getD seen k false))
-marked-at seen (n ∷ ns) k b =
-    marked-at (set seen n true) ns k (rw (length-set seen n true) (b .1))
-    ∙ ap (λ x. x || among ns k) (set-at seen n k (b .0) (eqb n k) refl) ∙ or-assoc (getD seen k false) (eqb n k) (among ns k)
+-- each unit has a place and a priority
+pub Placed : ℕ → List U.Unit → Type 0
+Placed k [] = Unit {0}
+Placed k (u ∷ us) = (numberOf u < k) × (1 ≤ priorityOf u) × Placed k us
+
+pub all-placed : (us : List U.Unit) (k : ℕ) → ((i : ℕ) → i < length us → (numberOf (getD us i blank) < k) × (1 ≤ priorityOf (getD us i blank))) → Placed k us
+unfolding Placed
+all-placed [] k g = tt
+all-placed (u ∷ us) k g = let h = g 0 (omega arith) in (h .0, h .1, all-placed us k (λ i l. g (suc i) (omega arith)))
+
+pub placed-at : (us : List U.Unit) (k i : ℕ) → Placed k us → i < length us → numberOf (getD us i blank) < k
+unfolding Placed
+placed-at [] k i b h = absurd (omega arith)
+placed-at (u ∷ us) k zero b h = b .0
+placed-at (u ∷ us) k (suc i) b h = placed-at us k i (b .2) (omega arith)
+
+-- one place more is taken
+set-free : (ps : List ℕ) (n p k : ℕ) → n < length ps → 1 ≤ p → (b : Bool) → eqb n k ≡ b → free (set ps n p) k ≡ (not b && free ps k)
+set-free ps n p k h l true e =
+    ap (λ m. free (set ps n p) m) (sym (eqb-true n k e)) ∙ ap (λ x. eqb x 0) (getD-set-same ps n p 0 h) ∙ ne-eqb p 0 (λ z. omega arith)
+set-free ps n p k h l false e = ap (λ x. eqb x 0) (getD-set-other ps n k p 0 (λ x. eqb-false n k e (sym x)))
 
 eqb-swap : (m n : ℕ) → eqb m n ≡ eqb n m
 eqb-swap m n = same (eqb m n) (eqb n m) (λ t. eq-iff n m .1 (sym (eq-iff m n .0 t))) (λ t. eq-iff m n .1 (sym (eq-iff n m .0 t)))
 
-mark-step : (s e a u : Bool) → (not (s || e) && (not a && u)) ≡ (not (e || a) && (not s && u))
-mark-step true true a u = refl
-mark-step true false a u = sym (and-false (not a))
+free-step : (e a f : Bool) → (not a && (not e && f)) ≡ (not (e || a) && f)
+free-step true a f = and-false (not a)
+free-step false a f = refl
+
+free-put : (ps : List ℕ) (us : List U.Unit) (k : ℕ) → Placed (length ps) us → free (put priorityOf ps us) k ≡ (not (among (numbers us) k) && free ps k)
+unfolding among Placed
+free-put ps [] k b = refl
+free-put ps (u ∷ us) k b =
+    free-put (set ps (numberOf u) (priorityOf u)) us k (rw (length-set ps (numberOf u) (priorityOf u)) (b .2))
+    ∙ ap (λ x. not (among (numbers us) k) && x) (set-free ps (numberOf u) (priorityOf u) k (b .0) (b .1) (eqb (numberOf u) k) refl)
+    ∙ free-step (eqb (numberOf u) k) (among (numbers us) k) (free ps k)
+
+mark-step : (e f a u : Bool) → ((not e && f) && (not a && u)) ≡ (not (e || a) && (f && u))
+mark-step true f a u = refl
 mark-step false true a u = refl
-mark-step false false a u = refl
+mark-step false false a u = sym (and-false (not a))
 
-unmarked-set : (seen : List Bool) (n : ℕ) (ns : List ℕ) → n < length seen → unmarked (set seen n true) ns ≡ (not (among ns n) && unmarked seen ns)
+unmarked-set : (ps : List ℕ) (n p : ℕ) (us : List U.Unit) → n < length ps → 1 ≤ p → unmarked (set ps n p) us ≡ (not (among (numbers us) n) && unmarked ps us)
 unfolding among
-unmarked-set seen n [] h = refl
-unmarked-set seen n (m ∷ ms) h =
-    ap₂ (λ x y. not x && y) (set-at seen n m h (eqb m n) (eqb-swap n m)) (unmarked-set seen n ms h)
-    ∙ mark-step (getD seen m false) (eqb m n) (among ms n) (unmarked seen ms)
-
-swap : (a b c : Bool) → (a && (b && c)) ≡ (b && (a && c))
-swap true b c = refl
-swap false b c = sym (and-false b)
+unmarked-set ps n p [] h l = refl
+unmarked-set ps n p (u ∷ us) h l =
+    ap₂ (λ x y. x && y) (set-free ps n p (numberOf u) h l (eqb (numberOf u) n) (eqb-swap n (numberOf u))) (unmarked-set ps n p us h l)
+    ∙ mark-step (eqb (numberOf u) n) (free ps (numberOf u)) (among (numbers us) n) (unmarked ps us)
 
 cross : (a b c d : Bool) → (a && ((b && c) && d)) ≡ ((a && c) && (b && d))
 cross true true c d = refl
 cross true false c d = sym (and-false c)
 cross false b c d = refl
 
-fresh-none : (seen : List Bool) (ns : List ℕ) → Below (length seen) ns → fresh seen ns ≡ (unmarked seen ns && noneRepeated ns)
-unfolding noneRepeated Below
-fresh-none seen [] b = refl
-fresh-none seen (n ∷ ns) b =
-    ap (λ x. not (getD seen n false) && x)
-    (fresh-none (set seen n true) ns (rw (length-set seen n true) (b .1)) ∙ ap (λ x. x && noneRepeated ns) (unmarked-set seen n ns (b .0)))
-    ∙ cross (not (getD seen n false)) (not (among ns n)) (unmarked seen ns) (noneRepeated ns)
+fresh-none : (ps : List ℕ) (us : List U.Unit) → Placed (length ps) us → fresh ps us ≡ (unmarked ps us && noneRepeated (numbers us))
+unfolding noneRepeated Placed
+fresh-none ps [] b = refl
+fresh-none ps (u ∷ us) b =
+    ap (λ x. free ps (numberOf u) && x)
+    (fresh-none (set ps (numberOf u) (priorityOf u)) us (rw (length-set ps (numberOf u) (priorityOf u)) (b .2))
+    ∙ ap (λ x. x && noneRepeated (numbers us)) (unmarked-set ps (numberOf u) (priorityOf u) us (b .0) (b .1)))
+    ∙ cross (free ps (numberOf u)) (not (among (numbers us) (numberOf u))) (unmarked ps us) (noneRepeated (numbers us))
 
--- from no marks at all
-abbrev pub none : List Bool
-none = replicate 32 false
+-- from no place taken at all
+abbrev pub none : List ℕ
+none = replicate 32 0
 
-no-mark : (k n : ℕ) → getD (replicate k false) n false ≡ false
-no-mark zero n = refl
-no-mark (suc k) zero = refl
-no-mark (suc k) (suc n) = no-mark k n
+none-at : (k n : ℕ) → _≡_ {A = ℕ} (getD (replicate k 0) n 0) 0
+none-at zero n = refl
+none-at (suc k) zero = refl
+none-at (suc k) (suc n) = none-at k n
 
-none-unmarked : (ns : List ℕ) → unmarked none ns ≡ true
+none-unmarked : (us : List U.Unit) → unmarked none us ≡ true
 none-unmarked [] = refl
-none-unmarked (n ∷ ns) = rw (no-mark 32 n) (none-unmarked ns)
+none-unmarked (u ∷ us) = rw (none-at 32 (numberOf u)) (none-unmarked us)
 
-fresh-from-none : (ns : List ℕ) → Below 32 ns → fresh none ns ≡ noneRepeated ns
-fresh-from-none ns b = fresh-none none ns b ∙ ap (λ x. x && noneRepeated ns) (none-unmarked ns)
+pub fresh-from-none : (us : List U.Unit) → Placed 32 us → fresh none us ≡ noneRepeated (numbers us)
+fresh-from-none us b = fresh-none none us b ∙ ap (λ x. x && noneRepeated (numbers us)) (none-unmarked us)
 
-marked-from-none : (ns : List ℕ) (k : ℕ) → Below 32 ns → getD (marked none ns) k false ≡ among ns k
-marked-from-none ns k b = marked-at none ns k b ∙ ap (λ x. x || among ns k) (no-mark 32 k)
+twice : (a : Bool) → not (not a && true) ≡ a
+twice true = refl
+twice false = refl
 
--- the pass: each unit's own tests, its number not seen before, what it has to wait for; and in the end the arbiter
-module _ (card : Card) (bus granted : ℕ) (last asks : List ℕ) where
-  abbrev pub waiting : U.Unit → Bool
-  waiting u = waitsAt granted (getD asks (numberOf u) 0) (numberOf u) (u .settings .priority) (u .inlet .count)
+pub marks-from-none : (us : List U.Unit) (k : ℕ) → Placed 32 us → marks (put priorityOf none us) k ≡ among (numbers us) k
+marks-from-none us k b =
+    ap not (free-put none us k b ∙ ap (λ x. not (among (numbers us) k) && eqb x 0) (none-at 32 k)) ∙ twice (among (numbers us) k)
 
-  unfoldable pub pass : List Bool → List U.Unit → Bool
-  pass seen [] = arbiterKnown (λ n. getD seen n false) granted last asks
-  pass seen (u ∷ us) = unitFits card bus u && (not (getD seen (numberOf u) false || not (waiting u)) && pass (set seen (numberOf u) true) us)
+-- what stands in the place of a number: nothing where none is declared, else what was put for its unit
+neither : (a b : Bool) → (a || b) ≡ false → (a ≡ false) × (b ≡ false)
+neither true b e = absurd (false≢true (sym e))
+neither false b e = (refl, e)
 
-  good : U.Unit → Bool
-  good u = unitFits card bus u && waiting u
+not-both : (a b : Bool) → (not a && b) ≡ true → (a ≡ false) × (b ≡ true)
+not-both true b e = absurd (false≢true e)
+not-both false b e = (refl, e)
 
-  turned : (f s w a b c : Bool) → (f && (not (s || not w) && (a && (b && c)))) ≡ ((f && w) && a) && ((not s && b) && c)
-  turned true true true a b c = sym (and-false a)
-  turned true true false a b c = refl
-  turned true false true a b c = refl
-  turned true false false a b c = refl
-  turned false s w a b c = refl
+put-other : (f : U.Unit → ℕ) (xs : List ℕ) (us : List U.Unit) (n : ℕ) → among (numbers us) n ≡ false → getD (put f xs us) n 0 ≡ getD xs n 0
+unfolding among
+put-other f xs [] n e = refl
+put-other f xs (u ∷ us) n e =
+    let w = neither (eqb (numberOf u) n) (among (numbers us) n) e in
+    put-other f (set xs (numberOf u) (f u)) us n (w .1) ∙ getD-set-other xs (numberOf u) n (f u) 0 (λ x. eqb-false (numberOf u) n (w .0) (sym x))
 
-  pass-all : (seen : List Bool) (us : List U.Unit) → pass seen us ≡ (every good us && (fresh seen (numbers us) && arbiterKnown (λ n. getD (marked seen (numbers us)) n false) granted last asks))
-  unfolding pass every good
-  pass-all seen [] = refl
-  pass-all seen (u ∷ us) =
-      ap (λ x. unitFits card bus u && (not (getD seen (numberOf u) false || not (waiting u)) && x)) (pass-all (set seen (numberOf u) true) us)
-      ∙ turned (unitFits card bus u) (getD seen (numberOf u) false) (waiting u) (every good us) (fresh (set seen (numberOf u) true) (numbers us)) (arbiterKnown (λ n. getD (marked (set seen (numberOf u) true) (numbers us)) n false) granted last asks)
+put-here : (f : U.Unit → ℕ) (xs : List ℕ) (us : List U.Unit) (i : ℕ) → Placed (length xs) us → noneRepeated (numbers us) ≡ true → i < length us →
+    getD (put f xs us) (numberOf (getD us i blank)) 0 ≡ f (getD us i blank)
+unfolding noneRepeated Placed
+put-here f xs [] i b t h = absurd (omega arith)
+put-here f xs (u ∷ us) zero b t h =
+    put-other f (set xs (numberOf u) (f u)) us (numberOf u) (not-both (among (numbers us) (numberOf u)) (noneRepeated (numbers us)) t .0) ∙ getD-set-same xs (numberOf u) (f u) 0 (b .0)
+put-here f xs (u ∷ us) (suc i) b t h =
+    put-here f (set xs (numberOf u) (f u)) us i (rw (length-set xs (numberOf u) (f u)) (b .2)) (not-both (among (numbers us) (numberOf u)) (noneRepeated (numbers us)) t .1) (omega arith)
 
-  -- what holds of every unit, item by item
-  split : (f g h : U.Unit → Bool) → ((u : U.Unit) → h u ≡ (f u && g u)) → (us : List U.Unit) → every h us ≡ (every f us && every g us)
-  unfolding every
-  split f g h e [] = refl
-  split f g h e (u ∷ us) = ap₂ (λ x y. x && y) (e u) (split f g h e us) ∙ four (f u) (g u) (every f us) (every g us)
-    where
-      four : (a b c d : Bool) → ((a && b) && (c && d)) ≡ ((a && c) && (b && d))
-      four true true c d = refl
-      four true false c d = sym (and-false c)
-      four false b c d = refl
+pub put-none : (f : U.Unit → ℕ) (us : List U.Unit) (n : ℕ) → among (numbers us) n ≡ false → getD (put f none us) n 0 ≡ 0
+put-none f us n e = put-other f none us n e ∙ none-at 32 n
 
-  items : (us : List U.Unit) → every good us ≡ (every (belowBus bus) us && every (couldBeGiven card) us && every withinCapacity us && (every (grantHasCell granted) us && every (requestHasCell granted asks) us))
-  unfolding good unitFits waitsAt
-  items us =
-      let both : U.Unit → Bool = λ u. belowBus bus u && couldBeGiven card u in
-      split (unitFits card bus) waiting good (λ u. refl) us
-      ∙ ap₂ (λ x y. x && y)
-      (split both withinCapacity (unitFits card bus) (λ u. refl) us ∙ ap (λ x. x && every withinCapacity us) (split (belowBus bus) (couldBeGiven card) both (λ u. refl) us))
-      (split (grantHasCell granted) (requestHasCell granted asks) waiting (λ u. refl) us)
+pub put-at : (f : U.Unit → ℕ) (us : List U.Unit) (i : ℕ) → Placed 32 us → noneRepeated (numbers us) ≡ true → i < length us → getD (put f none us) (numberOf (getD us i blank)) 0 ≡ f (getD us i blank)
+put-at f us i b t h = put-here f none us i b t h
 
-  all-below : (us : List U.Unit) → bus ≤ 32 → every good us ≡ true → Below 32 (numbers us)
-  unfolding every good unitFits Below
-  all-below [] le t = tt
-  all-below (u ∷ us) le t =
-      let b : (good u && every good us) ≡ true → (good u ≡ true) × (every good us ≡ true) = and-iff Iff·rfl Iff·rfl .0 in
-      let f : good u ≡ true → belowBus bus u ≡ true = λ e. and-iff {a = belowBus bus u} Iff·rfl Iff·rfl .0 (and-iff {a = belowBus bus u && couldBeGiven card u} Iff·rfl Iff·rfl .0 (and-iff {a = unitFits card bus u} Iff·rfl Iff·rfl .0 e .0) .0) .0 in
-      let n : numberOf u < bus = ltb-true (numberOf u) bus (f (b t .0)) in
-      (omega arith, all-below us le (b t .1))
+-- the pass; in the end the arbiter
+module _ (granted : ℕ) (last asks : List ℕ) where
+  unfoldable pub pass : List ℕ → List ℕ → List U.Unit → Bool
+  pass ps cs [] = arbiterHeld ps cs granted last asks
+  pass ps cs (u ∷ us) = free ps (numberOf u) && pass (set ps (numberOf u) (priorityOf u)) (set cs (numberOf u) (cellsOf u)) us
 
-  guarded : (b x y : Bool) → (b ≡ true → x ≡ y) → (b && x) ≡ (b && y)
-  guarded true x y h = h refl
-  guarded false x y h = refl
-
-  pass-document : (us : List U.Unit) → bus ≤ 32 → pass none us ≡ (every good us && (noneRepeated (numbers us) && arbiterKnown (among (numbers us)) granted last asks))
-  pass-document us le =
-      pass-all none us
-      ∙ guarded (every good us) _ _
-      (λ t. let b = all-below us le t in
-      ap₂ (λ x known. x && arbiterKnown known granted last asks) (fresh-from-none (numbers us) b) (λ i n. marked-from-none (numbers us) n b i))
-
--- it comes to what the document says
-ordered : (a c d e f h j k : Bool) → a ≡ true → ((d && e && f && (h && j)) && (c && k)) ≡ (a && c && d && e && f && h && j && k)
-ordered true c d e f h j k t = simp (and-assoc, swap)
-ordered false c d e f h j k t = absurd (false≢true t)
+  pub pass-all : (ps cs : List ℕ) (us : List U.Unit) → pass ps cs us ≡ (fresh ps us && arbiterHeld (put priorityOf ps us) (put cellsOf cs us) granted last asks)
+  unfolding pass
+  pass-all ps cs [] = refl
+  pass-all ps cs (u ∷ us) =
+      ap (λ x. free ps (numberOf u) && x) (pass-all (set ps (numberOf u) (priorityOf u)) (set cs (numberOf u) (cellsOf u)) us)
+      ∙ sym (and-assoc (free ps (numberOf u)) (fresh (set ps (numberOf u) (priorityOf u)) us) (arbiterHeld (put priorityOf (set ps (numberOf u) (priorityOf u)) us) (put cellsOf (set cs (numberOf u) (cellsOf u)) us) granted last asks))
 
 pub roomy-iff : (bus count store rows : ℕ) → (roomy bus count store rows ≡ true) ↔ (((((bus ≡ 16) ⊎ (bus ≡ 32)) × (count ≤ 32)) × (8192 * count ≤ store)) × (count ≤ rows))
 unfolding roomy
@@ -178,61 +174,3 @@ roomy-iff bus count store rows =
 
 pub bus-most : (bus count store rows : ℕ) → roomy bus count store rows ≡ true → bus ≤ 32
 bus-most bus count store rows t = ⊎-elim (λ e. omega arith) (λ e. omega arith) (roomy-iff bus count store rows .0 t .0 .0 .0)
-
-module _ (card : Card) (shelf : Shelf) where
-  -- what is left of the pass at place i
-  abbrev pub left : List Bool → ℕ → Bool
-  left seen i = pass card (shelf .bus) (shelf .granted) (shelf .arbiter .last) (shelf .arbiter .asks) seen (drop i (declared shelf))
-
-  pub pass-sound : (store rows : ℕ) → roomy (shelf .bus) (shelf .count) store rows ≡ true → soundOf card shelf store rows ≡ left none 0
-  unfolding soundOf
-  pass-sound store rows t =
-      let us = declared shelf in
-      let asks = shelf .arbiter .asks in
-      let known = arbiterKnown (among (numbers us)) (shelf .granted) (shelf .arbiter .last) asks in
-      sym
-      (pass-document card (shelf .bus) (shelf .granted) (shelf .arbiter .last) asks us (bus-most (shelf .bus) (shelf .count) store rows t)
-      ∙ ap (λ x. x && (noneRepeated (numbers us) && known)) (items card (shelf .bus) (shelf .granted) (shelf .arbiter .last) asks us)
-      ∙ ordered (roomy (shelf .bus) (shelf .count) store rows) (noneRepeated (numbers us)) (every (belowBus (shelf .bus)) us) (every (couldBeGiven card) us)
-      (every withinCapacity us) (every (grantHasCell (shelf .granted)) us) (every (requestHasCell (shelf .granted) asks) us) known t)
-
-  pub not-roomy : (store rows : ℕ) → roomy (shelf .bus) (shelf .count) store rows ≡ false → soundOf card shelf store rows ≡ false
-  unfolding soundOf
-  not-roomy store rows t = rw t
-
-  -- the turns of the loop
-  module _ (long : length (shelf .units) ≡ 32) (most : shelf .count ≤ 32) (seen : List Bool) (i : ℕ) (d : U.Unit) where
-    abbrev pub unit : U.Unit
-    unit = getD (shelf .units) i d
-
-    -- what it has to wait for
-    abbrev pub waitsHere : Bool
-    waitsHere = waiting card (shelf .bus) (shelf .granted) (shelf .arbiter .last) (shelf .arbiter .asks) unit
-
-    next : i < shelf .count → drop i (declared shelf) ≡ unit ∷ drop (suc i) (declared shelf)
-    next h =
-        let l = declared-length shelf long in
-        drop-cons (declared shelf) i d (omega arith) ∙ ap (λ u. u ∷ drop (suc i) (declared shelf)) (declared-at shelf i d h)
-
-    pub misfit : i < shelf .count → unitFits card (shelf .bus) unit ≡ false → left seen i ≡ false
-    unfolding pass
-    misfit h e = rw (next h, e)
-
-    pub stopped : (w : Bool) → i < shelf .count → w ≡ waitsHere → (getD seen (numberOf unit) false || not w) ≡ true → left seen i ≡ false
-    unfolding pass
-    stopped w h e f = rw (next h, ← e, f) (and-false (unitFits card (shelf .bus) unit))
-
-    pub passed : (w : Bool) → i < shelf .count → unitFits card (shelf .bus) unit ≡ true → w ≡ waitsHere → (getD seen (numberOf unit) false || not w) ≡ false → left seen i ≡ left (set seen (numberOf unit) true) (i + 1)
-    unfolding pass
-    passed w h t e f = rw (add-one, next h, t, ← e, f)
-
-    pub ended : shelf .count ≤ i → left seen i ≡ arbiterKnown (λ n. getD seen n false) (shelf .granted) (shelf .arbiter .last) (shelf .arbiter .asks)
-    unfolding pass
-    ended h = let l = declared-length shelf long in rw (drop-of-length-le (declared shelf) {i = i} (omega arith))
-
-    pub number-below : (store rows : ℕ) → roomy (shelf .bus) (shelf .count) store rows ≡ true → unitFits card (shelf .bus) unit ≡ true → numberOf unit < 32
-    unfolding unitFits
-    number-below store rows t e =
-        let b = bus-most (shelf .bus) (shelf .count) store rows t in
-        let n : numberOf unit < shelf .bus = ltb-true (numberOf unit) (shelf .bus) (and-iff {a = belowBus (shelf .bus) unit} Iff·rfl Iff·rfl .0 (and-iff {a = belowBus (shelf .bus) unit && couldBeGiven card unit} Iff·rfl Iff·rfl .0 e .0) .0) in
-        omega arith

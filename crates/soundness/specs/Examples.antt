@@ -14,7 +14,7 @@ use Rattle.arbiter.specs.Arbitration.{nobody}
 use Rattle.shelf.specs.Shelves.{blank, fresh}
 use Rattle.shelf.specs.declared.Settings.{Settings}
 use Rattle.shelf.specs.declared.Unit as U
-use Rattle.shelf.specs.declared.Shelf.{Shelf}
+use Rattle.shelf.specs.Shelf.{Shelf}
 use Rattle.soundness.specs.State.{every, soundOf}
 
 abbrev ring : ℕ → ℕ → Ring
@@ -51,7 +51,7 @@ fourteen =
       };
       inlet = ring 0 1;
       place = 0;
-      sessions = replicate 4 0;
+      sessions = replicate 32 0;
     }
 
 -- requests: of one more unit; of both

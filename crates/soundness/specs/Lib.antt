@@ -1,2 +1,5 @@
 pub mod State
+pub mod Lanes
+pub mod Numbered
+pub mod Soundings
 pub mod Examples

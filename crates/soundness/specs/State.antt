@@ -19,7 +19,7 @@ use Rattle.arbiter.specs.Arbitration.{nobody, besides}
 use Rattle.shelf.specs.Shelves.{declared, blank, numberOf, numbers}
 use Rattle.shelf.specs.declared.Settings.{Settings}
 use Rattle.shelf.specs.declared.Unit as U
-use Rattle.shelf.specs.declared.Shelf.{Shelf}
+use Rattle.shelf.specs.Shelf.{Shelf}
 
 unfoldable pub every : {A : Type 0} → (A → Bool) → List A → Bool
 every good [] = true
@@ -62,9 +62,6 @@ grantHeld granted number cells = not (eqb number granted) || leb 1 cells
 -- "a request at one without a cell besides a granted one": a request is 0 or at the unit's priority
 abbrev pub askHeld : ℕ → ℕ → ℕ → ℕ → ℕ → Bool
 askHeld granted ask number priority cells = eqb ask 0 || eqb ask priority && leb 1 (besides cells (eqb number granted))
-
-unfoldable pub waitsAt : ℕ → ℕ → ℕ → ℕ → ℕ → Bool
-waitsAt granted ask number priority cells = grantHeld granted number cells && askHeld granted ask number priority cells
 
 abbrev pub grantHasCell : ℕ → U.Unit → Bool
 grantHasCell granted u = grantHeld granted (numberOf u) (u .inlet .count)

@@ -7,7 +7,7 @@ use lib.ListN.{length}
 use Rattle.card.specs.declared.Card.{Card}
 use Rattle.record.specs.Record.{size, usable, recordAt, cleared}
 use Rattle.shelf.specs.Shelves.{fresh}
-use Rattle.shelf.specs.declared.Shelf.{Shelf}
+use Rattle.shelf.specs.Shelf.{Shelf}
 use Rattle.text.specs.Text.{split}
 use Rattle.line.specs.Lines.{readingOf}
 use Rattle.line.specs.declared.Line.{Line}
@@ -18,32 +18,31 @@ use Rattle.verdict.specs.declared.Verdict.the-variants.{Fine, Form}
 use Rattle.table.specs.declared.Progress.{Progress}
 use Rattle.table.specs.declared.Outcome.{Outcome}
 use Rattle.table.specs.declared.Outcome.the-variants.{Loaded, Refused}
-use Rattle.table.specs.declared.Loading.{Loading}
+use Rattle.table.specs.Loading.{Loading}
 use Rattle.verdict.specs.Verdicts.{numberOf, isFine}
 use Rattle.told.specs.Told.{total, shelfOf, memoryOf}
-use Rattle.told.specs.Enact.{verdictAt, shelfIn, usedIn, memoryIn}
+use Rattle.told.specs.Enact.{verdictAt, usedIn, memoryIn}
 use Rattle.told.specs.Lines.{Ran, done, stopped, run}
 
--- one line more: the shelf, the bytes used, the lines read, and the verdict on it
+-- one line more: the bytes used, the lines read, and the verdict on it
 unfoldable pub progressBy : Verdict → Progress → Reading → Progress
 progressBy verdict p reading =
     record {
-      shelf = cond (isFine verdict) (shelfIn reading (p .used) (p .shelf)) (p .shelf);
       used = cond (isFine verdict) (usedIn reading (p .used)) (p .used);
       lines = p .lines + 1;
       verdict = verdict;
     }
 
-abbrev pub memoryAfter : Card → List ℕ → Verdict → Progress → Reading → List ℕ
-memoryAfter card memory verdict p reading = cond (isFine verdict) (memoryIn card memory (p .shelf) (p .used) reading) memory
+abbrev pub memoryAfter : Card → List ℕ → Shelf → Verdict → Progress → Reading → List ℕ
+memoryAfter card memory shelf verdict p reading = cond (isFine verdict) (memoryIn card memory shelf (p .used) reading) memory
 
-abbrev pub verdictIn : Card → ℕ → List ℕ → Progress → Reading → Verdict
-verdictIn card room memory p reading = verdictAt card room (eqb (p .lines) 0) (recordAt card memory) (p .shelf) (p .used) reading
+abbrev pub verdictIn : Card → ℕ → List ℕ → Shelf → Progress → Reading → Verdict
+verdictIn card room memory shelf p reading = verdictAt card room (eqb (p .lines) 0) (recordAt card memory) shelf (p .used) reading
 
 -- how far reading came
 abbrev pub progressOf : Ran → Progress
-progressOf (done told) = record { shelf = shelfOf told; used = size * total told; lines = length told; verdict = Fine }
-progressOf (stopped told n verdict) = record { shelf = shelfOf told; used = size * total told; lines = n; verdict = verdict }
+progressOf (done told) = record { used = size * total told; lines = length told; verdict = Fine }
+progressOf (stopped told n verdict) = record { used = size * total told; lines = n; verdict = verdict }
 
 abbrev pub toldIn : Ran → List Line
 toldIn (done told) = told

@@ -1,19 +1,21 @@
-// Loading a route table: lines into memory and a fresh shelf.
+// Loading a route table: lines into memory and a fresh state.
 use card::Card;
 use line::Line;
 use line::Reading;
 use ranged::Wrong;
-use shelf::Shelf;
 use verdict::Verdict;
 ghost use mathlib.Core.Path.{_≡_};
 ghost use mathlib.Core.List.{[]};
 ghost use Prim.Native.Nat.{_≤_, min};
 ghost use lib.ListN.{length};
 ghost use Rattle.record.specs.Record.{usable as usableIn, cleared};
+ghost use Rattle.state.specs.Bytes.{shelfIn};
+ghost use Rattle.state.specs.Placing.{freshBytes};
 ghost use Rattle.told.specs.Told.{memoryOf};
 ghost use Rattle.told.specs.Lines.{done};
 ghost use Rattle.told.specs.Enact.{Places};
-ghost use Rattle.table.specs.Load.{progressBy, memoryAfter, verdictIn, progressOf, toldIn, ranOf, refusal, load as loadingOf, loaded};
+ghost use Rattle.table.specs.Load.{progressBy, memoryAfter, verdictIn, progressOf, toldIn, ranOf, tooLittle, load as loadingOf, loaded};
+ghost use Rattle.table.specs.InPlace.{stateAfter, stateOf, stateLoaded};
 
 // The longest text that is read.
 const LONGEST: usize = 65536;
@@ -24,42 +26,41 @@ pub enum Outcome {
     Refused { number: u8, line: u32 },
 }
 
-// What loading gives back.
-pub struct Loading {
-    pub outcome: Outcome,
-    pub shelf: Shelf,
-}
-
-// The shelf and the bytes used so far, how many lines were read, and what the last of them came to.
+// The bytes used so far, how many lines were read, and what the last of them came to.
 pub struct Progress {
-    pub shelf: Shelf,
     pub used: u32,
     pub lines: u32,
     pub verdict: Verdict,
 }
 
 // One line more that can be read: judged, and enacted if it is fine.
-fn enact(card: Card, room: usize, memory: &mut [u8], p: Progress, line: Line) -> Progress
-    requires { ⌜ (p .used ≤ 262144) × (p .lines ≤ 65536) ⌝ }
-    requires { ⌜ (verdictIn card room (now memory) p (Reading.Good line) ≡ Verdict.Fine → Places (p .shelf) (Reading.Good line)) ⌝ }
-    ensures { λ r. ⌜ r ≡ progressBy (verdictIn card room (now (memory .entry)) p (Reading.Good line)) p (Reading.Good line) ⌝ }
-    ensures { λ _. ⌜ now (memory .exit) ≡ memoryAfter card (now (memory .entry)) (verdictIn card room (now (memory .entry)) p (Reading.Good line)) p (Reading.Good line) ⌝ }
+fn enact(
+    card: Card,
+    room: usize,
+    memory: &mut [u8],
+    s: &mut [u8],
+    p: Progress,
+    line: Line,
+) -> Progress
+    requires { ⌜ (length (now s) ≡ 2048) × (p .used ≤ 262144) × (p .lines ≤ 65536) ⌝ }
+    requires { ⌜ (verdictIn card room (now memory) (shelfIn (now s)) p (Reading.Good line) ≡ Verdict.Fine → Places (shelfIn (now s)) (Reading.Good line)) ⌝ }
+    ensures { λ r. ⌜ r ≡ progressBy (verdictIn card room (now (memory .entry)) (shelfIn (now (s .entry))) p (Reading.Good line)) p (Reading.Good line) ⌝ }
+    ensures { λ _. ⌜ now (memory .exit) ≡ memoryAfter card (now (memory .entry)) (shelfIn (now (s .entry))) (verdictIn card room (now (memory .entry)) (shelfIn (now (s .entry))) p (Reading.Good line)) p (Reading.Good line) ⌝ }
+    ensures { λ _. ⌜ now (s .exit) ≡ stateAfter (now (s .entry)) (verdictIn card room (now (memory .entry)) (shelfIn (now (s .entry))) p (Reading.Good line)) p (Reading.Good line) ⌝ }
 {
-    let shelf = p.shelf;
     let used = p.used;
     let lines = p.lines;
-    let verdict = judge::judge(card, room, lines == 0, memory, shelf, used, line);
+    let verdict = judge::judge(card, room, lines == 0, memory, s, used, line);
     if !verdict::is_fine(verdict) {
         return Progress {
-            shelf,
             used,
             lines: lines + 1,
             verdict,
         };
     }
-    given::write(card, memory, shelf, used, line);
+    given::write(card, memory, s, used, line);
+    given::enter(s, used, line);
     Progress {
-        shelf: given::shelf_after(shelf, used, line),
         used: used + 8 * given::takes(line),
         lines: lines + 1,
         verdict,
@@ -67,23 +68,27 @@ fn enact(card: Card, room: usize, memory: &mut [u8], p: Progress, line: Line) ->
 }
 
 // One line more.
-fn step(card: Card, room: usize, memory: &mut [u8], p: Progress, reading: Reading) -> Progress
-    requires { ⌜ (p .used ≤ 262144) × (p .lines ≤ 65536) ⌝ }
-    requires { ⌜ (verdictIn card room (now memory) p reading ≡ Verdict.Fine → Places (p .shelf) reading) ⌝ }
-    ensures { λ r. ⌜ r ≡ progressBy (verdictIn card room (now (memory .entry)) p reading) p reading ⌝ }
-    ensures { λ _. ⌜ now (memory .exit) ≡ memoryAfter card (now (memory .entry)) (verdictIn card room (now (memory .entry)) p reading) p reading ⌝ }
+fn step(
+    card: Card,
+    room: usize,
+    memory: &mut [u8],
+    s: &mut [u8],
+    p: Progress,
+    reading: Reading,
+) -> Progress
+    requires { ⌜ (length (now s) ≡ 2048) × (p .used ≤ 262144) × (p .lines ≤ 65536) ⌝ }
+    requires { ⌜ (verdictIn card room (now memory) (shelfIn (now s)) p reading ≡ Verdict.Fine → Places (shelfIn (now s)) reading) ⌝ }
+    ensures { λ r. ⌜ r ≡ progressBy (verdictIn card room (now (memory .entry)) (shelfIn (now (s .entry))) p reading) p reading ⌝ }
+    ensures { λ _. ⌜ now (memory .exit) ≡ memoryAfter card (now (memory .entry)) (shelfIn (now (s .entry))) (verdictIn card room (now (memory .entry)) (shelfIn (now (s .entry))) p reading) p reading ⌝ }
+    ensures { λ _. ⌜ now (s .exit) ≡ stateAfter (now (s .entry)) (verdictIn card room (now (memory .entry)) (shelfIn (now (s .entry))) p reading) p reading ⌝ }
 {
     match reading {
-        Reading::Good(line) => enact(card, room, memory, p, line),
-        Reading::Bad(wrong) => {
-            let shelf = p.shelf;
-            Progress {
-                shelf,
-                used: p.used,
-                lines: p.lines + 1,
-                verdict: Verdict::Form(wrong),
-            }
-        }
+        Reading::Good(line) => enact(card, room, memory, s, p, line),
+        Reading::Bad(wrong) => Progress {
+            used: p.used,
+            lines: p.lines + 1,
+            verdict: Verdict::Form(wrong),
+        },
     }
 }
 
@@ -92,7 +97,6 @@ fn begin() -> Progress
     ensures { λ r. ⌜ r ≡ progressOf (done []) ⌝ }
 {
     Progress {
-        shelf: Shelf::fresh(16),
         used: 0,
         lines: 0,
         verdict: Verdict::Fine,
@@ -110,15 +114,15 @@ fn usable(bytes: usize) -> usize
     }
 }
 
-// Reads the lines of a text into a memory that is zero, up to the first faulty one.
-fn read_lines(card: Card, text: &[u8], memory: &mut [u8]) -> Progress
-    requires { ⌜ (length (now text) ≤ 65536) × (now memory ≡ cleared (now memory)) ⌝ }
+// Reads the lines of a text into a memory that is zero and a fresh state, up to the first faulty one.
+fn read_lines(card: Card, text: &[u8], memory: &mut [u8], s: &mut [u8]) -> Progress
+    requires { ⌜ (length (now text) ≤ 65536) × (now memory ≡ cleared (now memory)) × (now s ≡ freshBytes 16) ⌝ }
     ensures { λ r. ⌜ r ≡ progressOf (ranOf card (usableIn (now (memory .entry))) (now (text .entry))) ⌝ }
     ensures { λ _. ⌜ now (memory .exit) ≡ memoryOf card (now (memory .entry)) (toldIn (ranOf card (usableIn (now (memory .entry))) (now (text .entry)))) ⌝ }
+    ensures { λ _. ⌜ now (s .exit) ≡ stateOf (toldIn (ranOf card (usableIn (now (memory .entry))) (now (text .entry)))) ⌝ }
 {
     if text.len() == 0 {
         return Progress {
-            shelf: Shelf::fresh(16),
             used: 0,
             lines: 1,
             verdict: Verdict::Form(Wrong::Newline),
@@ -130,7 +134,7 @@ fn read_lines(card: Card, text: &[u8], memory: &mut [u8]) -> Progress
     while from < text.len() {
         let end = text::field_end(text, from, b'\n');
         let reading = line::read(&text[from..end], end < text.len());
-        p = step(card, room, memory, p, reading);
+        p = step(card, room, memory, s, p, reading);
         let verdict = p.verdict;
         if !verdict::is_fine(verdict) {
             return p;
@@ -140,39 +144,53 @@ fn read_lines(card: Card, text: &[u8], memory: &mut [u8]) -> Progress
     p
 }
 
-// A table that is refused.
-fn refused(number: u8, line: u32) -> Loading
-    ensures { λ r. ⌜ r ≡ refusal (Outcome.Refused number line) ⌝ }
-{
-    Loading {
-        outcome: Outcome::Refused { number, line },
-        shelf: Shelf::fresh(16),
-    }
-}
-
-// Loads a table; the answer, the fresh shelf, and the memory that holds its records.
-pub fn load(card: Card, text: &[u8], memory: &mut [u8], store: usize, rows: usize) -> Loading
-    ensures { λ r. ⌜ r ≡ loadingOf card (now (text .entry)) (now (memory .entry)) store rows ⌝ }
-    ensures { λ _. ⌜ now (memory .exit) ≡ loaded card (now (text .entry)) (now (memory .entry)) store rows ⌝ }
+// A table that is refused leaves nothing behind.
+fn refused(memory: &mut [u8], s: &mut [u8], number: u8, line: u32) -> Outcome
+    requires { ⌜ length (now s) ≡ 2048 ⌝ }
+    ensures { λ r. ⌜ r ≡ Outcome.Refused number line ⌝ }
+    ensures { λ _. ⌜ now (memory .exit) ≡ cleared (now (memory .entry)) ⌝ }
+    ensures { λ _. ⌜ now (s .exit) ≡ freshBytes 16 ⌝ }
 {
     record::clear(memory);
+    state::fresh(s, 16);
+    Outcome::Refused { number, line }
+}
+
+// Whether a declared unit lacks its part of the store or its row.
+fn too_little(s: &[u8], store: usize, rows: usize) -> bool
+    requires { ⌜ length (now s) ≡ 2048 ⌝ }
+    ensures { λ r. ⌜ r ≡ tooLittle (shelfIn (now (s .entry))) store rows ⌝ }
+{
+    let units = s[805] as usize;
+    (store < store::PART * units) | (rows < units)
+}
+
+// Loads a table; the answer, the memory that holds its records, and the state with its units.
+pub fn load(
+    card: Card,
+    text: &[u8],
+    memory: &mut [u8],
+    s: &mut [u8],
+    store: usize,
+    rows: usize,
+) -> Outcome
+    requires { ⌜ length (now s) ≡ 2048 ⌝ }
+    ensures { λ r. ⌜ r ≡ loadingOf card (now (text .entry)) (now (memory .entry)) store rows .outcome ⌝ }
+    ensures { λ _. ⌜ now (memory .exit) ≡ loaded card (now (text .entry)) (now (memory .entry)) store rows ⌝ }
+    ensures { λ _. ⌜ now (s .exit) ≡ stateLoaded card (now (text .entry)) (now (memory .entry)) store rows ⌝ }
+{
     if LONGEST < text.len() {
-        return refused(1, 0);
+        return refused(memory, s, 1, 0);
     }
-    let p = read_lines(card, text, memory);
+    record::clear(memory);
+    state::fresh(s, 16);
+    let p = read_lines(card, text, memory, s);
     let verdict = p.verdict;
     if !verdict::is_fine(verdict) {
-        record::clear(memory);
-        return refused(verdict::number(verdict), p.lines);
+        return refused(memory, s, verdict::number(verdict), p.lines);
     }
-    let shelf = p.shelf;
-    let units = shelf.count as usize;
-    if (store < store::PART * units) | (rows < units) {
-        record::clear(memory);
-        return refused(7, 0);
+    if too_little(s, store, rows) {
+        return refused(memory, s, 7, 0);
     }
-    Loading {
-        outcome: Outcome::Loaded(p.used),
-        shelf,
-    }
+    Outcome::Loaded(p.used)
 }

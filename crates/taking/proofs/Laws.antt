@@ -1,7 +1,7 @@
--- What is written, and the two ways a take ends. Assumes nothing.
+-- What is written, and where the cell that leaves lies. Assumes nothing.
 use Prim.Native.Nat.{ℕ, _+_, _≤_, _<_}
 use native.Mathlib.Omega.{arith}
-use mathlib.Core.Path.{_≡_, refl, sym, ap, subst, _∙_}
+use mathlib.Core.Path.{_≡_, refl, ap, _∙_}
 use mathlib.Core.List.{List, [], _∷_, _++_, append-nil}
 use lib.ListN.{length, getD, drop, set, length-drop, drop-of-length-le}
 use lib.Seq.{drop-cons, set-at}
@@ -12,18 +12,13 @@ use Rattle.outlet.specs.Outlets.{capacity, queue}
 use Rattle.outlet.specs.declared.Mode.{Mode}
 use Rattle.outlet.specs.declared.Mode.the-variants.{One, Four}
 use Rattle.queueing.specs.Taking.{leaving, queues}
-use Rattle.queueing.specs.declared.Leaving as L
 use Rattle.queueing.specs.declared.Leaving.the-variants as leaves
 use Rattle.queueing.proofs.Leaves.{leaving-iff}
 use Rattle.store.specs.Places.{slotAt, outletSlot}
 use Rattle.store.proofs.Slots.{start-inside, slot-inside}
 use Rattle.shelf.specs.declared.Unit as U
-use Rattle.shelf.specs.declared.Shelf.{Shelf}
-use Rattle.answer.specs.declared.Answer.the-variants.{Taken, Empty}
-use Rattle.answer.specs.declared.Done.{Done}
-use Rattle.answer.specs.Answers.{#taken, none, row, ends}
-use Rattle.admit.specs.Admission.{unitAt, withUnit, Housed}
-use Rattle.taking.specs.Takes.{lineCell, handed, oldest, without, doneBy, bufferBy}
+use Rattle.admit.specs.Admission.{Housed}
+use Rattle.taking.specs.Takes.{lineCell}
 
 -- what is written one after the other is the line cell
 pub cell-written : (h : ℕ) (payload b : List ℕ) → length payload ≡ 48 → length b ≡ 53 → splice (set (splice b 0 (be4 h)) 4 (check h)) 5 payload ≡ lineCell h payload
@@ -56,28 +51,3 @@ module _ (u : U.Unit) (q : ℕ) (e : leaving (u .outlet) ≡ leaves.Queue q) whe
       let slot : outletSlot (u .outlet .limits) q (queue (u .outlet) q .head) < 146 =
       omega (arith, start-inside (u .outlet .limits) q (h .limits) leaving-few, fits .place some) in
       omega (arith, slot-inside place (outletSlot (u .outlet .limits) q (queue (u .outlet) q .head)) slot .1, h .inside)
-
--- how a take ends
-module _ (shelf : Shelf) (place : ℕ) (u : U.Unit) (same : u ≡ unitAt shelf place) (l : L.Leaving) (store buffer : List ℕ) where
-  pub empty-done : l ≡ leaves.Empty → ends Empty shelf none ≡ doneBy l shelf place
-  unfolding doneBy
-  empty-done e = rw e
-
-  pub empty-buffer : l ≡ leaves.Empty → buffer ≡ bufferBy l (unitAt shelf place) place store buffer
-  unfolding bufferBy
-  empty-buffer e = rw e
-
-  module _ (q : ℕ) (e : l ≡ leaves.Queue q) where
-    pub taken-done : ends Taken (withUnit shelf place (without u q)) (row place #taken) ≡ doneBy l shelf place
-    unfolding doneBy
-    taken-done = rw (e, ← same)
-
-    pub taken-buffer : handed u (oldest u q place store) ≡ bufferBy l (unitAt shelf place) place store buffer
-    unfolding bufferBy
-    taken-buffer = rw (e, ← same)
-
--- one row changes, or none
-pub done-fits : (l : L.Leaving) (shelf : Shelf) (place rows : ℕ) → place < 32 → place < rows → (doneBy l shelf place .rises .to ≤ 32) × (doneBy l shelf place .rises .to ≤ rows)
-unfolding doneBy
-done-fits (leaves.Queue q) shelf place rows h k = (omega arith, omega arith)
-done-fits leaves.Empty shelf place rows h k = (omega arith, omega arith)

@@ -5,17 +5,19 @@ use lib.Dec.{eqb}
 use lib.ListN.{length}
 use Rattle.octets.specs.Octets.{be4, four, part}
 use Rattle.header.specs.Check.{check}
+use Rattle.header.specs.declared.Link.{Link}
 use Rattle.card.specs.declared.Card.{Card}
 use Rattle.outlet.specs.Outlets.{capacity, queue}
+use Rattle.outlet.specs.declared.Outlet.{Outlet}
 use Rattle.queueing.specs.Taking.{leaving, marks, outgoing}
 use Rattle.queueing.specs.declared.Leaving as L
 use Rattle.queueing.specs.declared.Leaving.the-variants as leaves
 use Rattle.store.specs.Rings.{popped}
 use Rattle.store.specs.Places.{Cell, outletSlot, cellAt}
 use Rattle.shelf.specs.declared.Unit as U
-use Rattle.shelf.specs.declared.Shelf.{Shelf}
+use Rattle.shelf.specs.Shelf.{Shelf}
 use Rattle.answer.specs.declared.Answer.the-variants.{Taken, Empty}
-use Rattle.answer.specs.declared.Done.{Done}
+use Rattle.answer.specs.Done.{Done}
 use Rattle.answer.specs.Answers.{#taken, none, row, ends, refused}
 use Rattle.admit.specs.declared.Admitted as D
 use Rattle.admit.specs.Admission.{admitted, decided, unitAt, withUnit, withQueue}
@@ -24,9 +26,12 @@ use Rattle.admit.specs.Admission.{admitted, decided, unitAt, withUnit, withQueu
 unfoldable pub lineCell : ℕ → List ℕ → List ℕ
 lineCell header payload = be4 header ++ (check header ∷ payload)
 
--- a cell of the outlet as it leaves: marked as the outlet is "before it leaves", "The check is new"
+-- a cell of an outlet as it leaves on a link: marked as the outlet is "before it leaves", "The check is new"
+abbrev pub outward : Link → Outlet → Cell → List ℕ
+outward link outlet cell = lineCell (outgoing link (marks outlet) (four cell 4)) (part cell 8 48)
+
 abbrev pub handed : U.Unit → Cell → List ℕ
-handed u cell = lineCell (outgoing (u .settings .link) (marks (u .outlet)) (four cell 4)) (part cell 8 48)
+handed u cell = outward (u .settings .link) (u .outlet) cell
 
 -- the oldest cell of a queue, and the unit without it
 abbrev pub oldest : U.Unit → ℕ → ℕ → List ℕ → Cell

@@ -19,7 +19,7 @@ use Rattle.shelf.specs.Shelves.{unit, blank, declared, numberOf, findIn, placeF
 use Rattle.shelf.specs.Sessions.{hears, withSession}
 use Rattle.shelf.specs.declared.Settings.{Settings}
 use Rattle.shelf.specs.declared.Unit as U
-use Rattle.shelf.specs.declared.Shelf.{Shelf}
+use Rattle.shelf.specs.Shelf.{Shelf}
 use Rattle.shelf.specs.declared.Found.the-variants.{At, Nothing}
 use Rattle.shelf.proofs.Finding.{orElse, find-declared, find-kept}
 use Rattle.shelf.proofs.Hearing.{hears-with, hears-none}
@@ -74,7 +74,7 @@ pub record Stands (shelf : Shelf) (u top first : ℕ) (heard : ℕ → Bool) : T
   pub named : numberOf (getD (shelf .units) i blank) ≡ u
   pub tops : getD (shelf .units) i blank .settings .top ≡ top
   pub starts : getD (shelf .units) i blank .place ≡ size * first
-  pub four : length (getD (shelf .units) i blank .sessions) ≡ 4
+  pub all : length (getD (shelf .units) i blank .sessions) ≡ 32
   pub hearing : (s : ℕ) → s < 256 → hears (getD (shelf .units) i blank .sessions) s ≡ heard s
 
 pub record Shelved (told : List Line) : Type 0 where
@@ -122,12 +122,12 @@ module _ (shelf : Shelf) (n : U.Unit) (room : shelf .count < length (shelf .unit
         named = ap numberOf o ∙ s .named;
         tops = ap (λ x. x .settings .top) o ∙ s .tops;
         starts = ap (λ x. x .place) o ∙ s .starts;
-        four = ap (λ x. length (x .sessions)) o ∙ s .four;
+        all = ap (λ x. length (x .sessions)) o ∙ s .all;
         hearing = λ t h. ap (λ x. hears (x .sessions) t) o ∙ s .hearing t h;
       }
 
   -- and the new one stands
-  stands : (first : ℕ) (heard : ℕ → Bool) → findIn (declared shelf) (numberOf n) ≡ Nothing → n .place ≡ size * first → length (n .sessions) ≡ 4 → ((s : ℕ) → s < 256 → hears (n .sessions) s ≡ heard s) → Stands (declare shelf n) (numberOf n) (n .settings .top) first heard
+  stands : (first : ℕ) (heard : ℕ → Bool) → findIn (declared shelf) (numberOf n) ≡ Nothing → n .place ≡ size * first → length (n .sessions) ≡ 32 → ((s : ℕ) → s < 256 → hears (n .sessions) s ≡ heard s) → Stands (declare shelf n) (numberOf n) (n .settings .top) first heard
   stands first heard lost place four deaf =
       let m = more in
       record {
@@ -139,7 +139,7 @@ module _ (shelf : Shelf) (n : U.Unit) (room : shelf .count < length (shelf .unit
         named = ap numberOf new;
         tops = ap (λ x. x .settings .top) new;
         starts = ap (λ x. x .place) new ∙ place;
-        four = ap (λ x. length (x .sessions)) new ∙ four;
+        all = ap (λ x. length (x .sessions)) new ∙ four;
         hearing = λ t h. ap (λ x. hears (x .sessions) t) new ∙ deaf t h;
       }
 
@@ -211,9 +211,9 @@ module _ (told : List Line) (a session top : ℕ) (hs : session < 256) (w : Shel
         named = ap numberOf g ∙ s .named;
         tops = ap (λ x. x .settings .top) g ∙ s .tops;
         starts = ap (λ x. x .place) g ∙ s .starts;
-        four = ap (λ x. length (x .sessions)) g ∙ withSession-length (getD (shelfOf told .units) (s .i) blank .sessions) session ∙ s .four;
+        all = ap (λ x. length (x .sessions)) g ∙ withSession-length (getD (shelfOf told .units) (s .i) blank .sessions) session ∙ s .all;
         hearing = λ n h.
-            ap (λ x. hears (x .sessions) n) g ∙ hears-with (getD (shelfOf told .units) (s .i) blank .sessions) (s .four) session n hs h
+            ap (λ x. hears (x .sessions) n) g ∙ hears-with (getD (shelfOf told .units) (s .i) blank .sessions) (s .all) session n hs h
             ∙ ap (λ b. eqb session n || b) (s .hearing n h) ∙ rw (eq-eqb a u same);
       })
       (λ t.
@@ -227,7 +227,7 @@ module _ (told : List Line) (a session top : ℕ) (hs : session < 256) (w : Shel
         named = ap numberOf g ∙ s .named;
         tops = ap (λ x. x .settings .top) g ∙ s .tops;
         starts = ap (λ x. x .place) g ∙ s .starts;
-        four = ap (λ x. length (x .sessions)) g ∙ s .four;
+        all = ap (λ x. length (x .sessions)) g ∙ s .all;
         hearing = λ n h. ap (λ x. hears (x .sessions) n) g ∙ s .hearing n h ∙ rw (ne-eqb a u differ);
       })
 

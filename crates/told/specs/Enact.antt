@@ -9,7 +9,7 @@ use Rattle.record.specs.declared.Record as R
 use Rattle.record.specs.declared.Record.the-variants.{Drop as R·Drop, Route, Page as R·Page}
 use Rattle.record.specs.declared.Got.{Got}
 use Rattle.outlet.specs.Outlets.{Given}
-use Rattle.shelf.specs.declared.Shelf.{Shelf}
+use Rattle.shelf.specs.Shelf.{Shelf}
 use Rattle.line.specs.declared.Reading.{Reading}
 use Rattle.line.specs.declared.Reading.the-variants.{Good, Bad}
 use Rattle.line.specs.declared.Line.{Line}

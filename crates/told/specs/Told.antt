@@ -13,7 +13,7 @@ use Rattle.record.specs.declared.Record.the-variants.{Empty, Drop as R·Drop, R
 use Rattle.shelf.specs.Shelves.{unit, fresh, declared, findIn, blank}
 use Rattle.shelf.specs.Sessions.{withSession}
 use Rattle.shelf.specs.declared.Unit as U
-use Rattle.shelf.specs.declared.Shelf.{Shelf}
+use Rattle.shelf.specs.Shelf.{Shelf}
 use Rattle.shelf.specs.declared.Found.{Found}
 use Rattle.shelf.specs.declared.Found.the-variants.{At, Nothing}
 use Rattle.line.specs.declared.Line.{Line}

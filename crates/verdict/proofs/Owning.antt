@@ -4,7 +4,7 @@ use Prim.Native.Nat.{ℕ, _<_}
 use native.Mathlib.Omega.{arith}
 use lib.ListN.{length}
 use Rattle.shelf.specs.Shelves.{declared, findIn}
-use Rattle.shelf.specs.declared.Shelf.{Shelf}
+use Rattle.shelf.specs.Shelf.{Shelf}
 use Rattle.shelf.specs.declared.Found.the-variants.{At}
 use Rattle.shelf.proofs.Finding.{declared-length, find-at}
 

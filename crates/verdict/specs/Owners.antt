@@ -5,7 +5,7 @@ use lib.ListN.{getD}
 use Rattle.record.specs.Record.{size}
 use Rattle.shelf.specs.Shelves.{blank, declared, findIn}
 use Rattle.shelf.specs.declared.Unit as U
-use Rattle.shelf.specs.declared.Shelf.{Shelf}
+use Rattle.shelf.specs.Shelf.{Shelf}
 use Rattle.shelf.specs.declared.Found.{Found}
 use Rattle.shelf.specs.declared.Found.the-variants.{At, Nothing}
 use Rattle.verdict.specs.declared.Owner.{Owner}

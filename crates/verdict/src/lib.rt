@@ -6,11 +6,12 @@ use record::Got;
 use record::Record;
 use routing::Target;
 use shelf::Found;
-use shelf::Shelf;
 use shelf::Unit;
 ghost use mathlib.Core.Path.{_≡_};
 ghost use Prim.Native.Nat.{_*_, _+_, _≤_};
+ghost use lib.ListN.{length};
 ghost use Rattle.record.specs.Record.{size};
+ghost use Rattle.state.specs.Bytes.{shelfIn};
 ghost use Rattle.verdict.specs.Verdicts.{asked, roomFor, offBus as offBusIs, taken as takenIs, pageIn, numberOf, isFine};
 ghost use Rattle.verdict.specs.Owners.{ownerOf, spot as spotOf};
 
@@ -91,14 +92,15 @@ pub fn taken(got: Got) -> bool
 }
 
 // The declared unit with a number.
-pub fn find_owner(shelf: Shelf, number: u8) -> Owner
-    ensures { λ r. ⌜ r ≡ ownerOf shelf number ⌝ }
+pub fn find_owner(s: &[u8], number: u8) -> Owner
+    requires { ⌜ length (now s) ≡ 2048 ⌝ }
+    ensures { λ r. ⌜ r ≡ ownerOf (shelfIn (now (s .entry))) number ⌝ }
 {
-    let Found::At(i) = shelf::find(shelf, number) else {
-        let unit = shelf.units[0];
+    let Found::At(i) = state::find(s, number) else {
+        let unit = state::unit_at(s, 0);
         return Owner { known: false, unit };
     };
-    let unit = shelf.units[i];
+    let unit = state::unit_at(s, i);
     Owner { known: true, unit }
 }
 

@@ -3,10 +3,10 @@ use Prim.Native.Nat.{ℕ, _≤_, min}
 use native.Mathlib.Omega.{arith}
 use mathlib.Core.Path.{_≡_, refl, sym, ap, subst, _∙_}
 use mathlib.Core.Logic.{inl, ⊎-elim}
-use mathlib.Core.Bool.{false, cond}
-use mathlib.Core.List.{List, [], _∷_, map}
+use mathlib.Core.List.{List, [], _∷_, _++_, map}
 use borrow.Author.Tests.{le-leb}
-use lib.ListN.{length, getD, take, drop, replicate, length-replicate}
+use lib.ListN.{length, getD, take, drop, replicate, length-replicate, length-set}
+use lib.Seq.{getD-set-same}
 use Rattle.header.specs.declared.Link.the-variants.{Uni, Nni}
 use Rattle.card.specs.Cards.{holds as card-holds, narrowHolds}
 use Rattle.card.specs.declared.Card.{Card}
@@ -22,11 +22,10 @@ use Rattle.told.specs.Told.{same as same-whose, opens, gives as gives-record, h
 use Rattle.told.specs.Lines.{judge, run, Good}
 use Rattle.table.specs.declared.Outcome.the-variants as outcome
 use Rattle.line.specs.declared.Line.the-variants.{Bus}
-use Rattle.told.proofs.Grown.{decide}
 use Rattle.promise.specs.Narrow.{FirstWide}
 use Rattle.promise.proofs.Cards.{narrow-refuses-iff}
-use Rattle.running.specs.Refusing.{known, fits, refusal}
-use Rattle.running.proofs.Refused.{refusal-changes-nothing}
+use Rattle.running.specs.Lent.{Lent, does}
+use Rattle.running.proofs.InPlace.{loaded-seen}
 use Rattle.table.specs.Load.{readingsOf, ranOf, loadingOf, load}
 use Rattle.counters.specs.declared.Counters as C
 use Rattle.answer.specs.Answers.{numberOf, valuesOf}
@@ -34,8 +33,11 @@ use Rattle.answer.specs.declared.Answer.the-variants.{Refused}
 use Rattle.loading.specs.Loads.{answerOf}
 use Rattle.outlet.specs.Outlets.{capacity, given, ringFits, queueFits, ringsFit}
 use Rattle.soundness.specs.State.{every, among, noneRepeated, roomy, settingsGiven, asksKnown, arbiterKnown, soundOf}
-use Rattle.soundness.proofs.Facts.{sound-iff}
-use Rattle.shelf.specs.Shelves.{fresh}
+use Rattle.soundness.specs.Lanes.{lanes}
+use Rattle.soundness.specs.Soundings.{soundIn}
+use Rattle.state.specs.Bytes.{linkOf, modeOf, unitBy, unitsFrom, shelfIn}
+use Rattle.sentences.specs.Changes.{StateGood}
+use Rattle.sentences.proofs.Refused.{refused as rule}
 use Rattle.wording.specs.Words.{numeralTo, numeral, fieldsOf, parted, wordsOf, textOf, AllInRange}
 use Rattle.promise.specs.Says.{recordsOf, unitLines}
 use Rattle.promise.specs.Refusals.{Long, Accepts}
@@ -52,7 +54,7 @@ use Rattle.refining.proofs.Refined.{refines}
 use Rattle.paper.specs.Answers.{IsRefused}
 use Rattle.running.proofs.Opened.{told-idle}
 use Rattle.running.proofs.Tables.{table-refused, table-refused-iff, table-loaded-iff}
-use Rattle.witness.specs.Witness.{listing, ListingPrints, text, saidTo, Runs, AllRun, Refusals, Spoiled, spoiled, BeyondLoaded, bus-text, BusAlone}
+use Rattle.witness.specs.Witness.{listing, ListingPrints, text, saidTo, Runs, AllRun, Refusals, bytes, Spoiled, spoiled, columns, turn, running, BeyondLoaded, misformed, LinkByte, bus-text, BusAlone}
 
 -- A. 01's listing
 -- its text is that of its lines, in their ranges
@@ -233,19 +235,38 @@ refusals =
       store = (omega arith, refl, refl);
     }
 
+-- D. what is no state
+-- a state that is not good is refused with 8
+eight : (card : Card) (l : Lent) (e : Event) → length (l .state) ≡ 2048 → (StateGood card l → ⊥) → does card l e .said ≡ answers (Refused 8)
+eight card l e long bad =
+    let r = rule card l e long in
+    let n = r .state-8 .1 bad in
+    r .only-number (λ z. omega (arith, n, z)) ∙ ap (λ k. answers (Refused k)) n
+
+bytes-long : (written : List (ℕ × ℕ)) → length (bytes written) ≡ 2048
+unfolding bytes
+bytes-long [] = length-replicate {A = ℕ} 2048 0
+bytes-long (one ∷ more) = length-set (bytes more) (one .0) (one .1) ∙ bytes-long more
+
 -- no bus has 17 units
-unsound : (card : Card) → soundOf card (fresh 17) 0 0 ≡ false
-unsound card =
-    decide (soundOf card (fresh 17) 0 0)
-    (λ t. absurd (⊎-elim (λ e. omega (arith, e)) (λ e. omega (arith, e)) (sound-iff card (fresh 17) 0 0 .0 t .bus)))
-    (λ f. f)
-
 pub spoiled-state : Spoiled
+unfolding bytes
 spoiled-state card e =
-    let eight : refusal card spoiled e ≡ 8 = ap (λ b. cond b (cond (known (fresh 17) e) (cond (fits e) 0 10) 9) 8) (unsound card) in
-    ap (λ o. o .said) (refusal-changes-nothing card spoiled e (λ z. omega (arith, z, eight))) ∙ ap (λ n. answers (Refused n)) eight
+    let bus : getD (spoiled .state) 804 0 ≡ 17 = getD-set-same (replicate 2048 0) 804 17 0 (omega (arith, length-replicate {A = ℕ} 2048 0)) in
+    eight card spoiled e (bytes-long ((804, 17) ∷ [])) (λ good. ⊎-elim (λ x. omega (arith, x, bus)) (λ x. omega (arith, x, bus)) (good .sound .bus))
 
--- a shelf that was loaded has no frame behind it
+-- no link byte is 2
+pub link-byte : LinkByte
+unfolding bytes soundOf roomy settingsGiven given capacity ringFits queueFits ringsFit card-holds every among noneRepeated asksKnown arbiterKnown linkOf modeOf unitBy unitsFrom
+link-byte memory store rows e =
+    record {
+      sound = refl;
+      refuses =
+          eight Wide (record { state = misformed; memory = memory; store = store; rows = rows }) e (bytes-long ((32, 2) ∷ columns ++ turn))
+          (λ good. let link : getD misformed 32 0 ≤ 1 = good .formed .link 0 (omega arith) (omega arith) in omega arith);
+    }
+
+-- E. a state that was loaded has no frame behind it
 loaded-frame : (card : Card) (text memory : List ℕ) (store rows : ℕ) → load card text memory store rows .shelf .frame ≡ 0
 loaded-frame card text memory store rows =
     ⊎-elim
@@ -254,5 +275,11 @@ loaded-frame card text memory store rows =
     (either-way card text memory store rows)
 
 pub beyond-loaded : BeyondLoaded
-unfolding soundOf roomy settingsGiven given capacity ringFits queueFits ringsFit card-holds narrowHolds every among noneRepeated asksKnown arbiterKnown
-beyond-loaded = (refl, λ card text memory store rows e. let z = ap (λ s. s .frame) e in omega (arith, z, loaded-frame card text memory store rows))
+unfolding bytes soundIn lanes soundOf roomy settingsGiven given capacity ringFits queueFits ringsFit card-holds narrowHolds every among noneRepeated asksKnown arbiterKnown linkOf modeOf unitBy unitsFrom
+beyond-loaded = (
+  refl,
+  λ card text memory store rows e.
+      let z = ap (λ w. w .shelf .frame) (loaded-seen card text memory store rows) ∙ loaded-frame card text memory (length store) (length rows) in
+      let y : shelfIn running .frame ≡ 0 = ap (λ b. shelfIn b .frame) (sym e) ∙ z in
+      omega arith,
+)

@@ -1,26 +1,21 @@
 -- That the promises are not empty: 01's own table and events; a table, and runs in which every fate occurs; every refusal; sound shelves beyond the loaded ones. Assumes nothing.
-use Prim.Native.Nat.{ℕ, _≤_}
+use Prim.Native.Nat.{ℕ, _*_, _≤_}
 use mathlib.Core.Path.{_≡_}
-use mathlib.Core.Bool.{true, false}
+use mathlib.Core.Bool.{true}
 use mathlib.Core.List.{List, [], _∷_, _++_, map}
 use lib.ListN.{length, set, replicate}
 use Rattle.card.specs.declared.Card.{Card}
 use Rattle.card.specs.declared.Card.the-variants.{Narrow, Wide}
-use Rattle.header.specs.declared.Link.the-variants.{Uni}
-use Rattle.outlet.specs.Outlets.{empty, one}
-use Rattle.arbiter.specs.Arbitration.{nobody}
-use Rattle.shelf.specs.Shelves.{blank, fresh}
-use Rattle.shelf.specs.declared.Shelf.{Shelf}
+use Rattle.state.specs.Bytes.{shelfIn}
 use Rattle.soundness.specs.State.{soundOf}
-use Rattle.table.specs.Load.{load}
+use Rattle.soundness.specs.Soundings.{soundIn}
 use Rattle.counters.specs.declared.Counters as C
 use Rattle.answer.specs.declared.Answer.the-variants.{Refused}
 use Rattle.promise.specs.Starred.{path}
 use Rattle.document.specs.Events.{Event, Said, answers}
 use Rattle.document.specs.Examples.{events, printed}
 use Rattle.document.specs.Cases.{arrivals, arrivals-say, refusals, refusals-say, frames, frames-say, heard, heard-say, discards, discards-say, abr, abr-say}
-use Rattle.running.specs.Events.{World, happens}
-use Rattle.running.specs.Keeping.{loaded}
+use Rattle.running.specs.Lent.{Lent, does, loadedIn}
 use Rattle.paper.specs.Answers.{IsOk, IsRefused}
 use Rattle.running.specs.Tables.{answerTo}
 use Rattle.refining.specs.Refines.{gives}
@@ -39,7 +34,7 @@ listing =
 -- of each, held before. So a cell is routed, sent, heard and taken, with its bytes; then the queue is empty, and both are counted
 pub record Listing (card : Card) (memory store : List ℕ) (rows : List C.Counters) : Type 0 where
   pub load : IsOk (answerTo card listing memory (length store) (length rows)) 328
-  pub print : gives card (loaded card listing memory store rows) events ≡ printed
+  pub print : gives card (loadedIn card listing memory store rows) events ≡ printed
 
 abbrev pub ListingPrints : Type 0
 ListingPrints =
@@ -65,7 +60,7 @@ text =
 
 -- what the wide card says to a script after loading it
 abbrev pub saidTo : List ℕ → List ℕ → List C.Counters → List Event → List Said
-saidTo memory store rows es = map (λ b. b .said) (gives Wide (loaded Wide text memory store rows) es)
+saidTo memory store rows es = map (λ b. b .said) (gives Wide (loadedIn Wide text memory store rows) es)
 
 -- every fate of an arrival (`arrivals`), every fate of a copy (`heard`, `discards`), an ABR cell taken (`abr`), Unit and Length (`refusals`), sent, heard and unheard cells (`frames`): whatever a
 -- memory for its 342 records, a store for its three units and three rows held before
@@ -102,33 +97,40 @@ pub record Refusals : Type 0 where
   pub room : IsRefused (answerTo Wide five [] 8192 1) 6 2
   pub store : IsRefused (answerTo Wide five (replicate 8 0) 0 1) 7 0
 
+-- a state with these values at these bytes, and zeros elsewhere
+unfoldable pub bytes : List (ℕ × ℕ) → List ℕ
+bytes [] = replicate 2048 0
+bytes (one ∷ more) = set (bytes more) (one .0) (one .1)
+
 -- State: a bus of 17
-abbrev pub spoiled : World
-spoiled = record { shelf = fresh 17; memory = []; store = []; rows = [] }
+abbrev pub spoiled : Lent
+spoiled = record { state = bytes ((804, 17) ∷ []); memory = []; store = []; rows = [] }
 
 abbrev pub Spoiled : Type 0
-Spoiled = (card : Card) (e : Event) → happens card spoiled e .said ≡ answers (Refused 8)
+Spoiled = (card : Card) (e : Event) → does card spoiled e .said ≡ answers (Refused 8)
 
--- sound shelves are not only those that loading gives back: a unit with two cells from the last place of its inlet on, one of them granted and the other asking, three cells in its queue, frame 65,535
-abbrev pub running : Shelf
-running =
-    record {
-      bus = 16;
-      count = 1;
-      units = set (replicate 32 blank) 0
-          (record {
-            settings = record { number = 4; link = Uni; top = 5; priority = 2 };
-            outlet = record { limits = one 100 false .limits; queues = record { head = 122; count = 3 } ∷ empty ∷ empty ∷ empty ∷ [] };
-            inlet = record { head = 3; count = 2 };
-            place = 0;
-            sessions = replicate 4 0;
-          });
-      arbiter = record { last = nobody ∷ 4 ∷ nobody ∷ []; asks = set (replicate 32 0) 4 2 };
-      granted = 4;
-      frame = 65535;
-    }
+-- sound states are not only those that loading leaves: a unit with two cells from the last place of its inlet on, one of them granted and the other asking, three cells in its queue, frame 65,535
+abbrev pub columns : List (ℕ × ℕ)
+columns = (0, 4) ∷ (3 * 32, 5) ∷ (4 * 32, 2) ∷ (8 * 32, 100) ∷ (14 * 32, 3) ∷ (15 * 32, 2) ∷ (16 * 32, 122) ∷ (20 * 32, 3) ∷ []
+
+abbrev pub turn : List (ℕ × ℕ)
+turn = (772, 2) ∷ (800, 255) ∷ (801, 4) ∷ (802, 255) ∷ (803, 4) ∷ (804, 16) ∷ (805, 1) ∷ (806, 255) ∷ (807, 255) ∷ []
+
+abbrev pub running : List ℕ
+running = bytes (columns ++ turn)
 
 abbrev pub BeyondLoaded : Type 0
 BeyondLoaded =
-    (soundOf Narrow running 8192 1 ≡ true)
-    × ((card : Card) (text memory : List ℕ) (store rows : ℕ) → load card text memory store rows .shelf ≡ running → ⊥)
+    (soundIn Narrow running 8192 1 ≡ true)
+    × ((card : Card) (text memory store : List ℕ) (rows : List C.Counters) → loadedIn card text memory store rows .state ≡ running → ⊥)
+
+-- and the same with a link byte of 2 is none, though the shelf that it reads as, of an `nni` unit, is sound
+abbrev pub misformed : List ℕ
+misformed = bytes ((32, 2) ∷ columns ++ turn)
+
+pub record Misformed (memory store : List ℕ) (rows : List C.Counters) (e : Event) : Type 0 where
+  pub sound : soundOf Wide (shelfIn misformed) 8192 1 ≡ true
+  pub refuses : does Wide (record { state = misformed; memory = memory; store = store; rows = rows }) e .said ≡ answers (Refused 8)
+
+abbrev pub LinkByte : Type 0
+LinkByte = (memory store : List ℕ) (rows : List C.Counters) (e : Event) → Misformed memory store rows e

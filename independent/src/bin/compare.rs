@@ -5,7 +5,8 @@ use std::process::ExitCode;
 
 use independent::compare::episodes;
 use independent::compare::program::{Other, Own, Program};
-use independent::compare::script::table_of;
+use independent::compare::script::{differing_bytes, table_of};
+use independent::compare::settings::name_of;
 use independent::compare::tally::{grouped, Tally};
 use independent::compare::{Comparison, Fault, Finding};
 
@@ -73,11 +74,22 @@ fn print_finding(finding: &Finding, seed: u64) {
     match &finding.fault {
         Fault::Answers { line, judged, judge } => {
             println!("asked:   {}\nproved:  {}\nthis:    {}", text(line), given(judged), given(judge));
+            if let (Some(judged), Some(judge)) = (judged, judge) {
+                print_bytes(judged, judge);
+            }
         }
         Fault::Cards { line, wide, narrow } => {
             println!("asked:   {}\nwide:    {}\nnarrow:  {}", text(line), text(wide), text(narrow));
+            print_bytes(wide, narrow);
         }
         Fault::End => println!("the program said more than it was asked, or did not end well"),
+    }
+}
+
+/// Prints which bytes differ in two answers to `show state`.
+fn print_bytes(first: &[u8], second: &[u8]) {
+    for (at, [first, second]) in differing_bytes(first, second) {
+        println!("byte {at} ({}): {first:02X}, {second:02X}", name_of(at));
     }
 }
 
@@ -88,7 +100,7 @@ fn print_tally(tally: &Tally, full: bool) -> bool {
     if !missing.is_empty() {
         println!("never occurred: {}", missing.join(", "));
     }
-    let large = tally.tables >= 20_000 && tally.events >= 200_000;
+    let large = tally.tables >= 20_000 && tally.events >= 300_000;
     if full && !large {
         println!("too few tables or events for a full run");
     }

@@ -3,7 +3,8 @@
 use super::dice::Dice;
 use super::fixed;
 use super::script::{Line, Script};
-use super::spoil::{no_command, spoil, spoil_cells};
+use super::settings::set;
+use super::spoil::{mend, no_command, spoil, spoil_alike};
 use super::tables::{first_wide_line, nearly_good, spoiled, Draft, Wish};
 use super::traffic::Traffic;
 
@@ -11,6 +12,8 @@ use super::traffic::Traffic;
 pub const ROUND: u64 = 16;
 /// Tables in an episode of tables.
 const TABLES: usize = 11;
+/// Things spoiled in an episode of spoiling.
+const SPOILINGS: usize = 28;
 
 /// A script that stands alone.
 #[derive(Clone)]
@@ -123,8 +126,12 @@ fn after_table(dice: &mut Dice, script: &mut Script, draft: &Draft) {
     if dice.chance(70) {
         script.say("show memory");
     }
-    if dice.chance(30) {
-        script.say("show shelf");
+    if dice.chance(20) {
+        script.say("show state");
+    }
+    if dice.chance(10) {
+        let unit = draft.units.first().map_or(0, |unit| unit.number);
+        script.say(&format!("show unit {unit}"));
     }
     if dice.chance(20) {
         let events = dice.between(1, 12);
@@ -154,7 +161,7 @@ fn traffic(dice: &mut Dice, script: &mut Script) {
     let draft = Draft::new(dice, wish);
     stage(dice, script, &draft);
     if dice.chance(25) {
-        script.say(&format!("state frame 0 {}", dice.between(65_400, 65_535)));
+        set(script, &format!("frame 0 {}", dice.between(65_400, 65_535)));
     }
     let events = dice.between(100, 350);
     let flood = dice.chance(50);
@@ -177,7 +184,7 @@ fn busy(dice: &mut Dice, script: &mut Script) {
     let draft = Draft::new(dice, wish);
     stage(dice, script, &draft);
     if dice.chance(30) {
-        script.say(&format!("state frame 0 {}", dice.between(65_300, 65_535)));
+        set(script, &format!("frame 0 {}", dice.between(65_300, 65_535)));
     }
     let events = if dice.chance(8) { 4_000 } else { dice.between(300, 800) };
     let mut traffic = Traffic { dice, draft: &draft, script, faults: 0 };
@@ -195,14 +202,16 @@ fn spoiling(dice: &mut Dice, script: &mut Script) {
     stage(dice, script, &draft);
     let mut traffic = Traffic { dice, draft: &draft, script, faults: 3 };
     traffic.phases(30);
-    for number in 1..=24 {
+    for number in 1..=SPOILINGS {
         spoil(&mut traffic);
-        if number % 8 == 0 {
-            // A new start, as most states do not mend by themselves.
+        // Most states do not mend by themselves.
+        if number % 7 == 0 {
             traffic.script.show_all();
             traffic.script.say("card wide");
             stage(traffic.dice, traffic.script, &draft);
             traffic.phases(20);
+        } else if number % 7 == 4 {
+            mend(&mut traffic);
         }
     }
     script.show_all();
@@ -215,16 +224,16 @@ fn twin(dice: &mut Dice, script: &mut Script) {
     lend_around(dice, script, &draft);
     script.load(&draft.text());
     if dice.chance(30) {
-        script.say("state frame 0 65500");
+        set(script, "frame 0 65500");
     }
     let events = if first_wide_line(&draft.text()).is_some() { 5 } else { dice.between(30, 150) };
     let mut traffic = Traffic { dice, draft: &draft, script, faults: 2 };
     traffic.phases(events);
     for _ in 0..4 {
-        spoil_cells(&mut traffic);
+        spoil_alike(&mut traffic);
         traffic.phases(6);
     }
-    for part in ["store", "rows", "shelf"] {
+    for part in ["store", "rows", "state"] {
         script.say(&format!("show {part}"));
     }
     script.lines.retain(|line| line != b"show\tmemory");

@@ -1,7 +1,11 @@
-//! Fixed scripts: document 01's values on each side of a line, and figures 15 and 16 of document 004.
+//! Fixed scripts: document 01's values on each side of a line, figures 15 and 16 of document 004, and every byte of
+//! the state.
 
-use super::script::{cell, frame, to_unit, Script};
+use super::script::{cell, frame, poke_of, to_unit, Script};
+use super::settings::{byte_of, set};
 use crate::codec::{Header, Link};
+use crate::state::{State, ASKS, STATE_BYTES};
+use crate::{load, Card, Counters};
 
 /// Tabs shown as blanks.
 const LISTING: &str = "\
@@ -13,9 +17,9 @@ vc 0 5 33 u3 2 9 40
 ";
 
 #[rustfmt::skip]
-const SCRIPTS: [fn(&mut Script); 12] = [
-    fresh_start, listing, inlet, figure_15, figure_16, outgoing_vpi, states, mode_one, far_records, whole_memory,
-    long_texts, long_lines,
+const SCRIPTS: [fn(&mut Script); 17] = [
+    fresh_start, listing, inlet, figure_15, figure_16, outgoing_vpi, states, every_byte, every_value, whole_states,
+    units_shown, pokes, mode_one, far_records, whole_memory, long_texts, long_lines,
 ];
 
 /// Place 0 is unit 4 in mode one, place 1 unit 9 in mode four.
@@ -50,7 +54,9 @@ const STATES: &[&str] = &[
     "inletcount 0 1,granted 0 4,asks 4 2", "inletcount 0 2,granted 0 4,asks 4 2",
     "inletcount 0 2,granted 0 4,asks 4 3", "inletcount 0 1,inletcount 1 1,granted 0 9,asks 4 2",
     "inletcount 0 1,inletcount 1 1,granted 0 9,asks 9 3", "last 0 4", "last 1 9", "last 2 5", "last 2 31",
-    "last 0 254", "link 0 1", "link 2 1", "place 0 4294967295", "frame 0 65535", "mark 0 1",
+    "last 0 254", "link 0 1", "link 0 2", "link 0 255", "link 2 1", "link 2 255", "mode 0 2", "mode 0 255",
+    "mode 1 2", "mode 1 255", "mode 2 255", "mark 0 1", "mark 0 2", "mark 0 255", "mark 1 1", "mark 2 255",
+    "place 0 4294967295", "frame 0 65535", "byte 808 255", "byte 1023 1", "byte 1024 255", "byte 2047 255",
 ];
 
 pub fn count() -> u64 {
@@ -79,7 +85,7 @@ fn plain(vpi: u16, vci: u16, tail: u8) -> Header {
 fn fresh_start(script: &mut Script) {
     script.show_all();
     script.frames(2);
-    ["take 0 53", "count 0", "show shelf"].iter().for_each(|line| script.say(line));
+    ["take 0 53", "count 0", "show state", "show unit 0"].iter().for_each(|line| script.say(line));
     script.load(b"");
     script.show_all();
 }
@@ -115,10 +121,148 @@ fn states(script: &mut Script) {
         script.say(card);
         script.lend(200, 16_384, 2);
         script.load(TWO_UNITS.replace(' ', "\t").as_bytes());
-        settings.split(',').for_each(|setting| script.say(&format!("state {setting}")));
+        settings.split(',').for_each(|setting| set(script, setting));
         script.arrive(4, &cell(plain(2, 7, 0).write(Link::Uni), &[9; 48]));
         script.frames(2);
-        ["take 9 53", "take 4 53", "count 4", "show shelf"].iter().for_each(|line| script.say(line));
+        ["take 9 53", "take 4 53", "count 4", "show state"].iter().for_each(|line| script.say(line));
+    }
+    script.show_all();
+}
+
+/// Two units with cells, an open grant, requests and last grants.
+const BUSY: &str = "\
+inlethead 0 3,inletcount 0 2,inlethead 1 1,inletcount 1 1,queuehead 0 100,queuecount 0 50,queuehead 4 1,queuecount 4 1,\
+queuehead 5 7,queuecount 5 30,queuehead 6 20,queuecount 6 19,queuehead 7 31,queuecount 7 32,granted 0 4,asks 4 2,\
+asks 9 3,last 1 4,last 2 9,frame 0 258";
+
+/// Loads the two units and makes them busy; gives the bytes of the state.
+fn stage_busy(script: &mut Script, card: &str) -> State {
+    let table = TWO_UNITS.replace(' ', "\t");
+    script.say(card);
+    script.lend(200, 16_384, 2);
+    script.load(table.as_bytes());
+    let mut pokes = Script::default();
+    BUSY.split(',').for_each(|setting| set(&mut pokes, setting));
+    let (shelf, _) = load(Card::Wide, table.as_bytes(), &mut [0; 200], 16_384, &mut [Counters::default(); 2]);
+    let mut state = shelf.state;
+    for (at, bytes) in pokes.lines.iter().filter_map(|line| poke_of(line)) {
+        state.bytes_mut()[at..at + bytes.len()].copy_from_slice(&bytes);
+    }
+    script.lines.append(&mut pokes.lines);
+    ["show state", "count 4"].iter().for_each(|line| script.say(line));
+    state
+}
+
+/// Every byte of the state by itself, also those that no event looks at.
+fn every_byte(script: &mut Script) {
+    let state = stage_busy(script, "card wide");
+    for (at, byte) in state.bytes().iter().enumerate() {
+        for other in [0, 1, 255] {
+            script.poke(at, &[other]);
+            script.say("count 4");
+        }
+        script.poke(at, &[*byte]);
+    }
+    script.show_all();
+}
+
+/// Every value of each byte that is judged, by itself.
+fn every_value(script: &mut Script) {
+    let state = stage_busy(script, "card wide");
+    let units = (0..ASKS).flat_map(|column| [0, 1].map(|place| byte_of(column, place)));
+    let asks = [4, 9, 10].map(|number| byte_of(ASKS, number));
+    for at in units.chain(asks).chain(800..808) {
+        for value in 0..=255 {
+            script.poke(at, &[value]);
+            script.say("count 9");
+        }
+        script.poke(at, &[state.bytes()[at]]);
+    }
+    let state = stage_busy(script, "card narrow");
+    for at in [32, 33, 34, 64, 96, 804, 805] {
+        for value in [0, 1, 2, 15, 16, 31, 32, 33, 255] {
+            script.poke(at, &[value]);
+            script.say("count 9");
+        }
+        script.poke(at, &[state.bytes()[at]]);
+    }
+    script.show_all();
+}
+
+/// States put in place whole: kept, put back, and nonsense.
+fn whole_states(script: &mut Script) {
+    for card in ["card wide", "card narrow"] {
+        let state = stage_busy(script, card);
+        script.frames(3);
+        ["take 9 53", "show state", "show unit 9"].iter().for_each(|line| script.say(line));
+        // What was kept is put back: the same events follow.
+        script.poke(0, state.bytes());
+        script.frames(3);
+        ["take 9 53", "show state", "show unit 9"].iter().for_each(|line| script.say(line));
+        for byte in [0, 1, 2, 4, 16, 32, 255] {
+            script.poke(0, &[byte; STATE_BYTES]);
+            script.arrive(byte.into(), &cell(plain(2, 7, 0).write(Link::Uni), &[9; 48]));
+            script.frames(1);
+            for line in ["take", "count", "show unit"] {
+                script.say(&format!("{line} {byte}{}", if line == "take" { " 53" } else { "" }));
+            }
+            script.say("show state");
+        }
+        // A load writes every byte, whatever stood there.
+        for table in [TWO_UNITS, "bus 32\n", "nonsense\n"] {
+            script.poke(0, &[0xA5; STATE_BYTES]);
+            script.load(table.replace(' ', "\t").as_bytes());
+            script.show_all();
+        }
+    }
+}
+
+/// One unit by name: found in the first of its places, whatever the bytes are.
+fn units_shown(script: &mut Script) {
+    stage_busy(script, "card wide");
+    let show = |script: &mut Script| {
+        for unit in ["0", "4", "9", "16", "254", "255", "256", "4294967551", "18446744073709551871"] {
+            script.say(&format!("show unit {unit}"));
+        }
+    };
+    show(script);
+    #[rustfmt::skip]
+    let settings = [
+        "link 0 1", "link 0 2", "link 0 255", "mode 0 1", "mode 0 2", "mode 0 255", "mark 0 2", "mark 0 255",
+        "top 0 65535", "top 0 256", "place 0 4294967295", "place 0 16909060", "priority 0 255", "cbrlength 0 254",
+        "cbrlimit 0 253", "vbrlimit 0 252", "inlethead 0 251", "inletcount 0 250", "queuehead 0 249",
+        "queuehead 1 248", "queuehead 2 247", "queuehead 3 246", "queuecount 0 245", "queuecount 1 244",
+        "queuecount 2 243", "queuecount 3 242", "byte 1024 129", "byte 1025 1", "byte 1055 128", "byte 1056 2",
+        "number 1 4", "number 0 255", "number 1 255", "count 0 1", "count 0 0", "count 0 3", "count 0 32",
+        "number 31 9", "count 0 33", "count 0 255", "number 2 16", "bus 0 0",
+    ];
+    for setting in settings {
+        set(script, setting);
+        show(script);
+    }
+    script.poke(1_024, &[255; 32]);
+    show(script);
+    script.poke(1_024, &[0; 32]);
+    show(script);
+}
+
+/// Pokes at the edges of what is lent and of the state.
+fn pokes(script: &mut Script) {
+    stage(script, LISTING);
+    for (part, length) in [("memory", 16_384), ("store", 32_768), ("state", STATE_BYTES)] {
+        let end = length - 1;
+        for (at, bytes) in
+            [(end, "5A"), (end, "5a5A"), (length, "00"), (length, ""), (length + 1, ""), (0, ""), (5, "aBcD")]
+        {
+            script.say(&format!("poke {part} {at} {bytes}"));
+        }
+        for at in ["18446744073709551615", "18446744073709551616", "00", "-1", ""] {
+            script.say(&format!("poke {part} {at} 00"));
+        }
+        script.say_bytes(&format!("poke {part} 0"), &vec![0x5A; length]);
+        script.say_bytes(&format!("poke {part} 0"), &vec![0xA5; length + 1]);
+        script.say_bytes(&format!("poke {part} 1"), &vec![0xA5; length]);
+        script.say(&format!("show {part}"));
     }
     script.show_all();
 }
@@ -238,7 +382,7 @@ fn far_records(script: &mut Script) {
         }
         script.say_bytes(&format!("poke memory {record}"), &bytes);
         for place in [record - 40, record - 39, 300_000, u32::MAX - 47, u32::MAX] {
-            script.say(&format!("state place 0 {place}"));
+            set(script, &format!("place 0 {place}"));
             script.arrive(0, &line_cell);
         }
         script.frames(2);

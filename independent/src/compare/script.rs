@@ -1,7 +1,7 @@
 //! Scripts of console lines, and the cells and frames in them.
 
 use crate::codec::{header_check, parity, Header, Link, Routing, Target};
-use crate::text::{hex_bytes, push_hex};
+use crate::text::{hex_bytes, number, push_hex};
 use crate::{CELL_BYTES, FRAME_BYTES};
 
 /// A line without its newline.
@@ -46,18 +46,37 @@ impl Script {
         self.say_bytes(&format!("hear {unit}"), frame);
     }
 
+    /// Writes bytes of the state.
+    pub fn poke(&mut self, at: usize, bytes: &[u8]) {
+        self.say_bytes(&format!("poke state {at}"), bytes);
+    }
+
     pub fn frames(&mut self, count: usize) {
         (0..count).for_each(|_| self.say("frame 57"));
     }
 
     pub fn show_all(&mut self) {
-        ["memory", "store", "rows", "shelf"].iter().for_each(|part| self.say(&format!("show {part}")));
+        ["memory", "store", "rows", "state"].iter().for_each(|part| self.say(&format!("show {part}")));
     }
 }
 
 /// The table in a `load` line.
 pub fn table_of(line: &[u8]) -> Option<Vec<u8>> {
     line.strip_prefix(b"load\t").and_then(hex_bytes)
+}
+
+/// Where a `poke` of the state writes, and what.
+pub fn poke_of(line: &[u8]) -> Option<(usize, Vec<u8>)> {
+    let mut fields = line.strip_prefix(b"poke\tstate\t")?.split(|byte| *byte == b'\t');
+    let (at, bytes) = (number(fields.next()?)?, hex_bytes(fields.next()?)?);
+    fields.next().is_none().then_some((at.try_into().ok()?, bytes))
+}
+
+/// Bytes that differ in two answers to `show state`, each with its place; none in other answers.
+pub fn differing_bytes(first: &[u8], second: &[u8]) -> Vec<(usize, [u8; 2])> {
+    let shown = |answer: &[u8]| answer.strip_prefix(b"show\tstate\t").and_then(hex_bytes).unwrap_or_default();
+    let pairs = shown(first).into_iter().zip(shown(second)).enumerate();
+    pairs.filter(|(_, (first, second))| first != second).map(|(at, (first, second))| (at, [first, second])).collect()
 }
 
 /// A `load` line of a table.

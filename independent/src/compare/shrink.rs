@@ -1,6 +1,6 @@
 //! Cutting a script that shows a fault down to what it takes to show it.
 
-use super::script::{load_line, table_of, Line};
+use super::script::{load_line, poke_of, table_of, Line, Script};
 
 /// Most tries, as each may start a slow program.
 const TRIES_MAX: usize = 3_000;
@@ -25,7 +25,29 @@ pub fn shrink(lines: Vec<Line>, shows: &mut dyn FnMut(&[Line]) -> bool) -> Vec<L
         });
         lines[at] = load_line(&shorter.concat());
     }
+    // From the end, as a poke that becomes several moves those after it.
+    for at in (0..lines.len()).rev() {
+        let Some((first, bytes)) = poke_of(&lines[at]) else {
+            continue;
+        };
+        let poked: Vec<_> = bytes.into_iter().enumerate().map(|(index, byte)| (first + index, byte)).collect();
+        let with = |poked: &[(usize, u8)]| [&lines[..at], &pokes(poked), &lines[at + 1..]].concat();
+        if limited(&with(&poked)) {
+            let fewer = cut(poked, &mut |poked| limited(&with(poked)));
+            lines = with(&fewer);
+        }
+    }
     cut(lines, &mut limited)
+}
+
+/// The lines that poke these bytes of the state, neighbours together.
+fn pokes(poked: &[(usize, u8)]) -> Vec<Line> {
+    let mut script = Script::default();
+    for together in poked.chunk_by(|before, after| before.0 + 1 == after.0) {
+        let bytes: Vec<u8> = together.iter().map(|(_, byte)| *byte).collect();
+        script.poke(together[0].0, &bytes);
+    }
+    script.lines
 }
 
 /// Leaves out what can be left out: halves first, then smaller pieces, then single ones.

@@ -1,78 +1,80 @@
-//! Random spoiling: of fields of the shelf, of memory, store and rows, and lines that are no commands.
+//! Random spoiling: of the state, of memory, store and rows, and lines that are no commands.
 
 use super::dice::Dice;
 use super::script::Script;
-use super::tables::{Draft, DraftUnit};
+use super::settings::{byte_of, set};
+use super::states::{loaded, made};
+use super::tables::{Draft, DraftUnit, SESSIONS};
 use super::traffic::{Traffic, Weights};
 use crate::codec::Link;
-
-/// Every field of `state` with its number of places and highest value.
-const FIELDS: [(&str, u64, u64); 21] = [
-    ("bus", 1, 255),
-    ("count", 1, 255),
-    ("granted", 1, 255),
-    ("frame", 1, 65_535),
-    ("last", 3, 255),
-    ("asks", 32, 255),
-    ("number", 32, 255),
-    ("priority", 32, 255),
-    ("cbrlength", 32, 255),
-    ("cbrlimit", 32, 255),
-    ("vbrlimit", 32, 255),
-    ("inlethead", 32, 255),
-    ("inletcount", 32, 255),
-    ("link", 32, 1),
-    ("mode", 32, 1),
-    ("mark", 32, 1),
-    ("top", 32, 65_535),
-    ("place", 32, 4_294_967_295),
-    ("queuehead", 128, 255),
-    ("queuecount", 128, 255),
-    ("sessions", 128, u64::MAX),
-];
+use crate::state::{self, ASKS, SHELF, STATE_BYTES};
+use crate::UNITS_MAX;
 
 /// A few events after each spoiling.
 const AFTER: Weights = Weights { arrive: 30, frame: 30, take: 30, hear: 15 };
 
+/// Bytes on either side of what some field may hold.
+const EDGES: [u8; 20] = [0, 1, 2, 3, 4, 5, 15, 16, 17, 31, 32, 33, 40, 88, 89, 90, 123, 124, 254, 255];
+
 #[rustfmt::skip]
-const NO_COMMANDS: [&str; 30] = [
+const NO_COMMANDS: [&str; 44] = [
     "", " ", "bad", "card", "card both", "card wide ", "Card wide", "lend memory 300001 00", "lend memory 5 0",
     "lend store 5 000", "lend rows 41 0", "lend rows 1 4294967296", "lend rows 01 0", "load", "load 0", "load GG",
     "arrive 0", "arrive 0 0", "arrive 00 00", "arrive x 00", "hear 0 ZZ", "frame", "frame 1001", "frame 057",
-    "take 0 1001", "take 0", "count", "count -1", "show", "show all",
+    "take 0 1001", "take 0", "count", "count -1", "show", "show all", "lend state 5 00", "poke state 2048 00",
+    "poke state 2047 0000", "poke state 0 0", "poke state 00 00", "poke state 0", "poke shelf 0 00",
+    "state bus 0 16", "show shelf", "show state 0", "show unit", "show unit x", "show unit 00", "show unit 0 0",
 ];
 
 /// Spoils one thing, lets some events see it, and at times mends it.
 pub fn spoil(traffic: &mut Traffic) {
-    match traffic.dice.roll(20) {
-        0..=5 => state_and_back(traffic),
-        6..=7 => grants(traffic),
-        8..=10 => any_state(traffic),
-        11..=13 => poke_memory(traffic),
-        14..=15 => poke_store(traffic),
-        16 => lend_again(traffic),
-        17 => {
+    match traffic.dice.roll(28) {
+        0..=6 => setting_and_back(traffic),
+        7..=8 => grants(traffic),
+        9..=10 => any_byte(traffic),
+        11..=12 => column_and_back(traffic),
+        13..=14 => whole_state(traffic),
+        15 => sessions(traffic),
+        16..=17 => not_judged(traffic),
+        18..=20 => poke_memory(traffic),
+        21..=22 => poke_store(traffic),
+        23 => lend_again(traffic),
+        24 => {
             let card = traffic.dice.pick(&["card narrow", "card wide", "card wide"]);
             traffic.script.say(card);
         }
-        18 => no_command(traffic.dice, traffic.script),
+        25 => no_command(traffic.dice, traffic.script),
         _ => change_a_line(traffic),
     }
-    let events = traffic.dice.between(1, 5);
+    events(traffic, 5);
+}
+
+/// Some events, up to so many.
+fn events(traffic: &mut Traffic, most: u64) {
+    let events = traffic.dice.between(1, most);
     (0..events).for_each(|_| traffic.event(AFTER));
 }
 
-/// Spoils queued cells only, which both cards have alike.
-pub fn spoil_cells(traffic: &mut Traffic) {
+/// Spoils only what both cards have alike.
+pub fn spoil_alike(traffic: &mut Traffic) {
     let place = traffic.dice.index(traffic.draft.units.len().max(1));
-    match traffic.draft.units.get(place) {
-        Some(unit) if traffic.dice.chance(50) => {
+    match (traffic.draft.units.get(place), traffic.dice.roll(8)) {
+        (Some(unit), 0..=2) => {
             let (field, edges, _) = queue_setting(traffic.dice, unit, place);
             let value = traffic.dice.pick(&edges);
-            traffic.script.say(&format!("state {field} {value}"));
+            set(traffic.script, &format!("{field} {value}"));
         }
+        (_, 3) => mend(traffic),
+        (_, 4) => sessions(traffic),
+        (_, 5) => not_judged(traffic),
         _ => poke_store(traffic),
     }
+}
+
+/// Puts a state in place that 01 knows.
+pub fn mend(traffic: &mut Traffic) {
+    let state = made(traffic.dice, traffic.draft);
+    traffic.script.poke(0, state.bytes());
 }
 
 /// Cells, grant and request of one unit together, as each bears on the others.
@@ -89,20 +91,19 @@ fn grants(traffic: &mut Traffic) {
         (format!("asks {number}"), dice.pick(&[0, priority, priority, 1, 2, 3])),
         (format!("last {}", priority.clamp(1, 3) - 1), dice.pick(&[number, 255])),
     ];
-    settings.iter().for_each(|(field, value)| traffic.script.say(&format!("state {field} {value}")));
+    settings.iter().for_each(|(field, value)| set(traffic.script, &format!("{field} {value}")));
 }
 
 /// One setting on either side of what is sound, then one that is sound by itself.
-fn state_and_back(traffic: &mut Traffic) {
+fn setting_and_back(traffic: &mut Traffic) {
     let (field, edges, back) = setting(traffic.dice, traffic.draft);
     let value = traffic.dice.pick(&edges);
-    traffic.script.say(&format!("state {field} {value}"));
-    let events = traffic.dice.between(1, 6);
-    (0..events).for_each(|_| traffic.event(AFTER));
+    set(traffic.script, &format!("{field} {value}"));
+    events(traffic, 6);
     if traffic.dice.chance(30) {
         traffic.look();
     }
-    traffic.script.say(&format!("state {field} {back}"));
+    set(traffic.script, &format!("{field} {back}"));
 }
 
 /// A field with its place, values around its edges, and a value of a sound shelf.
@@ -118,13 +119,13 @@ fn setting(dice: &mut Dice, draft: &Draft) -> (String, Vec<u64>, u64) {
     let (name, edges, back): (&str, Vec<u64>, u64) = match dice.roll(9) {
         0 => ("number", vec![0, 15, 16, 31, 32, 255, u64::from(draft.units[0].number)], unit.number.into()),
         1 => ("priority", vec![0, 1, 2, 3, 4, 255], unit.priority.into()),
-        2 => ("link", vec![0, 1], u64::from(unit.link == Link::Nni)),
-        3 => ("mode", vec![0, 1], unit.four.into()),
+        2 => ("link", vec![0, 1, 1, 2, 255], u64::from(unit.link == Link::Nni)),
+        3 => ("mode", vec![0, 1, 2, 255], unit.four.into()),
         4 => ("cbrlength", vec![0, 1, 30, 88, 89, 90, 255], unit.cbr_length.into()),
         5 => ("cbrlimit", vec![0, 1, unit.cbr_length.into(), u64::from(unit.cbr_length) + 1], unit.cbr_limit.into()),
         6 => ("vbrlimit", vec![0, 1, 49, 88, 89, 123, 124, 255], unit.vbr_limit.into()),
         7 => ("top", vec![0, 255, 256, 4_095, 4_096, 65_535], unit.top.into()),
-        _ => ("mark", vec![0, 1], unit.mark.into()),
+        _ => ("mark", vec![0, 1, 2, 255], unit.mark.into()),
     };
     (format!("{name} {place}"), edges, back)
 }
@@ -162,20 +163,91 @@ fn queue_setting(dice: &mut Dice, unit: &DraftUnit, place: usize) -> (String, Ve
     }
 }
 
-/// Any field in any of its places, mostly one that can matter.
-fn any_state(traffic: &mut Traffic) {
-    let (name, places, highest) = traffic.dice.pick(&FIELDS);
-    let near = (traffic.draft.units.len() as u64).clamp(1, 32) * if places == 128 { 4 } else { 1 };
-    let among = if traffic.dice.chance(80) { near.min(places) } else { places };
-    let place = traffic.dice.roll(among);
-    let any = traffic.dice.word();
-    let value = match traffic.dice.roll(4) {
-        0 => highest,
-        1 if name == "place" => any % 300_000,
-        1 => any % highest.max(1),
-        _ => traffic.dice.roll(6).min(highest),
+/// Any byte of the state, mostly one that can matter.
+fn any_byte(traffic: &mut Traffic) {
+    let dice = &mut *traffic.dice;
+    let place = dice.index(traffic.draft.units.len().clamp(1, UNITS_MAX));
+    let number = traffic.draft.units.get(place).map_or(0, |unit| unit.number);
+    let at = match dice.roll(8) {
+        0..=3 => byte_of(dice.index(ASKS), place),
+        4 => byte_of(ASKS, number.into()),
+        5 => byte_of(SHELF, dice.index(8)),
+        6 => byte_of(state::SESSIONS + place, usize::from(dice.pick(&SESSIONS) / 8)),
+        _ => dice.index(STATE_BYTES),
     };
-    traffic.script.say(&format!("state {name} {place} {value}"));
+    let byte = if dice.chance(70) { dice.pick(&EDGES) } else { dice.byte() };
+    traffic.script.poke(at, &[byte]);
+}
+
+/// A whole column, then the one that the table gives.
+fn column_and_back(traffic: &mut Traffic) {
+    let dice = &mut *traffic.dice;
+    let column = dice.index(ASKS + 1);
+    let back = loaded(traffic.draft).columns[column];
+    let mut bytes = back;
+    let declared = traffic.draft.units.len();
+    let edge = dice.pick(&EDGES);
+    match dice.roll(4) {
+        0 => bytes.fill(edge),
+        1 => bytes.fill_with(|| dice.byte()),
+        2 => bytes.fill_with(|| dice.roll(4) as u8),
+        // Only where no unit is declared.
+        _ => bytes[declared..].fill(edge),
+    }
+    traffic.script.poke(byte_of(column, 0), &bytes);
+    events(traffic, 6);
+    if traffic.dice.chance(30) {
+        traffic.look();
+    }
+    traffic.script.poke(byte_of(column, 0), &back);
+}
+
+/// All bytes: of a state that 01 knows, at times with one byte changed, in one poke or in two.
+fn whole_state(traffic: &mut Traffic) {
+    let dice = &mut *traffic.dice;
+    let mut state = made(dice, traffic.draft);
+    if dice.chance(40) {
+        let place = dice.index(traffic.draft.units.len().clamp(1, UNITS_MAX));
+        let (column, edge) = (dice.index(ASKS), dice.pick(&EDGES));
+        state.columns[column][place] = edge;
+    }
+    let middle = if dice.chance(20) { dice.index(STATE_BYTES + 1) } else { 0 };
+    let (first, second) = state.bytes().split_at(middle);
+    if !first.is_empty() {
+        traffic.script.poke(0, first);
+    }
+    traffic.script.poke(middle, second);
+    events(traffic, 20);
+}
+
+/// Other sessions for a unit, and frames for them.
+fn sessions(traffic: &mut Traffic) {
+    let dice = &mut *traffic.dice;
+    let place = dice.index(traffic.draft.units.len().max(1));
+    let column = byte_of(state::SESSIONS + place, 0);
+    let (at, bytes) = match dice.roll(4) {
+        0 => (column, vec![dice.pick(&[0, 255]); UNITS_MAX]),
+        1 => (column, dice.bytes(UNITS_MAX)),
+        _ => (column + usize::from(dice.pick(&SESSIONS) / 8), vec![dice.byte()]),
+    };
+    traffic.script.poke(at, &bytes);
+    (0..4).for_each(|_| traffic.hear());
+}
+
+/// Bytes that no event looks at: free ones, or of a place that is not declared.
+fn not_judged(traffic: &mut Traffic) {
+    let dice = &mut *traffic.dice;
+    let declared = traffic.draft.units.len();
+    let free = 808 + dice.index(1_024 - 808);
+    let place = declared + dice.index((UNITS_MAX - declared).max(1));
+    let at = match dice.roll(3) {
+        _ if place >= UNITS_MAX => free,
+        0 => free,
+        1 => byte_of(dice.index(ASKS), place),
+        _ => byte_of(state::SESSIONS + place, dice.index(UNITS_MAX)),
+    };
+    let edge = dice.pick(&EDGES);
+    traffic.script.poke(at, &[edge]);
 }
 
 /// Changes a record of the memory, at its kind or anywhere in it.

@@ -2,6 +2,9 @@
 
 use std::collections::BTreeMap;
 
+use super::script::poke_of;
+use super::settings::{name_of, JUDGED, NOT_JUDGED};
+
 const COUNTERS: [&str; 13] = [
     "arrived",
     "hec",
@@ -61,9 +64,10 @@ const WANTED: &[&str] = &[
     "poke ok",
     "show memory",
     "show rows",
-    "show shelf",
+    "show state",
     "show store",
-    "state ok",
+    "show unit",
+    "show unit refused 9",
     "take cell",
     "take empty",
     "take refused 8",
@@ -81,6 +85,8 @@ pub struct Tally {
     pub events: u64,
     /// Whether the counters have counted since a good load and nothing else.
     counting: bool,
+    /// Names of the bytes that each poke since the last event wrote.
+    poked: Vec<Option<&'static str>>,
 }
 
 impl Tally {
@@ -91,8 +97,15 @@ impl Tally {
         let fields: Vec<&str> = answer.split('\t').collect();
         let word = fields[0];
         self.tables += u64::from(word == "load");
-        self.events += u64::from(["arrive", "hear", "frame", "take", "count"].contains(&word));
+        let is_event = ["arrive", "hear", "frame", "take", "count"].contains(&word);
+        self.events += u64::from(is_event);
+        if is_event {
+            self.add_poked(fields[1..].starts_with(&["refused", "8"]));
+        } else if word == "poke" {
+            self.poked.push(poked_name(line));
+        }
         match fields[..] {
+            ["show", "unit", "refused", _] => self.bump("show unit refused 9"),
             [word, "refused", number, ..] => self.bump(&format!("{word} refused {number}")),
             ["frame", number, sender, granted, copies, _] => self.add_frame(number, sender, granted, copies),
             ["count", _, ref counters @ ..] => self.add_counters(counters),
@@ -134,6 +147,14 @@ impl Tally {
         }
     }
 
+    /// The first event after a single poke shows whether State bears it.
+    fn add_poked(&mut self, refused: bool) {
+        if let [Some(name)] = self.poked[..] {
+            self.bump(&format!("poked {name} {}", if refused { "refused" } else { "borne" }));
+        }
+        self.poked.clear();
+    }
+
     /// Counters above 0 show what no answer names, such as `unheard`.
     fn add_counters(&mut self, counters: &[&str]) {
         self.bump("count read");
@@ -155,13 +176,22 @@ impl Tally {
     pub fn missing(&self) -> Vec<String> {
         let wanted = WANTED.iter().map(|kind| kind.to_string());
         let counters = COUNTERS.iter().map(|name| format!("counter {name}"));
-        wanted.chain(counters).filter(|kind| !self.kinds.contains_key(kind)).collect()
+        let refused = JUDGED.iter().map(|name| format!("poked {name} refused"));
+        let borne = JUDGED.iter().chain(&NOT_JUDGED).map(|name| format!("poked {name} borne"));
+        wanted.chain(counters).chain(refused).chain(borne).filter(|kind| !self.kinds.contains_key(kind)).collect()
     }
 
     /// Every kind with how often it occurred, one a line.
     pub fn report(&self) -> String {
         self.kinds.iter().map(|(kind, count)| format!("{kind}: {}\n", grouped(*count))).collect()
     }
+}
+
+/// The name of all bytes that a `poke` of the state writes; None if they have several.
+fn poked_name(line: &[u8]) -> Option<&'static str> {
+    let (at, bytes) = poke_of(line)?;
+    let name = name_of(at);
+    (0..bytes.len()).all(|index| name_of(at + index) == name).then_some(name)
 }
 
 /// A number with commas between thousands.

@@ -84,11 +84,15 @@ impl Traffic<'_> {
 
     /// Looks at something without changing it.
     pub fn look(&mut self) {
-        match self.dice.roll(12) {
+        match self.dice.roll(14) {
             0 => self.script.say("show store"),
             1 => self.script.say("show memory"),
             2..=4 => self.script.say("show rows"),
-            5..=7 => self.script.say("show shelf"),
+            5..=6 => self.script.say("show state"),
+            7..=9 => {
+                let unit = self.unit_number();
+                self.script.say(&format!("show unit {unit}"));
+            }
             _ => {
                 let unit = self.unit_number();
                 self.script.say(&format!("count {unit}"));

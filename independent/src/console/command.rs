@@ -1,6 +1,5 @@
 //! What a line of the console asks, or that it is no command.
 
-use super::fields::{Field, FIELDS};
 use crate::text::{hex_bytes, number, unit_number};
 use crate::Card;
 
@@ -13,7 +12,7 @@ const BYTES_MAX: usize = 70_000;
 /// Longest buffer of a frame or a take.
 const BUFFER_MAX: u64 = 1_000;
 
-/// What is lent byte by byte.
+/// What is lent byte by byte, in a length of one's choice.
 #[derive(Clone, Copy)]
 pub enum Part {
     Memory,
@@ -29,6 +28,13 @@ impl Part {
     }
 }
 
+/// What bytes are poked into.
+#[derive(Clone, Copy)]
+pub enum Poked {
+    Part(Part),
+    State,
+}
+
 pub enum Command {
     Card(Card),
     Lend { part: Part, length: usize, byte: u8 },
@@ -39,11 +45,11 @@ pub enum Command {
     Frame { length: usize },
     Take { unit: u32, length: usize },
     Count { unit: u32 },
-    Poke { part: Part, at: usize, bytes: Vec<u8> },
-    State { field: &'static Field, place: usize, value: u64 },
+    Poke { poked: Poked, at: usize, bytes: Vec<u8> },
     Show(Part),
     ShowRows,
-    ShowShelf,
+    ShowState,
+    ShowUnit { unit: u32 },
 }
 
 /// Reads a line without its newline; None is answered `bad`.
@@ -71,13 +77,13 @@ pub fn parse(line: &[u8]) -> Option<Command> {
             Some(Command::Take { unit: unit_number(unit)?, length: up_to(length, BUFFER_MAX)? as usize })
         }
         [b"count", unit] => Some(Command::Count { unit: unit_number(unit)? }),
-        [b"poke", part, at, bytes] => {
-            let (part, at) = (parse_part(part)?, number(at)?.try_into().ok()?);
-            Some(Command::Poke { part, at, bytes: hex_bytes(bytes)? })
+        [b"poke", poked, at, bytes] => {
+            let (poked, at) = (parse_poked(poked)?, number(at)?.try_into().ok()?);
+            Some(Command::Poke { poked, at, bytes: hex_bytes(bytes)? })
         }
-        [b"state", name, place, value] => parse_state(name, place, value),
         [b"show", b"rows"] => Some(Command::ShowRows),
-        [b"show", b"shelf"] => Some(Command::ShowShelf),
+        [b"show", b"state"] => Some(Command::ShowState),
+        [b"show", b"unit", unit] => Some(Command::ShowUnit { unit: unit_number(unit)? }),
         [b"show", part] => Some(Command::Show(parse_part(part)?)),
         _ => None,
     }
@@ -99,11 +105,11 @@ fn parse_part(part: &[u8]) -> Option<Part> {
     }
 }
 
-fn parse_state(name: &[u8], place: &[u8], value: &[u8]) -> Option<Command> {
-    let field = FIELDS.iter().find(|field| field.name.as_bytes() == name)?;
-    let place = up_to(place, field.places - 1)? as usize;
-    let value = up_to(value, field.highest)?;
-    Some(Command::State { field, place, value })
+fn parse_poked(poked: &[u8]) -> Option<Poked> {
+    match poked {
+        b"state" => Some(Poked::State),
+        part => parse_part(part).map(Poked::Part),
+    }
 }
 
 fn up_to(field: &[u8], highest: u64) -> Option<u64> {

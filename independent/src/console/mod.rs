@@ -1,14 +1,14 @@
 //! The console: every command of docs/CONSOLE.md, one answer a line.
 
 mod command;
-mod fields;
 mod lines;
+mod unit;
 
 use std::io::Write;
 
 use crate::text::push_hex;
 use crate::{load, Card, Counters, Refused, Shelf, Taking};
-use command::{Command, Part};
+use command::{Command, Part, Poked};
 
 pub use lines::run;
 
@@ -55,11 +55,11 @@ impl Console {
             Command::Frame { length } => self.frame(length, out),
             Command::Take { unit, length } => self.take(unit, length, out),
             Command::Count { unit } => self.count(unit, out),
-            Command::Poke { part, at, bytes } => self.poke(part, at, &bytes, out),
-            Command::State { field, place, value } => self.set_state(field, place, value, out),
+            Command::Poke { poked, at, bytes } => self.poke(poked, at, &bytes, out),
             Command::Show(part) => self.show(part, out),
             Command::ShowRows => self.show_rows(out),
-            Command::ShowShelf => self.show_shelf(out),
+            Command::ShowState => self.show_state(out),
+            Command::ShowUnit { unit } => self.show_unit(unit, out),
         }
     }
 
@@ -148,20 +148,19 @@ impl Console {
         }
     }
 
-    fn poke(&mut self, part: Part, at: usize, bytes: &[u8], out: &mut Vec<u8>) {
+    fn poke(&mut self, poked: Poked, at: usize, bytes: &[u8], out: &mut Vec<u8>) {
         let end = at.saturating_add(bytes.len());
-        match self.part(part).get_mut(at..end) {
+        let all = match poked {
+            Poked::Part(part) => &mut self.part(part)[..],
+            Poked::State => self.shelf.state.bytes_mut(),
+        };
+        match all.get_mut(at..end) {
             Some(place) => {
                 place.copy_from_slice(bytes);
                 say!(out, "poke\tok");
             }
             None => say!(out, "bad"),
         }
-    }
-
-    fn set_state(&mut self, field: &fields::Field, place: usize, value: u64, out: &mut Vec<u8>) {
-        (field.set)(&mut self.shelf, place, value);
-        say!(out, "state\tok");
     }
 
     fn show(&mut self, part: Part, out: &mut Vec<u8>) {
@@ -174,9 +173,19 @@ impl Console {
         self.rows.iter().for_each(|row| say_numbers(row.list(), out));
     }
 
-    fn show_shelf(&self, out: &mut Vec<u8>) {
-        say!(out, "show\tshelf");
-        say_numbers(fields::list(&self.shelf), out);
+    fn show_state(&self, out: &mut Vec<u8>) {
+        say!(out, "show\tstate\t");
+        push_hex(out, self.shelf.state.bytes());
+    }
+
+    fn show_unit(&self, unit: u32, out: &mut Vec<u8>) {
+        match unit::find(&self.shelf.state, unit) {
+            Some(place) => {
+                say!(out, "show\tunit\t");
+                unit::write(&self.shelf.state, place, out).expect("memory takes all");
+            }
+            None => say_refused("show\tunit", Refused::Unit, out),
+        }
     }
 }
 

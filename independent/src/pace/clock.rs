@@ -24,8 +24,7 @@ pub fn thread_time() -> u64 {
 /// The calls of a shelf, in the order of `Counted::calls`.
 pub const CALLS: [&str; 6] = ["load", "arrive", "frame", "take", "hear", "count"];
 
-/// What a clock counted over all calls of a run. The loading, the one hearing and the counts are too few to be
-/// timed: there the stack is of interest.
+/// What a clock counted over all calls of a run.
 #[derive(Clone, Copy, Debug, Default, PartialEq, Eq)]
 pub struct Counted {
     pub load: u64,

@@ -7,7 +7,10 @@ use crate::outlet::Mode;
 /// Cells for each unit in a round: an inlet that always keeps one has room for three.
 pub const EACH: u8 = 3;
 
-/// Events that a run times, near enough: so every plan takes about as long.
+/// How often the table is loaded.
+pub const LOADS: u64 = 100;
+
+/// Arrivals, frames and takes of a run, near enough: so every plan takes about as long.
 const EVENTS: u64 = 120_000;
 
 /// Whom every cell is for.
@@ -76,7 +79,7 @@ impl Plan {
         }
     }
 
-    /// Arrivals of a round, and frames: each unit gets and sends as many cells.
+    /// Arrivals of a round, and frames: each unit gets and sends as many cells. Hearings and counts of a round too.
     pub fn cells(self) -> u64 {
         u64::from(EACH) * u64::from(self.units)
     }

@@ -1,7 +1,7 @@
 //! Medians of the runs, and the table.
 
 use super::clock::Counted;
-use super::plan::Plan;
+use super::plan::{Plan, LOADS};
 
 /// Frames a second on the bus itself.
 const BUS: f64 = 2_375_000.0;
@@ -9,9 +9,12 @@ const BUS: f64 = 2_375_000.0;
 /// Nanoseconds for one event of each kind.
 #[derive(Clone, Copy, Debug, PartialEq)]
 pub struct Pace {
+    pub load: f64,
     pub arrive: f64,
     pub frame: f64,
     pub take: f64,
+    pub hear: f64,
+    pub count: f64,
     /// A frame with its arrival and the takes of its copies.
     pub whole: f64,
 }
@@ -20,12 +23,21 @@ impl Pace {
     /// What a run says of one event, without the reading of the clock in each batch.
     pub fn of(plan: Plan, counted: Counted) -> Pace {
         let reading = counted.thousand_readings as f64 / 1000.0;
-        let each = |total: u64, events: u64| (total as f64 / plan.rounds as f64 - reading) / events as f64;
+        let one = |total: u64, batches: u64, events: u64| (total as f64 / batches as f64 - reading) / events as f64;
+        let each = |total: u64, events: u64| one(total, plan.rounds, events);
         let arrive = each(counted.arrive, plan.cells());
         let frame = each(counted.frame, plan.cells());
         let take = each(counted.take, plan.takes());
         let copies = plan.takes() as f64 / plan.cells() as f64;
-        Pace { arrive, frame, take, whole: arrive + frame + copies * take }
+        Pace {
+            load: one(counted.load, 1, LOADS),
+            arrive,
+            frame,
+            take,
+            hear: each(counted.hear, plan.cells()),
+            count: each(counted.count, plan.cells()),
+            whole: arrive + frame + copies * take,
+        }
     }
 }
 
@@ -59,10 +71,13 @@ pub fn heading() -> String {
 /// The lines of a plan: a line for each kind of event.
 pub fn lines(plan: Plan, proved: &[Pace], rust: &[Pace]) -> String {
     type Event = (&'static str, fn(&Pace) -> f64, bool);
-    let events: [Event; 4] = [
+    let events: [Event; 7] = [
+        ("load", |pace| pace.load, false),
         ("arrive", |pace| pace.arrive, false),
         ("frame", |pace| pace.frame, true),
         ("take", |pace| pace.take, false),
+        ("hear", |pace| pace.hear, false),
+        ("count", |pace| pace.count, false),
         ("whole", |pace| pace.whole, true),
     ];
     let mut text = String::new();

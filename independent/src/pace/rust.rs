@@ -1,7 +1,16 @@
-//! The traffic through this program. independent/pace/main.rt.txt does the same through the proved shelf.
+//! The traffic through this program. independent/pace/main.rt.txt does the same through the proved shelf:
+//!
+//! 1. The table is loaded `LOADS` times, all in one batch of the clock.
+//! 2. One cell arrives at each unit, and one frame follows.
+//! 3. Rounds, each of three batches: `EACH` arrivals at each unit, as many frames, the takes of all cells.
+//! 4. Rounds, each of a batch in which each unit hears the last frame `EACH` times, and, not timed, takes of each unit
+//!    until it is empty.
+//! 5. Rounds, each of a batch of `EACH` counts of each unit.
+//!
+//! Every answer goes into the sum in the order of the calls, at last every byte of the state.
 
 use super::clock::Counted;
-use super::plan::{Plan, EACH};
+use super::plan::{Plan, EACH, LOADS};
 use crate::codec::header_check;
 use crate::{load, Arrival, Card, Counters, Hearing, Refused, SentFrame, Shelf, Taking};
 use crate::{CELL_BYTES, FRAME_BYTES, STORE_PER_UNIT, UNITS_MAX};
@@ -14,16 +23,20 @@ const NOBODY: u8 = 255;
 pub fn run(plan: Plan, clock: fn() -> u64) -> Counted {
     let mut bench = Bench::loaded(plan, clock);
     bench.run_rounds();
+    bench.hear_rounds();
+    bench.count_rounds();
+    bench.mix_state();
     bench.counted.thousand_readings = bench.thousand_readings();
-    bench.epilogue();
     bench.counted
 }
 
-/// The counter rows that the rounds of a plan leave.
-pub fn counters_after(plan: Plan) -> Vec<Counters> {
+/// The counter rows that the rounds of a plan leave, and those that the hearings after them leave.
+pub fn counters_after(plan: Plan) -> [Vec<Counters>; 2] {
     let mut bench = Bench::loaded(plan, || 0);
     bench.run_rounds();
-    bench.rows
+    let rounds = bench.rows.clone();
+    bench.hear_rounds();
+    [rounds, bench.rows]
 }
 
 struct Bench {
@@ -41,28 +54,32 @@ struct Bench {
 
 impl Bench {
     fn loaded(plan: Plan, clock: fn() -> u64) -> Bench {
-        let mut memory = vec![0; MEMORY_BYTES];
-        let mut rows = vec![Counters::default(); UNITS_MAX];
-        let table = plan.table();
-        let start = clock();
-        let (shelf, outcome) = load(Card::Wide, table.as_bytes(), &mut memory, STORE_BYTES, &mut rows);
-        let load = clock() - start;
-        let code = match outcome {
-            Ok(used) => used as u64,
-            Err(refusal) => refused_code(refusal.number().into()),
-        };
-        Bench {
+        let mut bench = Bench {
             plan,
             clock,
-            shelf,
-            memory,
+            shelf: Shelf::fresh(Card::Wide),
+            memory: vec![0; MEMORY_BYTES],
             store: vec![0; STORE_BYTES],
-            rows,
+            rows: vec![Counters::default(); UNITS_MAX],
             cell: cell_of(plan.traffic.vpi()),
             buffer: [0; FRAME_BYTES],
             out: [0; CELL_BYTES],
-            counted: Counted { load, sum: code, ..Counted::default() },
+            counted: Counted::default(),
+        };
+        bench.counted.load = bench.loads();
+        bench
+    }
+
+    /// The table is loaded again and again; gives what the clock counted.
+    fn loads(&mut self) -> u64 {
+        let table = self.plan.table();
+        let start = (self.clock)();
+        for _ in 0..LOADS {
+            let (shelf, outcome) = load(Card::Wide, table.as_bytes(), &mut self.memory, STORE_BYTES, &mut self.rows);
+            self.shelf = shelf;
+            self.mix(outcome.map_or_else(|refusal| refused_code(refusal.number().into()), |used| used as u64));
         }
+        (self.clock)() - start
     }
 
     fn run_rounds(&mut self) {
@@ -109,35 +126,73 @@ impl Bench {
         let start = (self.clock)();
         for unit in 0..self.plan.units {
             for _ in 0..self.plan.held(unit) {
-                let answer = self.shelf.take(unit.into(), &mut self.out, &self.store, &mut self.rows);
-                self.mix(answer.map_or_else(refusal_code, taking_code));
-                self.mix(cell_code(&self.out));
+                self.take(unit);
             }
         }
         (self.clock)() - start
     }
 
+    /// Gives whether there was a cell. Taken in, as the stack is counted from its caller on.
+    #[inline(always)]
+    fn take(&mut self, unit: u8) -> bool {
+        let answer = self.shelf.take(unit.into(), &mut self.out, &self.store, &mut self.rows);
+        self.mix(answer.map_or_else(refusal_code, taking_code));
+        self.mix(cell_code(&self.out));
+        answer == Ok(Taking::Taken)
+    }
+
+    /// Frames handed in from outside: the last one sent, at each unit in turn. What they queue is taken before the
+    /// next round.
+    fn hear_rounds(&mut self) {
+        for _ in 0..self.plan.rounds {
+            self.counted.hear += self.hearings();
+            for unit in 0..self.plan.units {
+                while self.take(unit) {}
+            }
+        }
+    }
+
+    fn hearings(&mut self) -> u64 {
+        let start = (self.clock)();
+        for _ in 0..EACH {
+            for unit in 0..self.plan.units {
+                let answer = self.shelf.hear(unit.into(), &self.buffer, &mut self.store, &mut self.rows);
+                self.mix(answer.map_or_else(refusal_code, hearing_code));
+            }
+        }
+        (self.clock)() - start
+    }
+
+    fn count_rounds(&mut self) {
+        for _ in 0..self.plan.rounds {
+            self.counted.count += self.counts();
+        }
+    }
+
+    fn counts(&mut self) -> u64 {
+        let start = (self.clock)();
+        for _ in 0..EACH {
+            for unit in 0..self.plan.units {
+                match self.shelf.count(unit.into(), STORE_BYTES, &self.rows) {
+                    Ok(row) => [row.arrived, row.inletfull, row.sent, row.queued, row.full, row.taken]
+                        .into_iter()
+                        .for_each(|counter| self.mix(counter.into())),
+                    Err(refused) => self.mix(refusal_code(refused)),
+                }
+            }
+        }
+        (self.clock)() - start
+    }
+
+    /// What the run left is compared too.
+    fn mix_state(&mut self) {
+        let state = self.shelf.state;
+        state.bytes().iter().for_each(|byte| self.mix((*byte).into()));
+    }
+
     fn thousand_readings(&self) -> u64 {
         let start = (self.clock)();
         (0..1000).fold(start, |_, _| (self.clock)()) - start
-    }
-
-    /// The counters after the run, and a frame handed in from outside, are compared too.
-    fn epilogue(&mut self) {
-        let start = (self.clock)();
-        let answer = self.shelf.hear(0, &self.buffer, &mut self.store, &mut self.rows);
-        let heard = (self.clock)();
-        self.mix(answer.map_or_else(refusal_code, hearing_code));
-        for unit in 0..self.plan.units {
-            match self.shelf.count(unit.into(), STORE_BYTES, &self.rows) {
-                Ok(row) => [row.arrived, row.inletfull, row.sent, row.queued, row.full, row.taken]
-                    .into_iter()
-                    .for_each(|counter| self.mix(counter.into())),
-                Err(refused) => self.mix(refusal_code(refused)),
-            }
-        }
-        self.counted.hear = heard - start;
-        self.counted.count = (self.clock)() - heard;
     }
 }
 

@@ -2,6 +2,7 @@
 #![allow(dead_code)]
 
 use independent::codec::{header_check, parity, Routing, Target};
+use independent::text::hex_bytes;
 use independent::{load, Arrival, Card, Counters, Hearing, Refused, SentFrame, Shelf, Taking};
 
 /// The table of document 01, tabs shown as blanks.
@@ -195,7 +196,56 @@ impl Desk {
 
     /// Everything that `show` shows.
     pub fn all(&mut self) -> [String; 4] {
-        ["memory", "store", "rows", "shelf"].map(|part| self.ask(&format!("show {part}")))
+        ["memory", "store", "rows", "state"].map(|part| self.ask(&format!("show {part}")))
+    }
+
+    /// Pokes a field of the state by name: `top 0 4095` is the top VPI of the unit in place 0.
+    pub fn set(&mut self, setting: &str) {
+        let words: Vec<&str> = setting.split(' ').collect();
+        let [name, place, value] = words[..] else {
+            panic!("{setting} is no setting");
+        };
+        let places = bytes_of(name, place.parse().expect("a place"));
+        let value: u32 = value.parse().expect("a value");
+        for (at, byte) in places.iter().zip(&value.to_be_bytes()[4 - places.len()..]) {
+            assert_eq!(self.ask(&format!("poke state {at} {byte:02X}")), "poke ok", "{setting}");
+        }
+    }
+
+    /// All bytes of the state.
+    pub fn state(&mut self) -> Vec<u8> {
+        let shown = self.ask("show state");
+        let bytes = shown.strip_prefix("show state ").expect("a state");
+        assert_eq!(bytes.len(), 2 * 2_048);
+        hex_bytes(bytes.as_bytes()).expect("bytes")
+    }
+}
+
+/// Where a field of docs/STATE.md stands, its highest byte first. Queue q of place p is 4 p + q.
+pub fn bytes_of(name: &str, place: usize) -> Vec<usize> {
+    match name {
+        "byte" => vec![place],
+        "number" => vec![place],
+        "link" => vec![32 + place],
+        "top" => vec![64 + place, 96 + place],
+        "priority" => vec![128 + place],
+        "mode" => vec![160 + place],
+        "cbrlength" => vec![192 + place],
+        "cbrlimit" => vec![224 + place],
+        "vbrlimit" => vec![256 + place],
+        "mark" => vec![288 + place],
+        "place" => vec![320 + place, 352 + place, 384 + place, 416 + place],
+        "inlethead" => vec![448 + place],
+        "inletcount" => vec![480 + place],
+        "queuehead" => vec![[512, 544, 576, 608][place % 4] + place / 4],
+        "queuecount" => vec![[640, 672, 704, 736][place % 4] + place / 4],
+        "asks" => vec![768 + place],
+        "last" => vec![[800, 801, 802][place]],
+        "granted" => vec![803],
+        "bus" => vec![804],
+        "count" => vec![805],
+        "frame" => vec![806, 807],
+        _ => panic!("{name} is no field"),
     }
 }
 

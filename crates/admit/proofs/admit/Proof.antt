@@ -1,7 +1,7 @@
 -- `admit::admit` meets its contract. Assumes nothing.
 use mathlib.Core.Path.{sym, _∙_}
 use borrow.Author.Tests.{not-true, not-false}
-use Rattle.admit.proofs.Laws.{unsound, stranger, misfit, let-in}
+use Rattle.admit.proofs.InPlace.{unsound-in, stranger-in, misfit-in, comes-in}
 use borrow.Author.Needs.{needs}
 use Rattle.admit.proofs.admit.Statement.{statement}
 use Rattle.admit.proofs.admit.Tie as tie
@@ -10,7 +10,7 @@ sound-requires : tie.Need-sound-requires
 sound-requires c κs = search needs
 
 returns : tie.Need-returns
-returns c = let a = c .before .before .args in sym (unsound (a .card) (a .shelf) (a .store) (a .rows) (a .unit) (a .right) (sym (c .before .sound .ensures) ∙ not-true _ (c .if1 .taken)))
+returns c = let a = c .before .before .before .args in sym (unsound-in (a .card) (a .s .now) (a .store) (a .rows) (a .unit) (a .right) (sym (c .before .sound .ensures) ∙ not-true _ (c .if1 .taken)))
 
 find-requires : tie.Need-find-requires
 find-requires c κs = search needs
@@ -23,18 +23,18 @@ enum-told c = search needs
 
 returns-2 : tie.Need-returns-2
 returns-2 c =
-    let a = c .before .before .before .before .before .args in
-    sym (stranger (a .card) (a .shelf) (a .store) (a .rows) (a .unit) (a .right) (sym (c .before .before .before .before .sound .ensures) ∙ not-false _ (c .before .before .before .if1 .left)) (sym (c .before .before .find .ensures) ∙ c .enum-told .given .1))
+    let a = c .before .before .before .before .before .before .args in
+    sym (stranger-in (a .card) (a .s .now) (a .store) (a .rows) (a .unit) (a .right) (sym (c .before .before .before .before .sound .ensures) ∙ not-false _ (c .before .before .before .if1 .left)) (sym (c .before .before .find .ensures) ∙ c .enum-told .given .1))
 
 returns-3 : tie.Need-returns-3
 returns-3 c =
-    let a = c .before .before .before .before .before .before .before .args in
-    sym (misfit (a .card) (a .shelf) (a .store) (a .rows) (a .unit) (a .right) _ (sym (c .before .before .before .before .before .before .sound .ensures) ∙ not-false _ (c .before .before .before .before .before .if1 .left)) (sym (c .before .before .before .before .find .ensures) ∙ c .before .before .place .given .1) (not-true _ (c .if2 .taken)))
+    let a = c .before .before .before .before .before .before .before .before .args in
+    sym (misfit-in (a .card) (a .s .now) (a .store) (a .rows) (a .unit) (a .right) (sym (c .before .before .before .before .before .before .sound .ensures) ∙ not-false _ (c .before .before .before .before .before .if1 .left)) _ (sym (c .before .before .before .before .find .ensures) ∙ c .before .before .place .given .1) (not-true _ (c .if2 .taken)))
 
 returns-4 : tie.Need-returns-4
 returns-4 c =
-    let a = c .before .before .before .before .before .before .before .args in
-    sym (let-in (a .card) (a .shelf) (a .store) (a .rows) (a .unit) (a .right) _ (sym (c .before .before .before .before .before .before .sound .ensures) ∙ not-false _ (c .before .before .before .before .before .if1 .left)) (sym (c .before .before .before .before .find .ensures) ∙ c .before .before .place .given .1) (not-false _ (c .if2 .left)))
+    let a = c .before .before .before .before .before .before .before .before .args in
+    sym (comes-in (a .card) (a .s .now) (a .store) (a .rows) (a .unit) (a .right) (sym (c .before .before .before .before .before .before .sound .ensures) ∙ not-false _ (c .before .before .before .before .before .if1 .left)) _ (sym (c .before .before .before .before .find .ensures) ∙ c .before .before .place .given .1) (not-false _ (c .if2 .left)))
 
 pub admit-spec : {M : Type 1} → statement M
 admit-spec =

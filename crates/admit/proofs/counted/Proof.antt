@@ -1,5 +1,7 @@
 -- `admit::counted` meets its contract. Assumes nothing.
+use mathlib.Core.Path.{ap, _∙_}
 use borrow.Author.Needs.{needs}
+use Rattle.admit.specs.Admission.{toldApart}
 use Rattle.admit.proofs.counted.Statement.{statement}
 use Rattle.admit.proofs.counted.Tie as tie
 
@@ -10,7 +12,7 @@ told-apart-requires : tie.Need-told-apart-requires
 told-apart-requires c κs = search needs
 
 returns : tie.Need-returns
-returns c = rw (c .told-apart .ensures, c .before .admit .ensures)
+returns c = c .told-apart .ensures ∙ ap toldApart (c .before .admit .ensures)
 
 pub counted-spec : {M : Type 1} → statement M
 counted-spec = tie.close (tie.spec admit-requires told-apart-requires returns)

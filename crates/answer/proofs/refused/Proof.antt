@@ -6,11 +6,8 @@ use Rattle.answer.proofs.refused.Tie as tie
 none-requires : tie.Need-none-requires
 none-requires c κs = search needs
 
-ends-requires : tie.Need-ends-requires
-ends-requires c κs = search needs
-
 returns : tie.Need-returns
-returns c = rw (c .ends .ensures, c .before .none .ensures)
+returns c = rw (c .none .ensures)
 
 pub refused-spec : {M : Type 1} → statement M
-refused-spec = tie.close (tie.spec none-requires ends-requires returns)
+refused-spec = tie.close (tie.spec none-requires returns)

@@ -1,4 +1,7 @@
 -- `arriving::arrived` meets its contract. Assumes nothing.
+use mathlib.Core.Path.{ap, _∙_}
+use Rattle.answer.specs.declared.Answer.the-variants.{Arrived}
+use Rattle.answer.specs.Answers.{row}
 use borrow.Author.Needs.{needs}
 use Rattle.arriving.proofs.arrived.Statement.{statement}
 use Rattle.arriving.proofs.arrived.Tie as tie
@@ -9,11 +12,8 @@ arrival-rises-requires c κs = search needs
 row-requires : tie.Need-row-requires
 row-requires c κs = search needs
 
-ends-requires : tie.Need-ends-requires
-ends-requires c κs = search needs
-
 returns : tie.Need-returns
-returns c = rw (c .ends .ensures, c .before .row .ensures, c .before .before .arrival-rises .ensures)
+returns c = ap (λ x. record { answer = Arrived (c .before .before .args .fate); rises = x }) (c .row .ensures ∙ ap (row (c .before .before .args .place)) (c .before .arrival-rises .ensures))
 
 pub arrived-spec : {M : Type 1} → statement M
-arrived-spec = tie.close (tie.spec arrival-rises-requires row-requires ends-requires returns)
+arrived-spec = tie.close (tie.spec arrival-rises-requires row-requires returns)

@@ -26,7 +26,7 @@ returns : tie.Need-returns
 returns c =
     let a = c .before .before .before .before .before .before .args in
     let e : soundHeader (four (a .cell .now) 0) (getD (a .cell .now) 4 0) ≡ false = ap (λ n. soundHeader n (getD (a .cell .now) 4 0)) (sym (c .before .before .before .four .ensures)) ∙ sym (c .before .sound .ensures) ∙ not-true _ (c .if1 .taken) in
-    unheaded _ _ _ _ e
+    unheaded (a .card) (a .settings) (a .at) (a .memory .now) (a .cell .now) e
 
 translate-requires : tie.Need-translate-requires
 translate-requires c κs = search needs
@@ -36,11 +36,11 @@ way-by-requires c κs = search needs
 
 returns-2 : tie.Need-returns-2
 returns-2 c =
-    let a = c .before .before .before .before .before .before .before .before .before .args in
-    let e : soundHeader (four (a .cell .now) 0) (getD (a .cell .now) 4 0) ≡ true = ap (λ n. soundHeader n (getD (a .cell .now) 4 0)) (sym (c .before .before .before .before .before .before .four .ensures)) ∙ sym (c .before .before .before .before .sound .ensures) ∙ not-false _ (c .before .before .before .if1 .left) in
+    let a = c .before .before .before .before .before .before .before .before .args in
+    let e : soundHeader (four (a .cell .now) 0) (getD (a .cell .now) 4 0) ≡ true = ap (λ n. soundHeader n (getD (a .cell .now) 4 0)) (sym (c .before .before .before .before .before .four .ensures)) ∙ sym (c .before .before .before .sound .ensures) ∙ not-false _ (c .before .before .if1 .left) in
     c .way-by .ensures
-    ∙ ap wayBy (c .before .translate .ensures ∙ ap (translated (recordAt (a .card) (a .memory .now)) (a .unit .settings .link) (a .unit .settings .top) (a .unit .place)) (c .before .before .before .before .before .before .four .ensures))
-    ∙ headed (a .card) (a .unit) (a .memory .now) (a .cell .now) e
+    ∙ ap wayBy (c .before .translate .ensures ∙ ap (translated (recordAt (a .card) (a .memory .now)) (a .settings .link) (a .settings .top) (a .at)) (c .before .before .before .before .before .four .ensures))
+    ∙ headed (a .card) (a .settings) (a .at) (a .memory .now) (a .cell .now) e
 
 pub way-of-spec : {M : Type 1} → statement M
 way-of-spec =

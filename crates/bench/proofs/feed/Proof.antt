@@ -7,10 +7,10 @@ use Rattle.bench.proofs.feed.Statement.{statement}
 use Rattle.bench.proofs.feed.Tie as tie
 
 abbrev Inv-loop : tie.InvT-loop
-Inv-loop memory store₀ line₀ part world₀ so-far₀ from₀ store line world so-far from = (from ≤ length part) × (length store ≡ length store₀) × (length line ≡ length line₀)
+Inv-loop state₀ memory store₀ line₀ part counted₀ so-far₀ from₀ state store line counted so-far from = (from ≤ length part) × (length store ≡ length store₀) × (length line ≡ length line₀)
 
 abbrev μ-loop : tie.MeasureT-loop
-μ-loop memory store₀ line₀ part world₀ so-far₀ from₀ store line world so-far from = length part - from
+μ-loop state₀ memory store₀ line₀ part counted₀ so-far₀ from₀ state store line counted so-far from = length part - from
 
 loop-holds : tie.Need-loop-holds Inv-loop μ-loop
 loop-holds c = search needs

@@ -6,10 +6,10 @@ use Rattle.bench.proofs.feed_all.Statement.{statement}
 use Rattle.bench.proofs.feed_all.Tie as tie
 
 abbrev Inv-loop : tie.InvT-loop
-Inv-loop memory store₀ line₀ fed₀ turns₀ store line fed turns = (length store ≡ length store₀) × (length line ≡ length line₀)
+Inv-loop state₀ memory store₀ line₀ fed₀ turns₀ state store line fed turns = (length store ≡ length store₀) × (length line ≡ length line₀)
 
 abbrev μ-loop : tie.MeasureT-loop
-μ-loop memory store₀ line₀ fed₀ turns₀ store line fed turns = turns
+μ-loop state₀ memory store₀ line₀ fed₀ turns₀ state store line fed turns = turns
 
 loop-holds : tie.Need-loop-holds Inv-loop μ-loop
 loop-holds c = search needs

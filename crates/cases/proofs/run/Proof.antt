@@ -8,10 +8,10 @@ use Rattle.cases.proofs.run.Statement.{statement}
 use Rattle.cases.proofs.run.Tie as tie
 
 abbrev Inv-loop : tie.InvT-loop
-Inv-loop text script memory store₀ w₀ i₀ store w i = (i ≤ length script) × (length store ≡ 16384)
+Inv-loop text script state₀ memory store₀ tally₀ i₀ state store tally i = (i ≤ length script) × (length store ≡ 16384)
 
 abbrev μ-loop : tie.MeasureT-loop
-μ-loop text script memory store₀ w₀ i₀ store w i = length script - i
+μ-loop text script state₀ memory store₀ tally₀ i₀ state store tally i = length script - i
 
 slice-aggregate-load : tie.Need-slice-aggregate-load Inv-loop μ-loop
 slice-aggregate-load c = search needs

@@ -1,5 +1,5 @@
 -- `command::line_of` meets its contract. Assumes nothing.
-use Rattle.command.proofs.Laws.{past-lines, from-6, from-11}
+use Rattle.command.proofs.Laws.{past-lines, from-6, from-9}
 use borrow.Author.Needs.{needs}
 use Rattle.command.proofs.line_of.Statement.{statement}
 use Rattle.command.proofs.line_of.Tie as tie
@@ -31,12 +31,6 @@ count-line-requires c κs = search needs
 poke-line-requires : tie.Need-poke-line-requires
 poke-line-requires c κs = search needs
 
-state-line-requires : tie.Need-state-line-requires
-state-line-requires c κs = search needs
-
-show-line-requires : tie.Need-show-line-requires
-show-line-requires c κs = search needs
-
 returns : tie.Need-returns
 returns c = rw (c .before .match .keys1) (c .card-line .ensures)
 
@@ -65,13 +59,7 @@ returns-9 : tie.Need-returns-9
 returns-9 c = rw (c .before .match .keys9) (c .poke-line .ensures)
 
 returns-10 : tie.Need-returns-10
-returns-10 c = rw (c .before .match .keys10) (c .state-line .ensures)
-
-returns-11 : tie.Need-returns-11
-returns-11 c = rw (c .before .match .keys11) (c .show-line .ensures)
-
-returns-12 : tie.Need-returns-12
-returns-12 c = past-lines _ _ (from-11 _ (from-6 _ (c .match .rest .0 .0 .0 .0 .0 .0 .0 .0 .0 .0 .1) (c .match .rest .0 .0 .0 .0 .0 .0 .0 .0 .0 .1) (c .match .rest .0 .0 .0 .0 .0 .0 .0 .0 .1) (c .match .rest .0 .0 .0 .0 .0 .0 .0 .1) (c .match .rest .0 .0 .0 .0 .0 .0 .1) (c .match .rest .0 .0 .0 .0 .0 .1)) (c .match .rest .0 .0 .0 .0 .1) (c .match .rest .0 .0 .0 .1) (c .match .rest .0 .0 .1) (c .match .rest .0 .1) (c .match .rest .1))
+returns-10 c = past-lines _ _ (from-9 _ (from-6 _ (c .match .rest .0 .0 .0 .0 .0 .0 .0 .0 .1) (c .match .rest .0 .0 .0 .0 .0 .0 .0 .1) (c .match .rest .0 .0 .0 .0 .0 .0 .1) (c .match .rest .0 .0 .0 .0 .0 .1) (c .match .rest .0 .0 .0 .0 .1) (c .match .rest .0 .0 .0 .1)) (c .match .rest .0 .0 .1) (c .match .rest .0 .1) (c .match .rest .1))
 
 pub line-of-spec : {M : Type 1} → statement M
 line-of-spec =
@@ -86,8 +74,6 @@ line-of-spec =
     take-line-requires
     count-line-requires
     poke-line-requires
-    state-line-requires
-    show-line-requires
     returns
     returns-2
     returns-3
@@ -97,6 +83,4 @@ line-of-spec =
     returns-7
     returns-8
     returns-9
-    returns-10
-    returns-11
-    returns-12)
+    returns-10)

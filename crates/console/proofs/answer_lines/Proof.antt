@@ -8,10 +8,10 @@ use Rattle.console.proofs.answer_lines.Statement.{statement}
 use Rattle.console.proofs.answer_lines.Tie as tie
 
 abbrev Inv-loop : tie.InvT-loop
-Inv-loop memory₀ store₀ text₀ input out₀ w₀ long₀ from₀ at₀ memory store text out w long from at = (from ≤ length input) × (length memory ≡ length memory₀) × (length store ≡ length store₀) × (length text ≡ length text₀) × (length out ≡ length out₀)
+Inv-loop state₀ memory₀ store₀ text₀ input out₀ w₀ long₀ from₀ at₀ state memory store text out w long from at = (from ≤ length input) × (length memory ≡ length memory₀) × (length store ≡ length store₀) × (length text ≡ length text₀) × (length out ≡ length out₀)
 
 abbrev μ-loop : tie.MeasureT-loop
-μ-loop memory₀ store₀ text₀ input out₀ w₀ long₀ from₀ at₀ memory store text out w long from at = length input - from
+μ-loop state₀ memory₀ store₀ text₀ input out₀ w₀ long₀ from₀ at₀ state memory store text out w long from at = length input - from
 
 loop-holds : tie.Need-loop-holds Inv-loop μ-loop
 loop-holds c = (omega arith, refl, refl, refl, refl)
@@ -38,7 +38,7 @@ add-next : tie.Need-add-next Inv-loop μ-loop
 add-next c = search needs
 
 sub-answer-one : tie.Need-sub-answer-one Inv-loop μ-loop
-sub-answer-one c = omega (arith, c .before .before .before .before .field-end .ensures .0)
+sub-answer-one c = omega (arith, c .before .before .before .before .before .field-end .ensures .0)
 
 part-answer-one-start : tie.Need-part-answer-one-start Inv-loop μ-loop
 part-answer-one-start c = search needs
@@ -50,10 +50,10 @@ answer-one-requires : tie.Need-answer-one-requires Inv-loop μ-loop
 answer-one-requires c κs = search needs
 
 loop-less : tie.Need-loop-less Inv-loop μ-loop
-loop-less c = omega (arith, c .before .before .before .before .before .before .before .before .before .before .before .before .before .before .before .before .field-end .ensures .0, c .before .before .before .before .before .before .before .before .before .before .before .before .before .before .before .if1 .left)
+loop-less c = omega (arith, c .before .before .before .before .before .before .before .before .before .before .before .before .before .before .before .before .before .field-end .ensures .0, c .before .before .before .before .before .before .before .before .before .before .before .before .before .before .before .before .if1 .left)
 
 loop-again : tie.Need-loop-again Inv-loop μ-loop
-loop-again c = (omega (arith, c .before .before .before .before .before .before .before .before .before .before .before .before .before .before .before .before .field-end .ensures .1, c .before .before .before .before .before .before .before .before .before .before .before .before .before .before .before .if1 .left), omega (arith, c .before .before .before .before .before .before .before .before .memory .given, c .before .before .before .before .before .before .before .before .before .before .before .before .before .before .before .before .before .loop .inv .1), omega (arith, c .before .before .before .before .before .before .store .given, c .before .before .before .before .before .before .before .before .before .before .before .before .before .before .before .before .before .loop .inv .2), omega (arith, c .before .before .before .before .text .given, c .before .before .before .before .before .before .before .before .before .before .before .before .before .before .before .before .before .loop .inv .3), omega (arith, c .before .before .out .given, c .before .before .before .before .before .before .before .before .before .before .before .before .before .before .before .before .before .loop .inv .4))
+loop-again c = (omega (arith, c .before .before .before .before .before .before .before .before .before .before .before .before .before .before .before .before .before .field-end .ensures .1, c .before .before .before .before .before .before .before .before .before .before .before .before .before .before .before .before .if1 .left), omega (arith, c .before .before .before .before .before .before .before .before .memory .given, c .before .before .before .before .before .before .before .before .before .before .before .before .before .before .before .before .before .before .loop .inv .1), omega (arith, c .before .before .before .before .before .before .store .given, c .before .before .before .before .before .before .before .before .before .before .before .before .before .before .before .before .before .before .loop .inv .2), omega (arith, c .before .before .before .before .text .given, c .before .before .before .before .before .before .before .before .before .before .before .before .before .before .before .before .before .before .loop .inv .3), omega (arith, c .before .before .out .given, c .before .before .before .before .before .before .before .before .before .before .before .before .before .before .before .before .before .before .loop .inv .4))
 
 pub answer-lines-spec : {M : Type 1} → statement M
 answer-lines-spec =

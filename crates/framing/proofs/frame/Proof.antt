@@ -1,16 +1,21 @@
 -- `framing::frame` meets its contract. Assumes nothing.
 use Prim.Native.Nat.{_≤_}
 use native.Mathlib.Omega.{arith}
-use mathlib.Core.Path.{sym, subst, _∙_}
+use mathlib.Core.Path.{_≡_, sym, subst, _∙_}
 use lib.ListN.{length}
 use borrow.Author.Tests.{not-true, not-false}
-use Rattle.soundness.specs.State.{soundOf}
+use Rattle.state.specs.Bytes.{shelfIn}
+use Rattle.soundness.specs.Soundings.{soundIn}
 use Rattle.soundness.proofs.Facts.{sound-iff}
-use Rattle.answer.specs.declared.Done.{Done}
+use Rattle.answer.specs.declared.Outcome.{Outcome}
+use Rattle.answer.specs.Done.{outcomeOf}
 use Rattle.answer.specs.Answers.{refused}
 use Rattle.admit.proofs.Laws.{sound-housed}
+use Rattle.admit.proofs.InPlace.{sound-in}
 use Rattle.framing.specs.Frames.{doneAt, storeAt, bufferAt}
-use Rattle.framing.proofs.Sends.{checked-unsound, checked-misfit, checked-good}
+use Rattle.framing.specs.InPlace.{stateAt}
+use Rattle.framing.proofs.Sends.{housed-in, checked-unsound, checked-misfit, checked-good}
+use Rattle.framing.proofs.InPlace.{in-unsound, in-misfit, in-good}
 use borrow.Author.Needs.{needs}
 use Rattle.framing.proofs.frame.Statement.{statement}
 use Rattle.framing.proofs.frame.Tie as tie
@@ -23,17 +28,23 @@ refused-requires c κs = search needs
 
 returns : tie.Need-returns
 returns c =
-    let a = c .before .before .before .before .before .args in
+    let a = c .before .before .before .before .before .before .before .args in
+    let b = a .s .now in
+    let store = a .store .now in
+    let buffer = a .buffer .now in
+    let n = length buffer in
     let s = sym (c .before .before .sound .ensures) ∙ not-true _ (c .before .if1 .taken) in (
       (
-        c .refused .ensures
-            ∙ checked-unsound (soundOf (a .card) (a .shelf) (length (a .store .now)) (a .rows)) (length (a .buffer .now)) (refused (a .shelf) 8) (refused (a .shelf) 10) (doneAt (a .shelf) (a .store .now)) s,
+        c .refused .ensures ∙ in-unsound (a .card) b (length store) (a .rows) n outcomeOf (refused (shelfIn b) 8) (refused (shelfIn b) 10) (doneAt (shelfIn b) store) s,
         (
-          checked-unsound (soundOf (a .card) (a .shelf) (length (a .store .now)) (a .rows)) (length (a .buffer .now)) (a .store .now) (a .store .now) (storeAt (a .shelf) (a .store .now)) s,
-          checked-unsound (soundOf (a .card) (a .shelf) (length (a .store .now)) (a .rows)) (length (a .buffer .now)) (a .buffer .now) (a .buffer .now) (bufferAt (a .shelf) (a .store .now) (a .buffer .now)) s,
+          checked-unsound (soundIn (a .card) b (length store) (a .rows)) n b b (stateAt b store) s,
+          (
+            in-unsound (a .card) b (length store) (a .rows) n (λ x. x) store store (storeAt (shelfIn b) store) s,
+            in-unsound (a .card) b (length store) (a .rows) n (λ x. x) buffer buffer (bufferAt (shelfIn b) store buffer) s,
+          ),
         ),
       ),
-      subst (λ (x : Done). (x .rises .to ≤ 32) × (x .rises .to ≤ a .rows)) (sym (c .refused .ensures)) (omega arith, omega arith),
+      subst (λ (x : Outcome). (x .rises .to ≤ 32) × (x .rises .to ≤ a .rows)) (sym (c .refused .ensures)) (omega arith, omega arith),
     )
 
 refused-requires-2 : tie.Need-refused-requires-2
@@ -41,24 +52,34 @@ refused-requires-2 c κs = search needs
 
 returns-2 : tie.Need-returns-2
 returns-2 c =
-    let a = c .before .before .before .before .before .before .args in
-    let s = sym (c .before .before .before .sound .ensures) ∙ not-false _ (c .before .before .if1 .left) in (
+    let a = c .before .before .before .before .before .before .before .before .args in
+    let b = a .s .now in
+    let store = a .store .now in
+    let buffer = a .buffer .now in
+    let n = length buffer in
+    let s = sym (c .before .before .before .sound .ensures) ∙ not-false _ (c .before .before .if1 .left) in
+    let m = c .before .if2 .taken in (
       (
-        c .refused2 .ensures
-            ∙ checked-misfit (soundOf (a .card) (a .shelf) (length (a .store .now)) (a .rows)) (length (a .buffer .now)) (refused (a .shelf) 8) (refused (a .shelf) 10) (doneAt (a .shelf) (a .store .now)) s (c .before .if2 .taken),
+        c .refused2 .ensures ∙ in-misfit (a .card) b (length store) (a .rows) n outcomeOf (refused (shelfIn b) 8) (refused (shelfIn b) 10) (doneAt (shelfIn b) store) s m,
         (
-          checked-misfit (soundOf (a .card) (a .shelf) (length (a .store .now)) (a .rows)) (length (a .buffer .now)) (a .store .now) (a .store .now) (storeAt (a .shelf) (a .store .now)) s (c .before .if2 .taken),
-          checked-misfit (soundOf (a .card) (a .shelf) (length (a .store .now)) (a .rows)) (length (a .buffer .now)) (a .buffer .now) (a .buffer .now) (bufferAt (a .shelf) (a .store .now) (a .buffer .now)) s (c .before .if2 .taken),
+          checked-misfit (soundIn (a .card) b (length store) (a .rows)) n b b (stateAt b store) s m,
+          (
+            in-misfit (a .card) b (length store) (a .rows) n (λ x. x) store store (storeAt (shelfIn b) store) s m,
+            in-misfit (a .card) b (length store) (a .rows) n (λ x. x) buffer buffer (bufferAt (shelfIn b) store buffer) s m,
+          ),
         ),
       ),
-      subst (λ (x : Done). (x .rises .to ≤ 32) × (x .rises .to ≤ a .rows)) (sym (c .refused2 .ensures)) (omega arith, omega arith),
+      subst (λ (x : Outcome). (x .rises .to ≤ 32) × (x .rises .to ≤ a .rows)) (sym (c .refused2 .ensures)) (omega arith, omega arith),
     )
 
 frame-on-requires : tie.Need-frame-on-requires
 frame-on-requires c κs =
-    let a = c .before .before .before .before .before .before .before .args in
-    let s = sym (c .before .before .before .before .sound .ensures) ∙ not-false _ (c .before .before .before .if1 .left) in
-    (c .before .before .if2 .left, λ i h. sound-housed (a .card) (a .shelf) (length (a .store .now)) (a .rows) s i h .0)
+    let a = c .before .before .before .before .before .before .before .before .before .before .args in
+    let b = a .s .now in
+    let s = sym (c .before .before .before .before .before .sound .ensures) ∙ not-false _ (c .before .before .before .before .if1 .left) in
+    let w = sound-in (a .card) b (length (a .store .now)) (a .rows) s in
+    let long : length b ≡ 2048 = search needs in
+    (long, c .before .before .before .if2 .left, housed-in b (length (a .store .now)) (λ i h. sound-housed (a .card) (shelfIn b) (length (a .store .now)) (a .rows) (w .1) i h .0))
 
 same-length : tie.Need-same-length
 same-length c = search needs
@@ -68,20 +89,26 @@ same-length-2 c = search needs
 
 returns-3 : tie.Need-returns-3
 returns-3 c =
-    let a = c .before .before .before .before .before .before .before .before .before .before .before .before .args in
-    let s = sym (c .before .before .before .before .before .before .before .before .before .sound .ensures) ∙ not-false _ (c .before .before .before .before .before .before .before .before .if1 .left) in
-    let w = sound-iff (a .card) (a .shelf) (length (a .store .now)) (a .rows) .0 s in (
+    let a = c .before .before .before .before .before .before .before .before .before .before .before .before .before .before .before .args in
+    let b = a .s .now in
+    let store = a .store .now in
+    let buffer = a .buffer .now in
+    let n = length buffer in
+    let s = sym (c .before .before .before .before .before .before .before .before .before .before .sound .ensures) ∙ not-false _ (c .before .before .before .before .before .before .before .before .before .if1 .left) in
+    let m = c .before .before .before .before .before .before .before .before .if2 .left in
+    let w = c .before .before .before .before .frame-on .ensures in
+    let g = sound-iff (a .card) (shelfIn b) (length store) (a .rows) .0 (sound-in (a .card) b (length store) (a .rows) s .1) in (
       (
-        c .before .before .before .before .frame-on .ensures .0
-            ∙ checked-good (soundOf (a .card) (a .shelf) (length (a .store .now)) (a .rows)) (length (a .buffer .now)) (refused (a .shelf) 8) (refused (a .shelf) 10) (doneAt (a .shelf) (a .store .now)) s (c .before .before .before .before .before .before .before .if2 .left),
+        w .0 ∙ in-good (a .card) b (length store) (a .rows) n outcomeOf (refused (shelfIn b) 8) (refused (shelfIn b) 10) (doneAt (shelfIn b) store) s m,
         (
-          c .before .before .before .before .frame-on .ensures .1 .0
-              ∙ checked-good (soundOf (a .card) (a .shelf) (length (a .store .now)) (a .rows)) (length (a .buffer .now)) (a .store .now) (a .store .now) (storeAt (a .shelf) (a .store .now)) s (c .before .before .before .before .before .before .before .if2 .left),
-          c .before .before .before .before .frame-on .ensures .1 .1
-              ∙ checked-good (soundOf (a .card) (a .shelf) (length (a .store .now)) (a .rows)) (length (a .buffer .now)) (a .buffer .now) (a .buffer .now) (bufferAt (a .shelf) (a .store .now) (a .buffer .now)) s (c .before .before .before .before .before .before .before .if2 .left),
+          w .1 .0 ∙ checked-good (soundIn (a .card) b (length store) (a .rows)) n b b (stateAt b store) s m,
+          (
+            w .1 .1 .0 ∙ in-good (a .card) b (length store) (a .rows) n (λ x. x) store store (storeAt (shelfIn b) store) s m,
+            w .1 .1 .1 ∙ in-good (a .card) b (length store) (a .rows) n (λ x. x) buffer buffer (bufferAt (shelfIn b) store buffer) s m,
+          ),
         ),
       ),
-      subst (λ (x : Done). (x .rises .to ≤ 32) × (x .rises .to ≤ a .rows)) (sym (c .before .before .before .before .frame-on .ensures .0)) (w .count, w .rows),
+      subst (λ (x : Outcome). (x .rises .to ≤ 32) × (x .rises .to ≤ a .rows)) (sym (w .0)) (g .count, g .rows),
     )
 
 pub frame-spec : {M : Type 1} → statement M

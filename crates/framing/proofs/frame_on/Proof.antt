@@ -1,16 +1,30 @@
 -- `framing::frame_on` meets its contract. Assumes nothing.
+use Prim.Native.Nat.{_+_, _%_, _^_}
+use native.Mathlib.Omega.{arith}
 use mathlib.Core.Path.{ap, _∙_}
+use mathlib.Core.Bool.{false}
+use lib.ListN.{getD}
 use Rattle.arbiter.specs.Arbitration.{grantedBy}
-use Rattle.framing.proofs.Sends.{frame-done}
+use Rattle.state.specs.Bytes.{withTurn}
+use Rattle.answer.specs.declared.Answer.the-variants.{Framed}
 use borrow.Author.Needs.{needs}
 use Rattle.framing.proofs.frame_on.Statement.{statement}
 use Rattle.framing.proofs.frame_on.Tie as tie
+
+frame-at-requires : tie.Need-frame-at-requires
+frame-at-requires c κs = search needs
+
+slice-read-sender : tie.Need-slice-read-sender
+slice-read-sender c = search needs
+
+slice-read-count : tie.Need-slice-read-count
+slice-read-count c = search needs
 
 renew-all-requires : tie.Need-renew-all-requires
 renew-all-requires c κs = search needs
 
 send-granted-requires : tie.Need-send-granted-requires
-send-granted-requires c κs = search needs
+send-granted-requires c κs = c .before .before .before .before .before .before .before .before .before .before .before .before .pre
 
 grant-requires : tie.Need-grant-requires
 grant-requires c κs = search needs
@@ -18,11 +32,11 @@ grant-requires c κs = search needs
 wrapping-add-u16-requires : tie.Need-wrapping-add-u16-requires
 wrapping-add-u16-requires c κs = search needs
 
-cast-t18 : tie.Need-cast-t18
-cast-t18 c = search needs
+put-turn-requires : tie.Need-put-turn-requires
+put-turn-requires c κs = search needs
 
-ends-requires : tie.Need-ends-requires
-ends-requires c κs = search needs
+cast-t31 : tie.Need-cast-t31
+cast-t31 c = omega (arith, c .before .before .before .before .before .before .before .before .before .before .before .before .before .before .before .before .before .before .before .before .slice-known5 .given 805)
 
 same-length : tie.Need-same-length
 same-length c = search needs
@@ -30,24 +44,38 @@ same-length c = search needs
 same-length-2 : tie.Need-same-length-2
 same-length-2 c = search needs
 
+same-length-3 : tie.Need-same-length-3
+same-length-3 c = search needs
+
 returns : tie.Need-returns
 returns c =
-    let a = c .before .before .before .before .before .before .before .before .before .before .before .before .before .before .before .before .before .args in (
-      c .ends .ensures
-          ∙ frame-done (a .shelf) (a .store .now) (c .before .before .before .before .before .before .grant .result) (c .before .before .before .before .before .before .before .before .before .before .before .send-granted .result) _ (c .before .before .before .before .before .before .grant .ensures ∙ ap grantedBy (c .before .before .before .before .before .before .before .before .before .before .before .before .before .before .renew-all .ensures)) (c .before .before .before .before .before .before .before .before .before .before .before .send-granted .ensures .0) (c .before .before .wrapping-add-u16 .ensures),
-      c .before .before .before .before .before .before .before .before .before .before .before .send-granted .ensures .1,
+    let b = c .before .before .before .before .before .before .before .before .before .before .before .before .before .before .before .before .before .before .before .before .before .before .before .before .before .before .before .args .s .now in
+    let n = c .before .before .before .before .before .before .before .before .before .before .before .before .before .before .before .before .before .before .before .before .before .before .frame-at .ensures in
+    let g = c .before .before .before .before .before .before .before .grant .ensures ∙ ap grantedBy (c .before .before .before .before .before .before .before .before .before .before .before .before .before .before .before .before .before .before .renew-all .ensures) in
+    let w = c .before .before .before .before .before .before .before .before .before .before .before .before .before .before .send-granted .ensures in
+    let next = c .before .before .before .wrapping-add-u16 .ensures ∙ ap (λ k. (k + 1) % 2 ^ 16) n in (
+      (λ i.
+          record {
+            answer = Framed (n i) (getD b 803 0) (g i .unit) (w .0 i .copies);
+            rises = record { from = 0; to = getD b 805 0; anew = false; each = w .0 i .each };
+          }),
+      (c .before .before .put-turn .ensures ∙ (λ i. withTurn (w .1 .0 i) (g i .arbiter) (g i .unit) (next i)), w .1 .1),
     )
 
 pub frame-on-spec : {M : Type 1} → statement M
 frame-on-spec =
     tie.close
     (tie.spec
+    frame-at-requires
+    slice-read-sender
+    slice-read-count
     renew-all-requires
     send-granted-requires
     grant-requires
     wrapping-add-u16-requires
-    cast-t18
-    ends-requires
+    put-turn-requires
+    cast-t31
     same-length
     same-length-2
+    same-length-3
     returns)

@@ -2,208 +2,116 @@
 use Prim.Native.Nat.{ℕ, _+_, _-_, _≤_, _<_, min}
 use native.Mathlib.Omega.{arith}
 use mathlib.Core.Path.{_≡_, refl, sym, ap, subst, _∙_}
-use mathlib.Core.Logic.{⊎-elim}
-use lib.ListN.{length, getD, drop}
-use lib.Seq.{getD-set-other}
-use borrow.Author.Needs.{needs}
-use Rattle.octets.specs.Octets.{splice}
-use Rattle.store.specs.Places.{putAt}
-use Rattle.shelf.specs.Shelves.{declared}
-use Rattle.shelf.specs.declared.Shelf.{Shelf}
-use Rattle.outlet.proofs.Laws.{length-mapped}
-use Rattle.admit.proofs.Laws.{nowhere, copied}
+use mathlib.Core.Bool.{false, _||_}
+use lib.ListN.{length, set, getD, replicate}
+use Rattle.state.specs.Bytes.{unitIn}
+use Rattle.answer.specs.Answers.{hearingRises, queuedOne, isAddressed}
 use Rattle.admit.specs.Admission.{Housed}
-use Rattle.answer.specs.declared.Hearing.the-variants.{Queued}
-use Rattle.hearing.specs.Hearings.{fateBy, copyWith, copyBy, copyOf, storeBy, storeOf}
-use Rattle.hearing.proofs.Plans.{plan-queue, outlet-inside, lost-copy, lost-store, queued-copy, queued-store}
-use Rattle.framing.specs.Sending.{heardFrom, storeFrom, heardByAll, heardStore}
-use Rattle.framing.proofs.Turns.{listening, none-left, inside, turned, unturned, stored, heard-none, store-none}
+use Rattle.hearing.specs.Hearings.{planOf}
+use Rattle.hearing.proofs.Plans.{plan-queue}
+use Rattle.hearing.proofs.InPlace.{state-long, state-there}
+use Rattle.framing.specs.Scenes.{turns, heededBy}
+use Rattle.framing.proofs.Turns.{scene, turns-step, turns-end}
+use borrow.Author.Needs.{needs}
 use Rattle.framing.proofs.hear_all.Statement.{statement}
 use Rattle.framing.proofs.hear_all.Tie as tie
 
 abbrev Inv-loop : tie.InvT-loop
-Inv-loop heard store₀ shelf₀ cell end each₀ copies₀ addressed₀ i₀ store shelf each copies addressed i =
+Inv-loop s₀ heard store₀ cell end each₀ copies₀ addressed₀ i₀ s store each copies addressed i =
     (i ≤ end)
+    × (end ≤ 32)
     × (copies ≤ i)
+    × (length s ≡ 2048)
     × (length store ≡ length store₀)
-    × ((j : ℕ) → i ≤ j → getD (shelf .units) j nowhere ≡ getD (shelf₀ .units) j nowhere)
-    × (heardByAll shelf₀ heard ≡ heardFrom heard i (drop i (declared shelf₀)) (listening shelf each copies addressed))
-    × (heardStore shelf₀ heard store₀ cell ≡ storeFrom heard i (drop i (declared shelf₀)) store cell)
+    × ((j : ℕ) → i ≤ j → j < end → Housed j (unitIn s j) (length store₀))
+    × (heededBy heard cell s₀ store₀ ≡ turns heard cell i (end - i) (scene s store each copies addressed))
 
 abbrev μ-loop : tie.MeasureT-loop
-μ-loop heard store₀ shelf₀ cell end each₀ copies₀ addressed₀ i₀ store shelf each copies addressed i = end - i
+μ-loop s₀ heard store₀ cell end each₀ copies₀ addressed₀ i₀ s store each copies addressed i = end - i
 
--- there are 32 places
-long : (c : tie.Start Inv-loop μ-loop) → length (c .args .t1 .units) ≡ 32
-long c = search (needs, length-mapped)
-
--- and 56 bytes of a cell
-whole : (c : tie.Start Inv-loop μ-loop) → length (c .args .t3) ≡ 56
-whole c = search needs
+slice-read-declared-count : tie.Need-slice-read-declared-count Inv-loop μ-loop
+slice-read-declared-count c = search needs
 
 declared-count-requires : tie.Need-declared-count-requires Inv-loop μ-loop
 declared-count-requires c κs = search needs
 
 loop-holds : tie.Need-loop-holds Inv-loop μ-loop
-loop-holds c = (omega arith, omega arith, refl, λ j h. refl, refl, refl)
+loop-holds c =
+    let s = c .before .before .before .before in
+    let a = s .args in
+    let e = c .declared-count .ensures in
+    let n : min (getD (a .s .now) 805 0) 32 ≡ c .declared-count .result - 0 = omega arith in
+    (omega arith, omega arith, omega arith, s .pre .0, refl, λ j h l. s .pre .1 j (omega arith), ap (λ k. turns (a .heard) (a .t3) 0 k (scene (a .s .now) (a .store .now) (replicate 32 0) 0 false)) n)
 
-mul-unit : tie.Need-mul-unit Inv-loop μ-loop
-mul-unit c = let e = c .before .before .declared-count .ensures in omega arith
+slice-aggregate-hear-one : tie.Need-slice-aggregate-hear-one Inv-loop μ-loop
+slice-aggregate-hear-one c = search needs
 
-element-copy-out-unit : tie.Need-element-copy-out-unit Inv-loop μ-loop
-element-copy-out-unit c = let e = c .before .before .declared-count .ensures in omega arith
-
-plan-of-requires : tie.Need-plan-of-requires Inv-loop μ-loop
-plan-of-requires c κs = search needs
-
-enum-known-plan : tie.Need-enum-known-plan Inv-loop μ-loop
-enum-known-plan c = search needs
-
--- what is known once a unit's plan is made: the place is one of 32, and the unit is the one that stood there
-below : (s : tie.After-plan-of Inv-loop μ-loop) → s .before .before .before .loop .i < min (s .before .before .before .before .before .before .args .t1 .count) 32
-below s = let e = s .before .before .before .before .declared-count .ensures in omega (arith, e, s .before .before .loop-test .taken)
-
-same-unit : (s : tie.After-plan-of Inv-loop μ-loop) → getD (s .before .before .before .loop .shelf .units) (s .before .before .before .loop .i) nowhere ≡ getD (s .before .before .before .before .before .before .args .t1 .units) (s .before .before .before .loop .i) nowhere
-same-unit s = s .before .before .before .loop .inv .3 (s .before .before .before .loop .i) (omega arith)
-
-housed : (s : tie.After-plan-of Inv-loop μ-loop) → Housed (s .before .before .before .loop .i) (getD (s .before .before .before .loop .shelf .units) (s .before .before .before .loop .i) nowhere) (length (s .before .before .before .loop .store))
-housed s =
-    let a = s .before .before .before .before .before .before .args in
-    let l = s .before .before .before .loop in
-    let less = below s in
-    let u = same-unit s ∙ copied (a .t1) (l .i) (long (s .before .before .before .before .before .before)) (omega (arith, less)) in
-    subst (λ b. Housed (l .i) (getD (l .shelf .units) (l .i) nowhere) b) (sym (l .inv .2))
-    (subst (λ x. Housed (l .i) x (length (a .store .now))) (sym u) (s .before .before .before .before .before .before .pre (l .i) (inside (a .t1) (long (s .before .before .before .before .before .before)) (l .i) less)))
-
-slot-of-requires : tie.Need-slot-of-requires Inv-loop μ-loop
-slot-of-requires c κs =
-    let s = c .before .before .before .before .before in
-    let less = below s in
-    let e = sym (s .plan-of .ensures) ∙ c .before .before .before .plan .given .1 in
-    (plan-queue (getD (s .before .before .before .loop .shelf .units) (s .before .before .before .loop .i) nowhere) (s .before .before .before .before .before .before .args .heard) _ e, omega (arith, less))
-
-slice-aggregate-put-cell : tie.Need-slice-aggregate-put-cell Inv-loop μ-loop
-slice-aggregate-put-cell c = search needs
-
-put-cell-requires : tie.Need-put-cell-requires Inv-loop μ-loop
-put-cell-requires c κs =
-    let s = c .before .before .before .before .before .before .before in
-    let l = s .before .before .before .loop in
-    let u = getD (l .shelf .units) (l .i) nowhere in
-    let e = sym (s .plan-of .ensures) ∙ c .before .before .before .before .before .plan .given .1 in (
-      whole (s .before .before .before .before .before .before),
-      subst (λ n. n + 56 ≤ length (l .store)) (sym (c .before .slot-of .ensures)) (outlet-inside (l .i) (length (l .store)) u _ (housed s) (plan-queue u (s .before .before .before .before .before .before .args .heard) _ e)),
-    )
-
-queued-up-requires : tie.Need-queued-up-requires Inv-loop μ-loop
-queued-up-requires c κs =
-    let s = c .before .before .before .before .before .before .before .before .before .before in
-    let e = sym (s .plan-of .ensures) ∙ c .before .before .before .before .before .before .before .before .plan .given .1 in
-    plan-queue (getD (s .before .before .before .loop .shelf .units) (s .before .before .before .loop .i) nowhere) (s .before .before .before .before .before .before .args .heard) _ e
-
-mul-t26 : tie.Need-mul-t26 Inv-loop μ-loop
-mul-t26 c = let less = below (c .before .before .before .before .before .before .before .before .before .before .before) in omega (arith, less)
-
-element-set-from-shelf : tie.Need-element-set-from-shelf Inv-loop μ-loop
-element-set-from-shelf c = let less = below (c .before .before .before .before .before .before .before .before .before .before .before) in omega (arith, less)
-
-enum-told : tie.Need-enum-told Inv-loop μ-loop
-enum-told c = search needs
-
-fate-by-requires : tie.Need-fate-by-requires Inv-loop μ-loop
-fate-by-requires c κs = search needs
+hear-one-requires : tie.Need-hear-one-requires Inv-loop μ-loop
+hear-one-requires c κs =
+    let a = c .before .before .before .before .before .before .before .before .before .args in
+    let l = c .before .before .before .before .loop in
+    let full : length (a .t3) ≡ 56 = search needs in
+    (l .inv .3, full, subst (λ n. Housed (l .i) (unitIn (l .s) (l .i)) n) (sym (l .inv .4)) (l .inv .5 (l .i) (omega arith) (omega arith)))
 
 hearing-rises-requires : tie.Need-hearing-rises-requires Inv-loop μ-loop
 hearing-rises-requires c κs = search needs
 
 mul-each : tie.Need-mul-each Inv-loop μ-loop
-mul-each c = let less = below (c .before .before .before) in omega (arith, less)
+mul-each c = search needs
 
 array-write-each : tie.Need-array-write-each Inv-loop μ-loop
-array-write-each c = let less = below (c .before .before .before) in omega (arith, less)
+array-write-each c = search needs
 
 queued-one-requires : tie.Need-queued-one-requires Inv-loop μ-loop
 queued-one-requires c κs = search needs
 
 add-copies : tie.Need-add-copies Inv-loop μ-loop
-add-copies c =
-    let s = c .before .before .before .before in
-    let less = below s in
-    let w = s .before .before .before .loop .inv in
-    let q = c .queued-one .ensures .1 in
-    omega (arith, w .1, q, less)
+add-copies c = let w = c .before .before .before .before .before .before .before .before .before .before .before .loop .inv in let q = c .queued-one .ensures .1 in omega (arith, w .0, w .1, w .2, q)
 
 is-addressed-requires : tie.Need-is-addressed-requires Inv-loop μ-loop
 is-addressed-requires c κs = search needs
 
 add-i : tie.Need-add-i Inv-loop μ-loop
-add-i c = let less = below (c .before .before .before .before .before) in omega (arith, less)
+add-i c = search needs
 
 loop-less : tie.Need-loop-less Inv-loop μ-loop
-loop-less c = omega arith
+loop-less c = search needs
 
 loop-again : tie.Need-loop-again Inv-loop μ-loop
-unfolding putAt fateBy
 loop-again c =
-    let s = c .before .before .before .before .before in
-    let m = c .before .before .before .before .match in
-    let a = s .before .before .before .before .before .before .args in
-    let l = s .before .before .before .loop in
-    let n = l .i in
-    let less = below s in
-    let u = getD (l .shelf .units) n nowhere in
-    let same = same-unit s in
-    let p = s .plan-of .ensures in
-    let f = c .before .before .before .fate-by in
-    ⊎-elim
-    (λ w.
-    let e = w .1 .given .1 in
-    let r = w .10 in
-    let es = w .11 in
-    let eh = w .12 in
-    let x : f .result ≡ Queued = f .ensures ∙ ap fateBy (w .13) in (
-      omega (arith, s .before .before .before .before .declared-count .ensures, less),
-      omega (arith, l .inv .1, c .before .queued-one .ensures .1),
-      ap length es ∙ w .8 .given ∙ l .inv .2,
-      λ j h. ap (λ (z : Shelf). getD (z .units) j nowhere) eh ∙ getD-set-other (l .shelf .units) n j (r .result) nowhere (omega arith) ∙ l .inv .3 j (omega arith),
-      l .inv .4
-          ∙ turned (a .t1) (long (s .before .before .before .before .before .before)) n less (a .heard) (copyWith (r .result) (f .result))
-          (ap (copyWith (r .result)) x ∙ queued-copy u _ n (l .store) (a .t3) _ e _ (r .ensures) ∙ ap (λ y. copyBy y u) p ∙ ap (λ y. copyOf y (a .heard)) same)
-          (l .shelf) (m .shelf) eh (l .each) (l .copies) (l .addressed) _ _ _ (c .before .before .hearing-rises .ensures) (c .before .queued-one .ensures .0) (c .is-addressed .ensures),
-      l .inv .5
-          ∙ stored (a .t1) (long (s .before .before .before .before .before .before)) n less (a .heard) (l .store) (m .store) (a .t3)
-          (es ∙ w .7 .ensures ∙ ap (λ m. splice (l .store) m (a .t3)) (w .5 .ensures) ∙ queued-store u _ n (l .store) (a .t3) _ e
-          ∙ ap (λ y. storeBy y u n (l .store) (a .t3)) p ∙ ap (λ y. storeOf y (a .heard) n (l .store) (a .t3)) same),
-    ))
-    (λ w.
-    let e = w .1 .given .1 in
-    let es = w .2 in
-    let eh = w .3 in
-    let x = f .ensures ∙ ap fateBy (w .4) in (
-      omega (arith, s .before .before .before .before .declared-count .ensures, less),
-      omega (arith, l .inv .1, c .before .queued-one .ensures .1),
-      ap length es ∙ l .inv .2,
-      λ j h. ap (λ (z : Shelf). getD (z .units) j nowhere) eh ∙ l .inv .3 j (omega arith),
-      l .inv .4
-          ∙ turned (a .t1) (long (s .before .before .before .before .before .before)) n less (a .heard) (copyWith u (f .result))
-          (lost-copy u _ n (l .store) (a .t3) _ e _ x ∙ ap (λ y. copyBy y u) p ∙ ap (λ y. copyOf y (a .heard)) same)
-          (l .shelf) (m .shelf) (eh ∙ unturned (l .shelf) n) (l .each) (l .copies) (l .addressed) _ _ _ (c .before .before .hearing-rises .ensures) (c .before .queued-one .ensures .0) (c .is-addressed .ensures),
-      l .inv .5
-          ∙ stored (a .t1) (long (s .before .before .before .before .before .before)) n less (a .heard) (l .store) (m .store) (a .t3)
-          (es ∙ lost-store u _ n (l .store) (a .t3) _ e ∙ ap (λ y. storeBy y u n (l .store) (a .t3)) p ∙ ap (λ y. storeOf y (a .heard) n (l .store) (a .t3)) same),
-    ))
-    (m .came)
+    let l = c .before .before .before .before .before .before .before .before .before .before .before .before .loop in
+    let a = c .before .before .before .before .before .before .before .before .before .before .before .before .before .before .before .before .before .args in
+    let w = c .before .before .before .before .before .before .before .hear-one in
+    let n = c .before .before .before .before .before .before .before .before .before .before .before .before .before .declared-count .result in
+    let u = unitIn (l .s) (l .i) in
+    let p = planOf u (a .heard) in
+    let f = w .ensures .0 in
+    let es = w .ensures .1 .0 in
+    let et = w .ensures .1 .1 in
+    let long : length (w .last .1 .1 .1 .1 .0) ≡ length (l .store) = search needs in
+    let less : l .i < n = search needs in (
+      omega arith,
+      l .inv .1,
+      omega (arith, l .inv .2, c .before .queued-one .ensures .1),
+      ap length es ∙ state-long p (l .s) (l .i) ∙ l .inv .3,
+      long ∙ l .inv .4,
+      λ j hj lj. subst (λ x. Housed j x (length (a .store .now))) (sym (ap (λ b. unitIn b j) es ∙ state-there p (l .s) (l .i) (plan-queue u (a .heard)) (omega (arith, l .inv .1, less)) (l .inv .3) j (omega (arith, l .inv .1, lj)) (λ e. absurd (omega arith)))) (l .inv .5 j (omega arith) lj),
+      l .inv .6 ∙ turns-step (a .heard) (a .t3) (l .i) n _ _ less (λ t.
+          scene (sym es t) (sym et t) (set (l .each) (l .i) (sym (c .before .before .hearing-rises .ensures ∙ ap hearingRises f) t)) (l .copies + sym (c .before .queued-one .ensures .0 ∙ ap queuedOne f) t) (l .addressed || sym (c .is-addressed .ensures ∙ ap isAddressed f) t)),
+    )
 
 same-length : tie.Need-same-length Inv-loop μ-loop
-same-length c = c .before .loop .inv .2
+same-length c = c .before .loop .inv .3 ∙ sym (c .before .before .before .before .before .before .pre .0)
+
+same-length-2 : tie.Need-same-length-2 Inv-loop μ-loop
+same-length-2 c = c .before .loop .inv .4
 
 returns : tie.Need-returns Inv-loop μ-loop
 returns c =
-    let a = c .before .before .before .before .args in
-    let e = c .before .before .declared-count .ensures in
-    let w = c .before .loop .inv in
-    let n = none-left (a .t1) (long (c .before .before .before .before)) (c .before .loop .i) (omega (arith, e)) in
-    (sym (w .4 ∙ heard-none (a .heard) (c .before .loop .i) _ _ n), sym (w .5 ∙ store-none (a .heard) (c .before .loop .i) _ _ _ n))
+    let l = c .before .loop in
+    let a = c .before .before .before .before .before .before .args in
+    let e = sym (l .inv .6 ∙ turns-end (a .heard) (a .t3) (l .i) _ (scene (l .s) (l .store) (l .each) (l .copies) (l .addressed)) (omega arith)) in
+    (λ t. e t .tally, (λ t. e t .bytes, λ t. e t .store))
 
 pub hear-all-spec : {M : Type 1} → statement M
 hear-all-spec =
@@ -211,20 +119,11 @@ hear-all-spec =
     (tie.spec
     Inv-loop
     μ-loop
+    slice-read-declared-count
     declared-count-requires
     loop-holds
-    mul-unit
-    element-copy-out-unit
-    plan-of-requires
-    enum-known-plan
-    slot-of-requires
-    slice-aggregate-put-cell
-    put-cell-requires
-    queued-up-requires
-    mul-t26
-    element-set-from-shelf
-    enum-told
-    fate-by-requires
+    slice-aggregate-hear-one
+    hear-one-requires
     hearing-rises-requires
     mul-each
     array-write-each
@@ -235,4 +134,5 @@ hear-all-spec =
     loop-less
     loop-again
     same-length
+    same-length-2
     returns)

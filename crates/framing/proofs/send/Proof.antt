@@ -1,140 +1,103 @@
 -- `framing::send` meets its contract. Assumes nothing.
-use Prim.Native.Nat.{_+_, _≤_}
+use Prim.Native.Nat.{_+_, _≤_, _<_}
 use native.Mathlib.Omega.{arith}
 use mathlib.Core.Path.{_≡_, sym, ap, subst, _∙_}
-use lib.ListN.{length, getD}
+use lib.ListN.{length, replicate}
 use Rattle.octets.specs.Octets.{part}
-use Rattle.outlet.proofs.Laws.{length-mapped}
-use Rattle.admit.specs.Admission.{Housed, withUnit, withInlet}
-use Rattle.admit.proofs.Laws.{nowhere, copied, cell-length}
-use Rattle.hearing.proofs.Plans.{before-parity}
-use Rattle.framing.specs.Sending.{heardStore}
-use Rattle.framing.proofs.Sends.{head-inside, sealed-length, spliced-whole, out-is, out-housed, frame-is, sent-done, sent-store}
+use Rattle.outlet.specs.declared.Ring.{Ring}
+use Rattle.store.specs.Rings.{popped}
+use Rattle.store.specs.Places.{slotAt, inletSlot}
+use Rattle.state.specs.Bytes.{unitIn, withRing}
+use Rattle.admit.specs.Admission.{Housed}
+use Rattle.admit.proofs.Laws.{cell-length}
+use Rattle.framing.specs.Scenes.{AllHousedIn}
+use Rattle.framing.specs.InPlace.{outState}
+use Rattle.framing.proofs.Sends.{head-inside, spliced-whole, inlet-in, out-long, out-housed-in, frame-is, sent-tally, sent-bytes, sent-store}
 use borrow.Author.Needs.{needs}
 use Rattle.framing.proofs.send.Statement.{statement}
 use Rattle.framing.proofs.send.Tie as tie
 
--- there are 32 places
-long : (c : tie.Start) → length (c .args .t1 .units) ≡ 32
-long c = search (needs, length-mapped)
+-- the sender is a declared unit
+housed : (c : tie.Start) → Housed (c .args .place) (unitIn (c .args .s .now) (c .args .place)) (length (c .args .store .now))
+housed c = c .pre .3 (c .args .place) (c .pre .2)
 
-mul-unit : tie.Need-mul-unit
-mul-unit c = let h = c .before .before .pre .2 (c .before .before .args .place) (c .before .before .pre .1) in let b = h .below in omega (arith, b)
+below : (c : tie.Start) → c .args .place < 32
+below c = housed c .below
 
-element-copy-out-unit : tie.Need-element-copy-out-unit
-element-copy-out-unit c = let h = c .before .before .pre .2 (c .before .before .args .place) (c .before .before .pre .1) in let b = h .below in omega (arith, b)
+ring-at-requires : tie.Need-ring-at-requires
+ring-at-requires c κs = let s = c .before .before .before .before in (s .pre .0, omega arith, omega arith, below s)
 
 inlet-at-requires : tie.Need-inlet-at-requires
-inlet-at-requires c κs = (c .before .before .before .before .before .pre .2 (c .before .before .before .before .before .args .place) (c .before .before .before .before .before .pre .1)) .below
+inlet-at-requires c κs = below (c .before .before .before .before .before .before)
+
+-- its inlet, and where the oldest cell of it stands
+inlet : (c : tie.After-ring-at) → c .ring-at .result ≡ unitIn (c .before .before .before .before .before .args .s .now) (c .before .before .before .before .before .args .place) .inlet
+inlet c = let s = c .before .before .before .before .before in c .ring-at .ensures ∙ inlet-in (s .args .s .now) (s .args .place) (s .args .store .now) (s .pre .0) (s .pre .2)
+
+at : (c : tie.After-inlet-at) → let a = c .before .before .before .before .before .before .before .args in c .inlet-at .result ≡ slotAt (a .place) (inletSlot (unitIn (a .s .now) (a .place) .inlet .head))
+at c = let a = c .before .before .before .before .before .before .before .args in c .inlet-at .ensures ∙ ap (λ (r : Ring). slotAt (a .place) (inletSlot (r .head))) (inlet (c .before .before))
 
 get-cell-requires : tie.Need-get-cell-requires
 get-cell-requires c κs =
-    let a = c .before .before .before .before .before .before .args in
-    let h = c .before .before .before .before .before .before .pre .2 (a .place) (c .before .before .before .before .before .before .pre .1) in
-    let u = copied (a .t1) (a .place) (long (c .before .before .before .before .before .before)) (h .below) in
-    let u₀ = getD (a .t1 .units) (a .place) nowhere in
-    let hu = subst (λ x. Housed (a .place) x (length (a .store .now))) (sym u) h in
-    let at = subst (λ n. n + 56 ≤ length (a .store .now)) (sym (c .inlet-at .ensures)) (head-inside (a .place) (length (a .store .now)) u₀ hu) in
-    at
+    let a = c .before .before .before .before .before .before .before .args in
+    subst (λ n. n + 56 ≤ length (a .store .now)) (sym (at c)) (head-inside (a .place) (length (a .store .now)) (unitIn (a .s .now) (a .place)) (housed (c .before .before .before .before .before .before .before)))
+
+full : (c : tie.After-get-cell) → length (c .get-cell .result .now) ≡ 56
+full c =
+    let a = c .before .before .before .before .before .before .before .before .args in
+    cell-length (a .store .now) (c .before .inlet-at .result) (c .get-cell .result .now)
+    (subst (λ n. n + 56 ≤ length (a .store .now)) (sym (at (c .before))) (head-inside (a .place) (length (a .store .now)) (unitIn (a .s .now) (a .place)) (housed (c .before .before .before .before .before .before .before .before)))) (c .get-cell .ensures)
+
+slice-aggregate-copy : tie.Need-slice-aggregate-copy
+slice-aggregate-copy c = search needs
+
+copy-requires : tie.Need-copy-requires
+copy-requires c κs = let f = full (c .before) in omega arith
+
+slice-aggregate-seal : tie.Need-slice-aggregate-seal
+slice-aggregate-seal c = search needs
 
 seal-requires : tie.Need-seal-requires
-seal-requires c κs =
-    let a = c .before .before .before .before .before .before .before .before .args in
-    let h = c .before .before .before .before .before .before .before .before .pre .2 (a .place) (c .before .before .before .before .before .before .before .before .pre .1) in
-    let u = copied (a .t1) (a .place) (long (c .before .before .before .before .before .before .before .before)) (h .below) in
-    let u₀ = getD (a .t1 .units) (a .place) nowhere in
-    let hu = subst (λ x. Housed (a .place) x (length (a .store .now))) (sym u) h in
-    let at = subst (λ n. n + 56 ≤ length (a .store .now)) (sym (c .before .before .inlet-at .ensures)) (head-inside (a .place) (length (a .store .now)) u₀ hu) in
-    let cl = cell-length (a .store .now) (c .before .before .inlet-at .result) (c .before .get-cell .result .now) at (c .before .get-cell .ensures) in
-    (cl, c .before .before .before .before .before .before .before .before .pre .0)
+seal-requires c κs = search needs
 
 popped-requires : tie.Need-popped-requires
 popped-requires c κs = search needs
 
-mul-unit-2 : tie.Need-mul-unit-2
-mul-unit-2 c =
-    let h = c .before .before .before .before .before .before .before .before .before .before .before .before .pre .2 (c .before .before .before .before .before .before .before .before .before .before .before .before .args .place) (c .before .before .before .before .before .before .before .before .before .before .before .before .pre .1) in
-    let b = h .below in
-    omega (arith, b)
+put-ring-requires : tie.Need-put-ring-requires
+put-ring-requires c κs = let s = c .before .before .before .before .before .before .before .before .before .before .before .before .before .before .before .before .before .before in (s .pre .0, omega arith, omega arith, below s)
 
-element-set-from-unit : tie.Need-element-set-from-unit
-element-set-from-unit c =
-    let h = c .before .before .before .before .before .before .before .before .before .before .before .before .pre .2 (c .before .before .before .before .before .before .before .before .before .before .before .before .args .place) (c .before .before .before .before .before .before .before .before .before .before .before .before .pre .1) in
-    let b = h .below in
-    omega (arith, b)
+slice-aggregate-hear-sent : tie.Need-slice-aggregate-hear-sent
+slice-aggregate-hear-sent c = search needs
 
-slice-reshare-prefix-copy : tie.Need-slice-reshare-prefix-copy
-slice-reshare-prefix-copy c = search needs
+hear-sent-requires : tie.Need-hear-sent-requires
+hear-sent-requires c κs = search needs
 
-slice-aggregate-copy : tie.Need-slice-aggregate-copy
-slice-aggregate-copy c =
-    let s = c .before .before .before .before .before .before .before .before .before .before .before .before .before in
-    let a = s .args in
-    let h = s .pre .2 (a .place) (s .pre .1) in
-    let u = copied (a .t1) (a .place) (long s) (h .below) in
-    let u₀ = getD (a .t1 .units) (a .place) nowhere in
-    let hu = subst (λ x. Housed (a .place) x (length (a .store .now))) (sym u) h in
-    let at = subst (λ n. n + 56 ≤ length (a .store .now)) (sym (c .before .before .before .before .before .before .before .inlet-at .ensures)) (head-inside (a .place) (length (a .store .now)) u₀ hu) in
-    let cl = cell-length (a .store .now) (c .before .before .before .before .before .before .before .inlet-at .result) (c .before .before .before .before .before .before .get-cell .result .now) at (c .before .before .before .before .before .before .get-cell .ensures) in
-    let fl = ap length (c .before .before .before .before .seal .ensures) ∙ sealed-length (c .before .before .before .before .before .before .get-cell .result .now) cl in
-    let bp = before-parity (c .before .before .before .before .seal .last .1 .0) fl in
-    sym bp
-
-slice-aggregate-copy-2 : tie.Need-slice-aggregate-copy-2
-slice-aggregate-copy-2 c = search needs
-
-copy-requires : tie.Need-copy-requires
-copy-requires c κs =
-    let s = c .before .before .before .before .before .before .before .before .before .before .before .before .before .before in
-    let a = s .args in
-    let h = s .pre .2 (a .place) (s .pre .1) in
-    let u = copied (a .t1) (a .place) (long s) (h .below) in
-    let u₀ = getD (a .t1 .units) (a .place) nowhere in
-    let hu = subst (λ x. Housed (a .place) x (length (a .store .now))) (sym u) h in
-    let at = subst (λ n. n + 56 ≤ length (a .store .now)) (sym (c .before .before .before .before .before .before .before .before .inlet-at .ensures)) (head-inside (a .place) (length (a .store .now)) u₀ hu) in
-    let cl = cell-length (a .store .now) (c .before .before .before .before .before .before .before .before .inlet-at .result) (c .before .before .before .before .before .before .before .get-cell .result .now) at (c .before .before .before .before .before .before .before .get-cell .ensures) in
-    let fl = ap length (c .before .before .before .before .before .seal .ensures) ∙ sealed-length (c .before .before .before .before .before .before .before .get-cell .result .now) cl in
-    let bp = before-parity (c .before .before .before .before .before .seal .last .1 .0) fl in
-    omega (arith, bp)
-
-hear-requires : tie.Need-hear-requires
-hear-requires c κs = search needs
+-- the state without that cell
+out : (c : tie.After-put-ring) → let a = c .before .before .before .before .before .before .before .before .before .before .before .before .before .before .before .before .before .before .before .args in withRing (a .s .now) 14 15 (a .place) (c .before .popped .result) ≡ outState (a .s .now) (a .place)
+out c = let a = c .before .before .before .before .before .before .before .before .before .before .before .before .before .before .before .before .before .before .before .args in (λ t. withRing (a .s .now) 14 15 (a .place) ((c .before .popped .ensures ∙ ap (λ r. popped r 4) (inlet (c .before .before .before .before .before .before .before .before .before .before .before .before .before .before))) t))
 
 hear-all-requires : tie.Need-hear-all-requires
 hear-all-requires c κs =
-    let s = c .before .before .before .before .before .before .before .before .before .before .before .before .before .before .before .before .before .before .before in
+    let s = c .before .before .before .before .before .before .before .before .before .before .before .before .before .before .before .before .before .before .before .before .before .before .before .before .before in
     let a = s .args in
-    let h = s .pre .2 (a .place) (s .pre .1) in
-    let u = copied (a .t1) (a .place) (long s) (h .below) in
-    let r = c .before .before .before .before .before .before .before .popped in
-    out-housed (a .t1) (a .place) (length (a .store .now)) (getD (a .t1 .units) (a .place) nowhere) u (r .result) (r .ensures) (s .pre .1) (s .pre .2)
+    let n = length (a .store .now) in
+    subst (λ x. (length x ≡ 2048) × AllHousedIn x n) (sym (c .before .before .before .before .before .before .put-ring .ensures ∙ out (c .before .before .before .before .before .before)))
+    (out-long (a .s .now) (a .place) (a .store .now) (s .pre .0) (s .pre .2), out-housed-in (a .s .now) (a .place) (a .store .now) (s .pre .0) (s .pre .2) n (s .pre .3))
 
 mul-each : tie.Need-mul-each
-mul-each c =
-    let s = c .before .before .before .before .before .before .before .before .before .before .before .before .before .before .before .before .before .before .before .before .before .before .before in
-    let b = s .pre .2 (s .args .place) (s .pre .1) .below in
-    omega (arith, b)
+mul-each c = let b = below (c .before .before .before .before .before .before .before .before .before .before .before .before .before .before .before .before .before .before .before .before .before .before .before .before .before .before .before .before .before .before .before) in omega (arith, b)
 
 array-read-each : tie.Need-array-read-each
-array-read-each c =
-    let s = c .before .before .before .before .before .before .before .before .before .before .before .before .before .before .before .before .before .before .before .before .before .before .before in
-    let b = s .pre .2 (s .args .place) (s .pre .1) .below in
-    omega (arith, b)
+array-read-each c = let b = below (c .before .before .before .before .before .before .before .before .before .before .before .before .before .before .before .before .before .before .before .before .before .before .before .before .before .before .before .before .before .before .before) in omega (arith, b)
 
 sent-rises-requires : tie.Need-sent-rises-requires
 sent-rises-requires c κs = search needs
 
 mul-each-2 : tie.Need-mul-each-2
-mul-each-2 c =
-    let s = c .before .before .before .before .before .before .before .before .before .before .before .before .before .before .before .before .before .before .before .before .before .before .before .before in
-    let b = s .pre .2 (s .args .place) (s .pre .1) .below in
-    omega (arith, b)
+mul-each-2 c = let b = below (c .before .before .before .before .before .before .before .before .before .before .before .before .before .before .before .before .before .before .before .before .before .before .before .before .before .before .before .before .before .before .before .before) in omega (arith, b)
 
 array-write-each : tie.Need-array-write-each
-array-write-each c =
-    let s = c .before .before .before .before .before .before .before .before .before .before .before .before .before .before .before .before .before .before .before .before .before .before .before .before in
-    let b = s .pre .2 (s .args .place) (s .pre .1) .below in
-    omega (arith, b)
+array-write-each c = let b = below (c .before .before .before .before .before .before .before .before .before .before .before .before .before .before .before .before .before .before .before .before .before .before .before .before .before .before .before .before .before .before .before .before) in omega (arith, b)
 
 same-length : tie.Need-same-length
 same-length c = search needs
@@ -142,29 +105,25 @@ same-length c = search needs
 same-length-2 : tie.Need-same-length-2
 same-length-2 c = search needs
 
+same-length-3 : tie.Need-same-length-3
+same-length-3 c = search needs
+
 returns : tie.Need-returns
 returns c =
-    let s = c .before .before .before .before .before .before .before .before .before .before .before .before .before .before .before .before .before .before .before .before .before .before .before .before in
+    let s = c .before .before .before .before .before .before .before .before .before .before .before .before .before .before .before .before .before .before .before .before .before .before .before .before .before .before .before .before .before .before .before .before in
     let a = s .args in
-    let h = s .pre .2 (a .place) (s .pre .1) in
-    let u = copied (a .t1) (a .place) (long s) (h .below) in
-    let u₀ = getD (a .t1 .units) (a .place) nowhere in
-    let hu = subst (λ x. Housed (a .place) x (length (a .store .now))) (sym u) h in
-    let at = subst (λ n. n + 56 ≤ length (a .store .now)) (sym (c .before .before .before .before .before .before .before .before .before .before .before .before .before .before .before .before .before .before .inlet-at .ensures)) (head-inside (a .place) (length (a .store .now)) u₀ hu) in
-    let cl = cell-length (a .store .now) (c .before .before .before .before .before .before .before .before .before .before .before .before .before .before .before .before .before .before .inlet-at .result) (c .before .before .before .before .before .before .before .before .before .before .before .before .before .before .before .before .before .get-cell .result .now) at (c .before .before .before .before .before .before .before .before .before .before .before .before .before .before .before .before .before .get-cell .ensures) in
-    let fl = ap length (c .before .before .before .before .before .before .before .before .before .before .before .before .before .before .before .seal .ensures) ∙ sealed-length (c .before .before .before .before .before .before .before .before .before .before .before .before .before .before .before .before .before .get-cell .result .now) cl in
-    let bp = before-parity (c .before .before .before .before .before .before .before .before .before .before .before .before .before .before .before .seal .last .1 .0) fl in
-    let r = c .before .before .before .before .before .before .before .before .before .before .before .before .popped in
-    let f = c .before .before .before .before .before .before .hear in
-    let l = c .before .before .before .before .hear-all in
-    let es = out-is (a .t1) (a .place) (length (a .store .now)) u₀ u (r .result) (r .ensures) in
-    let ef = c .before .before .before .before .before .before .before .before .before .before .before .before .before .before .before .seal .ensures ∙ frame-is (a .t1) (a .place) (a .store .now) u₀ u (c .before .before .before .before .before .before .before .before .before .before .before .before .before .before .before .before .before .get-cell .result .now) (c .before .before .before .before .before .before .before .before .before .before .before .before .before .before .before .before .before .get-cell .ensures ∙ ap (λ n. part (a .store .now) n 56) (c .before .before .before .before .before .before .before .before .before .before .before .before .before .before .before .before .before .before .inlet-at .ensures)) in
-    let cell = c .before .before .before .before .before .before .before .before .before .copy .ensures ∙ spliced-whole _ _ bp in (
-      sent-done (a .t1) (a .place) (a .store .now) _ _ _ es ef (f .ensures) (l .result) _ (l .ensures .0) (c .sent-rises .ensures),
+    let b = a .s .now in
+    let f = full (c .before .before .before .before .before .before .before .before .before .before .before .before .before .before .before .before .before .before .before .before .before .before .before .before) in
+    let es = c .before .before .before .before .before .before .before .before .before .before .before .before .before .put-ring .ensures ∙ out (c .before .before .before .before .before .before .before .before .before .before .before .before .before) in
+    let ec = c .before .before .before .before .before .before .before .before .before .before .before .before .before .before .before .before .before .before .before .before .before .before .copy .ensures ∙ spliced-whole (replicate 56 0) (c .before .before .before .before .before .before .before .before .before .before .before .before .before .before .before .before .before .before .before .before .before .before .before .before .get-cell .result .now) f ∙ c .before .before .before .before .before .before .before .before .before .before .before .before .before .before .before .before .before .before .before .before .before .before .before .before .get-cell .ensures ∙ ap (λ n. part (a .store .now) n 56) (at (c .before .before .before .before .before .before .before .before .before .before .before .before .before .before .before .before .before .before .before .before .before .before .before .before .before)) in
+    let ef = frame-is b (a .place) (a .store .now) (s .pre .0) (s .pre .2) _ ec in
+    let whole = ap length (c .before .before .before .before .before .before .before .before .before .before .before .before .before .before .before .before .before .before .before .before .before .before .copy .ensures ∙ spliced-whole (replicate 56 0) (c .before .before .before .before .before .before .before .before .before .before .before .before .before .before .before .before .before .before .before .before .before .before .before .before .get-cell .result .now) f) ∙ f in
+    let eh = c .before .before .before .before .before .before .before .before .hear-sent .ensures in
+    let l = c .before .before .before .before .before .before .hear-all in (
+      sent-tally b (a .place) (a .store .now) (s .pre .0) (s .pre .2) _ _ _ es whole ef eh (l .result) _ (l .ensures .0) (c .sent-rises .ensures),
       (
-        sent-store (a .t1) (a .place) (a .store .now) _ _ _ es ef (f .ensures) _
-            (l .ensures .1 ∙ ap (λ x. heardStore (withUnit (a .t1) (a .place) (withInlet u₀ (r .result))) (f .result) (a .store .now) x) cell),
-        ef,
+        sent-bytes b (a .place) (a .store .now) (s .pre .0) (s .pre .2) _ _ _ es whole ef eh _ (l .ensures .1 .0),
+        (sent-store b (a .place) (a .store .now) (s .pre .0) (s .pre .2) _ _ _ es whole ef eh _ (l .ensures .1 .1), c .before .before .before .before .before .before .before .before .before .before .before .before .before .before .before .before .before .before .seal .ensures ∙ ef),
       ),
     )
 
@@ -172,19 +131,17 @@ pub send-spec : {M : Type 1} → statement M
 send-spec =
     tie.close
     (tie.spec
-    mul-unit
-    element-copy-out-unit
+    ring-at-requires
     inlet-at-requires
     get-cell-requires
+    slice-aggregate-copy
+    copy-requires
+    slice-aggregate-seal
     seal-requires
     popped-requires
-    mul-unit-2
-    element-set-from-unit
-    slice-reshare-prefix-copy
-    slice-aggregate-copy
-    slice-aggregate-copy-2
-    copy-requires
-    hear-requires
+    put-ring-requires
+    slice-aggregate-hear-sent
+    hear-sent-requires
     hear-all-requires
     mul-each
     array-read-each
@@ -193,4 +150,5 @@ send-spec =
     array-write-each
     same-length
     same-length-2
+    same-length-3
     returns)

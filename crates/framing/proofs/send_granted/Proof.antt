@@ -1,11 +1,20 @@
 -- `framing::send_granted` meets its contract. Assumes nothing.
+use native.Mathlib.Omega.{arith}
 use mathlib.Core.Path.{sym, ap, _∙_}
+use lib.ListN.{getD}
 use Rattle.shelf.specs.Shelves.{declared}
-use Rattle.shelf.proofs.Finding.{find-at}
+use Rattle.shelf.proofs.Finding.{find-at, declared-length}
+use Rattle.state.specs.Bytes.{shelfIn}
+use Rattle.state.proofs.Laws.{units-length}
 use Rattle.framing.specs.Frames.{listenedBy, storeBy, bufferBy}
+use Rattle.framing.specs.Scenes.{heededOf}
+use Rattle.framing.specs.InPlace.{stateBy}
 use borrow.Author.Needs.{needs}
 use Rattle.framing.proofs.send_granted.Statement.{statement}
 use Rattle.framing.proofs.send_granted.Tie as tie
+
+slice-reshared-read-find : tie.Need-slice-reshared-read-find
+slice-reshared-read-find c = search needs
 
 find-requires : tie.Need-find-requires
 find-requires c κs = search needs
@@ -15,12 +24,11 @@ enum-known-place c = search needs
 
 send-requires : tie.Need-send-requires
 send-requires c κs =
-    let a = c .before .before .before .before .before .before .before .before .args in
-    let e = sym (c .before .before .before .before .before .find .ensures) ∙ c .before .before .before .place .given .1 in (
-      c .before .before .before .before .before .before .before .before .pre .0,
-      find-at (a .shelf .granted) (declared (a .shelf)) _ .0 e .inside,
-      c .before .before .before .before .before .before .before .before .pre .1,
-    )
+    let s = c .before .before .before .before .before .before .before .before .before .before .before in
+    let b = s .args .s .now in
+    let e = sym (c .before .before .before .before .before .before .find .ensures) ∙ c .before .before .before .before .place .given .1 in
+    let w = find-at (getD b 803 0) (declared (shelfIn b)) _ .0 e .inside in
+    (s .pre .0, s .pre .1, omega (arith, w, declared-length (shelfIn b) (units-length b 0 32)), s .pre .2)
 
 enum-told : tie.Need-enum-told
 enum-told c = search needs
@@ -34,31 +42,44 @@ same-length c = search needs
 same-length-2 : tie.Need-same-length-2
 same-length-2 c = search needs
 
+same-length-3 : tie.Need-same-length-3
+same-length-3 c = search needs
+
 returns : tie.Need-returns
-unfolding listenedBy storeBy bufferBy
+unfolding listenedBy storeBy bufferBy stateBy
 returns c =
-    let a = c .before .before .before .before .before .before .before .before .before .before .before .before .before .args in
-    let e = sym (c .before .before .before .before .before .before .before .before .before .before .find .ensures) ∙ c .before .before .before .before .before .before .before .before .place .given .1 in (
-      c .before .before .before .before .send .ensures .0 ∙ ap (λ x. listenedBy x (a .shelf) (a .store .now)) (sym e),
+    let a = c .before .before .before .before .before .before .before .before .before .before .before .before .before .before .before .before .before .before .args in
+    let b = a .s .now in
+    let e = sym (sym (c .before .before .before .before .before .before .before .before .before .before .before .before .before .find .ensures) ∙ c .before .before .before .before .before .before .before .before .before .before .before .place .given .1) in
+    let w = c .before .before .before .before .before .before .send .ensures in (
+      w .0 ∙ ap (λ x. heededOf (listenedBy x (shelfIn b) (a .store .now))) e,
       (
-        c .before .before .before .before .send .ensures .1 .0 ∙ ap (λ x. storeBy x (a .shelf) (a .store .now)) (sym e),
-        c .before .before .before .before .send .ensures .1 .1 ∙ ap (λ x. bufferBy x (a .shelf) (a .store .now) (a .buffer .now)) (sym e),
+        w .1 .0 ∙ ap (λ x. stateBy x b (a .store .now)) e,
+        (w .1 .1 .0 ∙ ap (λ x. storeBy x (shelfIn b) (a .store .now)) e, w .1 .1 .1 ∙ ap (λ x. bufferBy x (shelfIn b) (a .store .now) (a .buffer .now)) e),
       ),
     )
 
+same-length-4 : tie.Need-same-length-4
+same-length-4 c = search needs
+
 returns-2 : tie.Need-returns-2
-unfolding listenedBy storeBy bufferBy
+unfolding listenedBy storeBy bufferBy stateBy
 returns-2 c =
-    let a = c .before .before .before .before .before .before .args in
-    let e = sym (c .before .before .before .find .ensures) ∙ c .before .enum-told .given .1 in (
-      c .silence .ensures ∙ ap (λ x. listenedBy x (a .shelf) (a .store .now)) (sym e),
-      (ap (λ x. storeBy x (a .shelf) (a .store .now)) (sym e), ap (λ x. bufferBy x (a .shelf) (a .store .now) (a .buffer .now)) (sym e)),
+    let a = c .before .before .before .before .before .before .before .before .args in
+    let b = a .s .now in
+    let e = sym (sym (c .before .before .before .find .ensures) ∙ c .before .enum-told .given .1) in (
+      c .silence .ensures ∙ ap (λ x. heededOf (listenedBy x (shelfIn b) (a .store .now))) e,
+      (
+        ap (λ x. stateBy x b (a .store .now)) e,
+        (ap (λ x. storeBy x (shelfIn b) (a .store .now)) e, ap (λ x. bufferBy x (shelfIn b) (a .store .now) (a .buffer .now)) e),
+      ),
     )
 
 pub send-granted-spec : {M : Type 1} → statement M
 send-granted-spec =
     tie.close
     (tie.spec
+    slice-reshared-read-find
     find-requires
     enum-known-place
     send-requires
@@ -66,5 +87,7 @@ send-granted-spec =
     silence-requires
     same-length
     same-length-2
+    same-length-3
     returns
+    same-length-4
     returns-2)

@@ -1,17 +1,12 @@
 -- `given::join` meets its contract. Assumes nothing.
-use mathlib.Core.Path.{_≡_, sym, ap, _∙_}
-use lib.ListN.{length}
-use Rattle.outlet.proofs.Laws.{length-mapped}
+use mathlib.Core.Path.{sym, ap, _∙_}
+use Rattle.state.specs.Bytes.{shelfIn}
+use Rattle.state.proofs.Laws.{units-length}
 use Rattle.verdict.proofs.Owning.{found-in}
-use Rattle.told.specs.Told.{joinAt}
-use Rattle.given.proofs.Leaves.{hearing-more, joined}
-use native.Mathlib.Omega.{arith}
+use Rattle.given.specs.InPlace.{joinedAt}
 use borrow.Author.Needs.{needs}
 use Rattle.given.proofs.join.Statement.{statement}
 use Rattle.given.proofs.join.Tie as tie
-
-long : (c : tie.Start) → length (c .args .t1 .units) ≡ 32
-long c = search (needs, length-mapped)
 
 find-requires : tie.Need-find-requires
 find-requires c κs = search needs
@@ -22,35 +17,29 @@ enum-known-i c = search needs
 enum-told : tie.Need-enum-told
 enum-told c = search needs
 
+same-length : tie.Need-same-length
+same-length c = search needs
+
 returns : tie.Need-returns
-unfolding joinAt
+unfolding joinedAt
 returns c =
-    let a = c .before .before .before .args in
-    ap (λ f. joinAt (a .t1) f (a .session)) (sym (sym (c .before .before .find .ensures) ∙ c .enum-told .given .1))
+    let a = c .before .before .before .before .before .args in
+    ap (λ f. joinedAt (a .s .now) f (a .session)) (sym (sym (c .before .before .find .ensures) ∙ c .enum-told .given .1))
 
-mul-unit : tie.Need-mul-unit
-mul-unit c = omega (arith, found-in (c .before .before .before .before .args .t1) (c .before .before .before .before .args .number) (c .before .i .given .0 .0) (long (c .before .before .before .before)) (sym (c .before .before .before .find .ensures) ∙ c .before .i .given .1))
+join-requires : tie.Need-join-requires
+join-requires c κs =
+    let s = c .before .before .before .before .before .before .before in
+    let b = s .args .s .now in
+    (s .pre, found-in (shelfIn b) (s .args .number) (c .before .before .i .given .0 .0) (units-length b 0 32) (sym (c .before .before .before .before .find .ensures) ∙ c .before .before .i .given .1))
 
-element-copy-out-unit : tie.Need-element-copy-out-unit
-element-copy-out-unit c = found-in (c .before .before .before .before .args .t1) (c .before .before .before .before .args .number) (c .before .i .given .0 .0) (long (c .before .before .before .before)) (sym (c .before .before .before .find .ensures) ∙ c .before .i .given .1)
-
-with-session-requires : tie.Need-with-session-requires
-with-session-requires c κs = search needs
-
-mul-unit-2 : tie.Need-mul-unit-2
-mul-unit-2 c = omega (arith, found-in (c .before .before .before .before .before .before .before .args .t1) (c .before .before .before .before .before .before .before .args .number) (c .before .before .before .before .i .given .0 .0) (long (c .before .before .before .before .before .before .before)) (sym (c .before .before .before .before .before .before .find .ensures) ∙ c .before .before .before .before .i .given .1))
-
-element-set-from-unit : tie.Need-element-set-from-unit
-element-set-from-unit c = found-in (c .before .before .before .before .before .before .before .args .t1) (c .before .before .before .before .before .before .before .args .number) (c .before .before .before .before .i .given .0 .0) (long (c .before .before .before .before .before .before .before)) (sym (c .before .before .before .before .before .before .find .ensures) ∙ c .before .before .before .before .i .given .1)
+same-length-2 : tie.Need-same-length-2
+same-length-2 c = search needs
 
 returns-2 : tie.Need-returns-2
-unfolding hearing-more
+unfolding joinedAt
 returns-2 c =
-    let a = c .before .before .before .before .before .before .before .args in
-    let l = long (c .before .before .before .before .before .before .before) in
-    let i = c .before .before .before .before .i .given in
-    let e = sym (c .before .before .before .before .before .before .find .ensures) ∙ i .1 in
-    joined (a .t1) (a .number) (i .0 .0) (a .session) _ _ e (omega (arith, found-in (a .t1) (a .number) (i .0 .0) l e)) (c .with-session .ensures)
+    let a = c .before .before .before .before .before .before .before .before .before .before .args in
+    c .before .before .join .ensures ∙ ap (λ f. joinedAt (a .s .now) f (a .session)) (sym (sym (c .before .before .before .before .before .before .before .find .ensures) ∙ c .before .before .before .before .before .i .given .1))
 
 pub join-spec : {M : Type 1} → statement M
 join-spec =
@@ -59,10 +48,8 @@ join-spec =
     find-requires
     enum-known-i
     enum-told
+    same-length
     returns
-    mul-unit
-    element-copy-out-unit
-    with-session-requires
-    mul-unit-2
-    element-set-from-unit
+    join-requires
+    same-length-2
     returns-2)

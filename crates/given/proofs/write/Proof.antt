@@ -71,7 +71,7 @@ same-length c = search needs
 returns-3 : tie.Need-returns-3
 unfolding memoryBy
 returns-3 c =
-    let a = c .before .before .before .before .before .before .before .before .before .before .args in
+    let a = c .before .before .before .before .before .before .before .before .before .before .before .args in
     let l = c .before .before .before .before .before .before .before .line .given in
     c .before .before .put-path .ensures
     ∙ (λ i. putBy (a .card) (a .memory .now) (c .before .before .before .find-owner .ensures i) (l .0 .1 .0) (Route (c .before .before .before .before .before .write .ensures i) (l .0 .1 .1 .1 .1 .0) 0))
@@ -83,7 +83,7 @@ same-length-2 c = search needs
 returns-4 : tie.Need-returns-4
 unfolding memoryBy
 returns-4 c =
-    let a = c .before .before .before .before .before .before .before .before .before .args in
+    let a = c .before .before .before .before .before .before .before .before .before .before .args in
     let l = c .before .before .before .before .before .before .line2 .given in
     c .before .before .put-path2 .ensures ∙ (λ i. putBy (a .card) (a .memory .now) (c .before .before .before .find-owner2 .ensures i) (l .0 .1 .0) Drop) ∙ rw (l .1)
 
@@ -93,7 +93,7 @@ same-length-3 c = search needs
 returns-5 : tie.Need-returns-5
 unfolding memoryBy
 returns-5 c =
-    let a = c .before .before .before .before .before .before .before .before .before .args in
+    let a = c .before .before .before .before .before .before .before .before .before .before .args in
     let l = c .before .before .before .before .before .before .line3 .given in
     c .before .before .put-path3 .ensures
     ∙ (λ i. putBy (a .card) (a .memory .now) (c .before .before .before .find-owner3 .ensures i) (l .0 .1 .0) (Page (l .0 .1 .1 .0) (a .used))) ∙ rw (l .1)
@@ -104,7 +104,7 @@ same-length-4 c = search needs
 returns-6 : tie.Need-returns-6
 unfolding memoryBy
 returns-6 c =
-    let a = c .before .before .before .before .before .before .before .before .before .before .args in
+    let a = c .before .before .before .before .before .before .before .before .before .before .before .args in
     let l = c .before .before .before .before .before .before .before .line4 .given in
     c .before .before .put-circuit .ensures
     ∙ (λ i. putVc (a .card) (a .memory .now) (c .before .before .before .find-owner4 .ensures i) (l .0 .1 .0) (l .0 .1 .1 .0) (Route (c .before .before .before .before .before .write2 .ensures i) (l .0 .1 .1 .1 .1 .1 .0) (l .0 .1 .1 .1 .1 .1 .1 .0)))

@@ -1,7 +1,7 @@
 -- `lent::poke_line` meets its contract. Assumes nothing.
 use mathlib.Core.Path.{sym, ap, _∙_}
 use Rattle.text.specs.Text.{same}
-use Rattle.lent.specs.Names.{wMemory, wStore}
+use Rattle.lent.specs.Names.{wMemory, wStore, wState}
 use Rattle.lent.specs.Lent.{pokeLine}
 use borrow.Author.Needs.{needs}
 use Rattle.lent.proofs.poke_line.Statement.{statement}
@@ -36,9 +36,22 @@ returns-2 : tie.Need-returns-2
 unfolding pokeLine
 returns-2 c = c .poke-bank2 .ensures ∙ simp (ap (λ x. same x wMemory) (sym (c .before .before .before .before .before .before .before .field .ensures)) ∙ sym (c .before .before .before .before .before .is .ensures) ∙ c .before .before .before .before .if1 .left, ap (λ x. same x wStore) (sym (c .before .before .before .before .before .before .before .field .ensures)) ∙ sym (c .before .before .is2 .ensures) ∙ c .before .if2 .taken)
 
+slice-aggregate-is-3 : tie.Need-slice-aggregate-is-3
+slice-aggregate-is-3 c = search needs
+
+is-requires-3 : tie.Need-is-requires-3
+is-requires-3 c κs = search needs
+
+poke-state-requires : tie.Need-poke-state-requires
+poke-state-requires c κs = search needs
+
 returns-3 : tie.Need-returns-3
 unfolding pokeLine
-returns-3 c = simp (ap (λ x. same x wMemory) (sym (c .before .before .before .before .before .before .field .ensures)) ∙ sym (c .before .before .before .before .is .ensures) ∙ c .before .before .before .if1 .left, ap (λ x. same x wStore) (sym (c .before .before .before .before .before .before .field .ensures)) ∙ sym (c .before .is2 .ensures) ∙ c .if2 .left)
+returns-3 c = c .poke-state .ensures ∙ simp (ap (λ x. same x wMemory) (sym (c .before .before .before .before .before .before .before .before .before .before .field .ensures)) ∙ sym (c .before .before .before .before .before .before .before .before .is .ensures) ∙ c .before .before .before .before .before .before .before .if1 .left, ap (λ x. same x wStore) (sym (c .before .before .before .before .before .before .before .before .before .before .field .ensures)) ∙ sym (c .before .before .before .before .before .is2 .ensures) ∙ c .before .before .before .before .if2 .left, ap (λ x. same x wState) (sym (c .before .before .before .before .before .before .before .before .before .before .field .ensures)) ∙ sym (c .before .before .is3 .ensures) ∙ c .before .if3 .taken)
+
+returns-4 : tie.Need-returns-4
+unfolding pokeLine
+returns-4 c = simp (ap (λ x. same x wMemory) (sym (c .before .before .before .before .before .before .before .before .before .field .ensures)) ∙ sym (c .before .before .before .before .before .before .before .is .ensures) ∙ c .before .before .before .before .before .before .if1 .left, ap (λ x. same x wStore) (sym (c .before .before .before .before .before .before .before .before .before .field .ensures)) ∙ sym (c .before .before .before .before .is2 .ensures) ∙ c .before .before .before .if2 .left, ap (λ x. same x wState) (sym (c .before .before .before .before .before .before .before .before .before .field .ensures)) ∙ sym (c .before .is3 .ensures) ∙ c .if3 .left)
 
 pub poke-line-spec : {M : Type 1} → statement M
 poke-line-spec =
@@ -53,4 +66,8 @@ poke-line-spec =
     is-requires-2
     poke-bank-requires-2
     returns-2
-    returns-3)
+    slice-aggregate-is-3
+    is-requires-3
+    poke-state-requires
+    returns-3
+    returns-4)

@@ -1,11 +1,13 @@
 -- `loading::load` meets its contract. Assumes nothing.
-use Rattle.loading.specs.Loads.{doneOf}
 use Prim.Native.Nat.{_≤_}
 use native.Mathlib.Omega.{arith}
-use mathlib.Core.Path.{sym, ap, subst, _∙_}
-use lib.ListN.{length}
-use Rattle.answer.specs.declared.Done.{Done}
+use mathlib.Core.Path.{sym, ap, ap₂, subst, _∙_}
+use lib.ListN.{length, getD}
+use Rattle.answer.specs.declared.Outcome.{Outcome}
+use Rattle.shelf.specs.Shelf.{Shelf}
+use Rattle.loading.specs.InPlace.{outcomeBy}
 use Rattle.loading.proofs.Laws.{load-rows}
+use Rattle.loading.proofs.InPlace.{load-decodes}
 use borrow.Author.Needs.{needs}
 use Rattle.loading.proofs.load.Statement.{statement}
 use Rattle.loading.proofs.load.Tie as tie
@@ -13,19 +15,27 @@ use Rattle.loading.proofs.load.Tie as tie
 load-requires : tie.Need-load-requires
 load-requires c κs = search needs
 
-done-of-requires : tie.Need-done-of-requires
-done-of-requires c κs = search needs
+element-copy-out-outcome-of : tie.Need-element-copy-out-outcome-of
+element-copy-out-outcome-of c = search needs
+
+outcome-of-requires : tie.Need-outcome-of-requires
+outcome-of-requires c κs = search needs
 
 same-length : tie.Need-same-length
 same-length c = search needs
 
 returns : tie.Need-returns
 returns c =
-    let a = c .before .before .before .before .before .before .before .before .args in
-    let e = c .done-of .ensures ∙ ap doneOf (c .before .before .before .load .ensures .0) in (
-      (e, c .before .before .before .load .ensures .1),
-      subst (λ (x : Done). (x .rises .to ≤ 32) × (x .rises .to ≤ a .rows)) (sym e) (omega arith, omega (arith, load-rows (a .card) (a .text .now) (a .memory .now) (length (a .store .now)) (a .rows))),
+    let a = c .before .before .before .before .before .before .before .before .before .before .args in
+    let l = c .before .before .before .before .load .ensures in
+    let n = length (a .store .now) in
+    let count = ap (λ b. getD b 805 0) (l .1 .1) ∙ ap (λ (s : Shelf). s .count) (load-decodes (a .card) (a .text .now) (a .memory .now) n (a .rows)) in
+    let e = c .outcome-of .ensures ∙ ap₂ outcomeBy (l .0) count in (
+      (e, (l .1 .0, l .1 .1)),
+      subst (λ (x : Outcome). (x .rises .to ≤ 32) × (x .rises .to ≤ a .rows)) (sym e) (omega arith, omega (arith, load-rows (a .card) (a .text .now) (a .memory .now) n (a .rows))),
     )
 
 pub load-spec : {M : Type 1} → statement M
-load-spec = tie.close (tie.spec load-requires done-of-requires same-length returns)
+load-spec =
+    tie.close
+    (tie.spec load-requires element-copy-out-outcome-of outcome-of-requires same-length returns)

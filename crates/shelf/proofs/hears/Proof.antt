@@ -5,14 +5,8 @@ use borrow.Author.Needs.{needs}
 use Rattle.shelf.proofs.hears.Statement.{statement}
 use Rattle.shelf.proofs.hears.Tie as tie
 
-cast-word : tie.Need-cast-word
-cast-word c = search needs
-
-cast-bit : tie.Need-cast-bit
-cast-bit c = search needs
-
-mul-result : tie.Need-mul-result
-mul-result c = search needs
+cast-at : tie.Need-cast-at
+cast-at c = search needs
 
 array-read-result : tie.Need-array-read-result
 array-read-result c = search needs
@@ -26,4 +20,4 @@ returns c = refl
 
 pub hears-spec : {M : Type 1} → statement M
 hears-spec =
-    tie.close (tie.spec cast-word cast-bit mul-result array-read-result shr-result returns)
+    tie.close (tie.spec cast-at array-read-result shr-result returns)

@@ -8,14 +8,8 @@ use borrow.Author.Needs.{needs}
 use Rattle.shelf.proofs.with_session.Statement.{statement}
 use Rattle.shelf.proofs.with_session.Tie as tie
 
-cast-word : tie.Need-cast-word
-cast-word c = search needs
-
-cast-bit : tie.Need-cast-bit
-cast-bit c = search needs
-
-mul-sessions : tie.Need-mul-sessions
-mul-sessions c = search needs
+cast-at : tie.Need-cast-at
+cast-at c = search needs
 
 array-read-sessions : tie.Need-array-read-sessions
 array-read-sessions c = search needs
@@ -23,27 +17,21 @@ array-read-sessions c = search needs
 shl-sessions : tie.Need-shl-sessions
 shl-sessions c = search needs
 
-mul-sessions-2 : tie.Need-mul-sessions-2
-mul-sessions-2 c = search needs
-
 array-write-sessions : tie.Need-array-write-sessions
 array-write-sessions c = search needs
 
 returns : tie.Need-returns
 unfolding withSession
 returns c =
-    let h : c .args .session % 64 < 64 = omega arith in
+    let h : c .args .session % 8 < 8 = omega arith in
     rw (one-mul, mod-eq-of-lt (pow-lt h))
 
 pub with-session-spec : {M : Type 1} → statement M
 with-session-spec =
     tie.close
     (tie.spec
-    cast-word
-    cast-bit
-    mul-sessions
+    cast-at
     array-read-sessions
     shl-sessions
-    mul-sessions-2
     array-write-sessions
     returns)

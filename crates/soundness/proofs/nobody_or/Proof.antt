@@ -1,5 +1,5 @@
 -- `soundness::nobody_or` meets its contract. Assumes nothing.
-use Rattle.soundness.proofs.Turns.{nobody-in, nobody-out}
+use Rattle.soundness.proofs.Numbered.{nobody-in, nobody-out}
 use borrow.Author.Needs.{needs}
 use Rattle.soundness.proofs.nobody_or.Statement.{statement}
 use Rattle.soundness.proofs.nobody_or.Tie as tie

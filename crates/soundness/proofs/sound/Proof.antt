@@ -1,101 +1,97 @@
 -- `soundness::sound` meets its contract. Assumes nothing.
-use Prim.Native.Nat.{_≤_, _-_}
-use mathlib.Core.Path.{_≡_, sym, _∙_}
-use mathlib.Core.Bool.{true}
-use borrow.Author.Tests.{not-true, not-false}
-use lib.ListN.{length}
-use Rattle.shelf.specs.Shelves.{blank}
-use Rattle.outlet.proofs.Laws.{length-mapped}
-use Rattle.soundness.specs.State.{roomy, soundOf}
-use Rattle.soundness.proofs.Pass.{left, pass-sound, not-roomy, misfit, stopped, passed, ended, number-below, roomy-iff}
+use Prim.Native.Nat.{ℕ, _+_, _≤_, _-_, _<_}
 use native.Mathlib.Omega.{arith}
+use mathlib.Core.Path.{_≡_, refl, sym, ap, subst, _∙_}
+use mathlib.Core.Bool.{true, _&&_}
+use mathlib.Core.List.{[], _∷_}
+use lib.ListN.{getD, set}
+use borrow.Author.Tests.{not-true, not-false}
 use borrow.Author.Needs.{needs}
+use Rattle.card.specs.declared.Card.{Card}
+use Rattle.state.specs.Bytes.{col}
+use Rattle.soundness.specs.State.{roomy}
+use Rattle.soundness.specs.Lanes.{laneGood, lanes}
+use Rattle.soundness.specs.Numbered.{free, arbiterHeld}
+use Rattle.soundness.specs.Soundings.{soundIn}
+use Rattle.soundness.proofs.Sounding.{left, small, few, unfit, number-below, begins, goes-on, ends}
 use Rattle.soundness.proofs.sound.Statement.{statement}
 use Rattle.soundness.proofs.sound.Tie as tie
+use Rattle.soundness.proofs.sound.Reads as reads
+use Rattle.soundness.proofs.sound.Lts as lts
+use Rattle.soundness.proofs.arbiter_held.Reads as arbiter-held-reads
+use Rattle.soundness.proofs.roomy.Reads as roomy-reads
+use Rattle.soundness.proofs.units_good.Reads as units-good-reads
+use Rattle.state.proofs.asks_at.Reads as asks-at-reads
+use Rattle.state.proofs.at.Reads as at-reads
 
 abbrev Inv-loop : tie.InvT-loop
-Inv-loop card store rows shelf bus count granted last asks seen₀ i₀ seen i = (i ≤ count) × (roomy (shelf .bus) (shelf .count) store rows ≡ true) × (soundOf card shelf store rows ≡ left card shelf seen i)
+Inv-loop s store rows bus count end once₀ priorities₀ cells₀ i₀ once priorities cells i =
+    (i ≤ end)
+    × ((end ≤ 32) × ((j : ℕ) → j < end → col s j 0 < 32))
+    × ((card : Card) → roomy (getD s 804 0) (getD s 805 0) store rows ≡ true → lanes (laneGood card (getD s 804 0) s) (getD s 805 0) 0 32 ≡ true → soundIn card s store rows ≡ (once && left s priorities cells i))
 
 abbrev μ-loop : tie.MeasureT-loop
-μ-loop card store rows shelf bus count granted last asks seen₀ i₀ seen i = count - i
+μ-loop s store rows bus count end once₀ priorities₀ cells₀ i₀ once priorities cells i = end - i
 
--- the function's entry, from the loop's test; there are 32 places; no more units are declared
-abbrev start : tie.At-loop Inv-loop μ-loop → tie.Start Inv-loop μ-loop
-start s = s .before .before .before .before .before
+shared-slice-read-bus : tie.Need-shared-slice-read-bus Inv-loop μ-loop
+shared-slice-read-bus c = search needs
 
-long : (c : tie.Start Inv-loop μ-loop) → length (c .args .t2 .units) ≡ 32
-long c = search (needs, length-mapped)
-
-most : (s : tie.At-loop Inv-loop μ-loop) → start s .args .t2 .count ≤ 32
-most s = let a = start s .args in roomy-iff (a .t2 .bus) (a .t2 .count) (a .store) (a .rows) .0 (s .loop .inv .1) .0 .0 .1
+shared-slice-read-count : tie.Need-shared-slice-read-count Inv-loop μ-loop
+shared-slice-read-count c = search needs
 
 roomy-requires : tie.Need-roomy-requires Inv-loop μ-loop
 roomy-requires c κs = search needs
 
 returns : tie.Need-returns Inv-loop μ-loop
 returns c =
-    let a = c .before .before .args in
-    sym (not-roomy (a .card) (a .t2) (a .store) (a .rows) (sym (c .before .roomy .ensures) ∙ not-true _ (c .if1 .taken)))
+    let a = c .before .before .before .before .before .args in
+    small (a .card) (a .s .now) (a .store) (a .rows) (sym (c .before .roomy .ensures) ∙ not-true _ (c .if1 .taken))
 
-cast-count : tie.Need-cast-count Inv-loop μ-loop
-cast-count c = search needs
-
-loop-holds : tie.Need-loop-holds Inv-loop μ-loop
-loop-holds c =
-    let a = c .before .before .before .before .args in
-    let t = sym (c .before .before .before .roomy .ensures) ∙ not-false _ (c .before .before .if1 .left) in
-    (omega arith, t, pass-sound (a .card) (a .t2) (a .store) (a .rows) t)
-
-mul-unit : tie.Need-mul-unit Inv-loop μ-loop
-mul-unit c =
-    let s = c .before in
-    let m = most s in
-    omega arith
-
-element-copy-out-unit : tie.Need-element-copy-out-unit Inv-loop μ-loop
-element-copy-out-unit c =
-    let s = c .before in
-    let m = most s in
-    omega arith
-
-unit-fits-requires : tie.Need-unit-fits-requires Inv-loop μ-loop
-unit-fits-requires c κs = search needs
+units-good-requires : tie.Need-units-good-requires Inv-loop μ-loop
+units-good-requires c κs = search needs
 
 returns-2 : tie.Need-returns-2 Inv-loop μ-loop
 returns-2 c =
-    let s = c .before .before .before .before in
-    let a = start s .args in
-    sym (s .loop .inv .2 ∙ misfit (a .card) (a .t2) (long (start s)) (most s) (s .loop .seen) (s .loop .i) _ (omega arith) (sym (c .before .unit-fits .ensures) ∙ not-true _ (c .if2 .taken)))
+    let a = c .before .before .before .before .before .before .before .args in
+    let t = sym (c .before .before .before .roomy .ensures) ∙ not-false _ (c .before .before .if1 .left) in
+    unfit (a .card) (a .s .now) (a .store) (a .rows) t (sym (c .before .units-good .ensures) ∙ not-true _ (c .if2 .taken))
+
+cast-end : tie.Need-cast-end Inv-loop μ-loop
+cast-end c =
+    let a = c .before .before .before .before .before .before .before .args in
+    let m = few (a .card) (a .s .now) (a .store) (a .rows) (sym (c .before .before .before .roomy .ensures) ∙ not-false _ (c .before .before .if1 .left)) in
+    omega (arith, m)
+
+loop-holds : tie.Need-loop-holds Inv-loop μ-loop
+loop-holds c =
+    let a = c .before .before .before .before .before .before .before .args in
+    let t = sym (c .before .before .before .roomy .ensures) ∙ not-false _ (c .before .before .if1 .left) in
+    let g = sym (c .before .units-good .ensures) ∙ not-false _ (c .if2 .left) in (
+      omega arith,
+      (few (a .card) (a .s .now) (a .store) (a .rows) t, number-below (a .card) (a .s .now) (a .store) (a .rows) t g),
+      λ card t g. begins card (a .s .now) (a .store) (a .rows) t g,
+    )
+
+at-requires : tie.Need-at-requires Inv-loop μ-loop
+at-requires c κs = (c .before .before .before .before .before .before .before .before .before .pre, omega arith, omega arith)
 
 cast-number : tie.Need-cast-number Inv-loop μ-loop
 cast-number c = search needs
 
-array-read-if3 : tie.Need-array-read-if3 Inv-loop μ-loop
-array-read-if3 c =
-    let s = c .before .before .before .before .before .before in
-    let a = start s .args in
-    number-below (a .card) (a .t2) (long (start s)) (most s) (s .loop .seen) (s .loop .i) _ (a .store) (a .rows) (s .loop .inv .1) (sym (c .before .before .before .unit-fits .ensures) ∙ not-false _ (c .before .before .if2 .left))
+array-read-once : tie.Need-array-read-once Inv-loop μ-loop
+array-read-once c = subst (λ n. n < 32) (sym (c .at .ensures)) (c .before .before .loop .inv .1 .1 (c .before .before .loop .i) (omega arith))
 
-array-read-waits : tie.Need-array-read-waits Inv-loop μ-loop
-array-read-waits c =
-    let s = c .before .before .before .before .before .before in
-    let a = start s .args in
-    number-below (a .card) (a .t2) (long (start s)) (most s) (s .loop .seen) (s .loop .i) _ (a .store) (a .rows) (s .loop .inv .1) (sym (c .before .before .before .unit-fits .ensures) ∙ not-false _ (c .before .before .if2 .left))
+at-requires-2 : tie.Need-at-requires-2 Inv-loop μ-loop
+at-requires-2 c κs = (c .before .before .before .before .before .before .before .before .before .before .pre, omega arith, omega arith)
 
-waits-requires : tie.Need-waits-requires Inv-loop μ-loop
-waits-requires c κs = search needs
+array-write-priorities : tie.Need-array-write-priorities Inv-loop μ-loop
+array-write-priorities c = subst (λ n. n < 32) (sym (c .before .at .ensures)) (c .before .before .before .loop .inv .1 .1 (c .before .before .before .loop .i) (omega arith))
 
-returns-3 : tie.Need-returns-3 Inv-loop μ-loop
-returns-3 c =
-    let s = c .before .before .before .before .before .before .before .before in
-    let a = start s .args in
-    sym (s .loop .inv .2 ∙ stopped (a .card) (a .t2) (long (start s)) (most s) (s .loop .seen) (s .loop .i) _ (c .before .waits .result) (omega arith) (c .before .waits .ensures) (c .if3 .taken))
+at-requires-3 : tie.Need-at-requires-3 Inv-loop μ-loop
+at-requires-3 c κs = (c .before .before .before .before .before .before .before .before .before .before .before .pre, omega arith, omega arith)
 
-array-write-seen : tie.Need-array-write-seen Inv-loop μ-loop
-array-write-seen c =
-    let s = c .before .before .before .before .before .before .before .before in
-    let a = start s .args in
-    number-below (a .card) (a .t2) (long (start s)) (most s) (s .loop .seen) (s .loop .i) _ (a .store) (a .rows) (s .loop .inv .1) (sym (c .before .before .before .before .before .unit-fits .ensures) ∙ not-false _ (c .before .before .before .before .if2 .left))
+array-write-cells : tie.Need-array-write-cells Inv-loop μ-loop
+array-write-cells c = subst (λ n. n < 32) (sym (c .before .before .at .ensures)) (c .before .before .before .before .loop .inv .1 .1 (c .before .before .before .before .loop .i) (omega arith))
 
 add-i : tie.Need-add-i Inv-loop μ-loop
 add-i c = omega arith
@@ -105,21 +101,45 @@ loop-less c = omega arith
 
 loop-again : tie.Need-loop-again Inv-loop μ-loop
 loop-again c =
-    let s = c .before .before .before .before .before .before .before .before in
-    let a = start s .args in (
+    let b = c .before .before .before .before .before .before .before .before .before .before .before .before .args .s .now in
+    let l = c .before .before .before .before .loop in
+    let n = sym (c .before .before .at .ensures) in
+    let p = sym (c .before .at2 .ensures) in
+    let q = sym (c .at3 .ensures) in (
       omega arith,
-      s .loop .inv .1,
-      s .loop .inv .2 ∙ passed (a .card) (a .t2) (long (start s)) (most s) (s .loop .seen) (s .loop .i) _ (c .before .waits .result) (omega arith) (sym (c .before .before .before .before .before .unit-fits .ensures) ∙ not-false _ (c .before .before .before .before .if2 .left)) (c .before .waits .ensures) (c .if3 .left),
+      l .inv .1,
+      λ card t g.
+          l .inv .2 card t g ∙ goes-on b (l .inv .1 .0) (l .priorities) (l .cells) (l .i) (l .once) (omega arith)
+          ∙ (λ z. (l .once && free (l .priorities) (n z)) && left b (set (l .priorities) (n z) (p z)) (set (l .cells) (n z) (q z)) (l .i + 1)),
     )
 
-arbiter-known-requires : tie.Need-arbiter-known-requires Inv-loop μ-loop
-arbiter-known-requires c κs = search needs
+shared-slice-read-t15 : tie.Need-shared-slice-read-t15 Inv-loop μ-loop
+shared-slice-read-t15 c = search needs
 
-returns-4 : tie.Need-returns-4 Inv-loop μ-loop
-returns-4 c =
-    let s = c .before .before in
-    let a = start s .args in
-    c .arbiter-known .ensures ∙ sym (s .loop .inv .2 ∙ ended (a .card) (a .t2) (long (start s)) (most s) (s .loop .seen) (s .loop .i) blank (omega arith))
+shared-slice-read-t29 : tie.Need-shared-slice-read-t29 Inv-loop μ-loop
+shared-slice-read-t29 c = search needs
+
+shared-slice-read-arbiter-held : tie.Need-shared-slice-read-arbiter-held Inv-loop μ-loop
+shared-slice-read-arbiter-held c = search needs
+
+shared-slice-read-arbiter-held-2 : tie.Need-shared-slice-read-arbiter-held-2 Inv-loop μ-loop
+shared-slice-read-arbiter-held-2 c = search needs
+
+asks-at-requires : tie.Need-asks-at-requires Inv-loop μ-loop
+asks-at-requires c κs = search needs
+
+arbiter-held-requires : tie.Need-arbiter-held-requires Inv-loop μ-loop
+arbiter-held-requires c κs = search needs
+
+returns-3 : tie.Need-returns-3 Inv-loop μ-loop
+returns-3 c =
+    let a = c .before .before .before .before .before .before .before .before .before .before .before .before .before .before .before .args in
+    let b = a .s .now in
+    let l = c .before .before .before .before .before .before .before .loop in
+    let t = sym (c .before .before .before .before .before .before .before .before .before .before .before .roomy .ensures) ∙ not-false _ (c .before .before .before .before .before .before .before .before .before .before .if1 .left) in
+    let g = sym (c .before .before .before .before .before .before .before .before .before .units-good .ensures) ∙ not-false _ (c .before .before .before .before .before .before .before .before .if2 .left) in
+    let e = c .arbiter-held .ensures ∙ ap (arbiterHeld (l .priorities) (l .cells) (getD b 803 0) (getD b 800 0 ∷ getD b 801 0 ∷ getD b 802 0 ∷ [])) (c .before .asks-at .ensures) in
+    ap (λ x. l .once && x) (e ∙ sym (ends b (l .inv .1 .0) (l .priorities) (l .cells) (l .i) (omega arith))) ∙ sym (l .inv .2 (a .card) t g)
 
 pub sound-spec : {M : Type 1} → statement M
 sound-spec =
@@ -127,22 +147,28 @@ sound-spec =
     (tie.spec
     Inv-loop
     μ-loop
+    shared-slice-read-bus
+    shared-slice-read-count
     roomy-requires
     returns
-    cast-count
-    loop-holds
-    mul-unit
-    element-copy-out-unit
-    unit-fits-requires
+    units-good-requires
     returns-2
+    cast-end
+    loop-holds
+    at-requires
     cast-number
-    array-read-if3
-    array-read-waits
-    waits-requires
-    returns-3
-    array-write-seen
+    array-read-once
+    at-requires-2
+    array-write-priorities
+    at-requires-3
+    array-write-cells
     add-i
     loop-less
     loop-again
-    arbiter-known-requires
-    returns-4)
+    shared-slice-read-t15
+    shared-slice-read-t29
+    shared-slice-read-arbiter-held
+    shared-slice-read-arbiter-held-2
+    asks-at-requires
+    arbiter-held-requires
+    returns-3)

@@ -3,8 +3,9 @@ use mathlib.Core.Path.{sym, ap, _∙_}
 use Prim.Native.Nat.{_+_, _*_}
 use borrow.Author.Tests.{not-true, not-false}
 use Rattle.record.specs.Record.{size}
+use Rattle.state.specs.Bytes.{shelfIn}
 use Rattle.line.specs.declared.Reading.the-variants.{Good}
-use Rattle.table.proofs.Leaves.{step-stopped, memory-kept, step-fine, memory-enacted, fine-is}
+use Rattle.table.proofs.Leaves.{step-stopped, memory-kept, state-kept, step-fine, memory-enacted, state-enacted, fine-is}
 use borrow.Author.Needs.{needs}
 use Rattle.table.proofs.enact.Statement.{statement}
 use Rattle.table.proofs.enact.Tie as tie
@@ -15,47 +16,65 @@ judge-requires c κs = search needs
 is-fine-requires : tie.Need-is-fine-requires
 is-fine-requires c κs = search needs
 
-add-t14 : tie.Need-add-t14
-add-t14 c = search needs
+add-t16 : tie.Need-add-t16
+add-t16 c = search needs
 
 same-length : tie.Need-same-length
 same-length c = search needs
 
+same-length-2 : tie.Need-same-length-2
+same-length-2 c = search needs
+
 returns : tie.Need-returns
 returns c =
-    let a = c .before .before .before .before .before .before .args in
-    let f = (sym (c .before .is-fine .ensures) ∙ not-true _ (c .if1 .taken)) in
-    (step-stopped (a .card) (a .memory .now) (a .p) (Good (a .line)) _ _ (c .before .before .judge .ensures) f, memory-kept (a .card) (a .memory .now) (a .p) (Good (a .line)) _ _ (c .before .before .judge .ensures) f)
+    let a = c .before .before .before .before .before .before .before .args in
+    let h = shelfIn (a .s .now) in
+    let e = c .before .before .judge .ensures in
+    let f = sym (c .before .is-fine .ensures) ∙ not-true _ (c .if1 .taken) in (
+      step-stopped (a .card) (a .memory .now) (a .s .now) h (a .p) (Good (a .line)) _ _ e f,
+      (
+        memory-kept (a .card) (a .memory .now) (a .s .now) h (a .p) (Good (a .line)) _ _ e f,
+        state-kept (a .card) (a .memory .now) (a .s .now) h (a .p) (Good (a .line)) _ _ e f,
+      ),
+    )
 
 write-requires : tie.Need-write-requires
 write-requires c κs = search needs
 
-shelf-after-requires : tie.Need-shelf-after-requires
-shelf-after-requires c κs =
-    let s = c .before .before .before .before .before .before .before .before .before .before in
-    s .pre .1 (sym (c .before .before .before .before .before .before .judge .ensures) ∙ fine-is _ (sym (c .before .before .before .before .before .is-fine .ensures) ∙ not-false _ (c .before .before .before .before .if1 .left)))
+enter-requires : tie.Need-enter-requires
+enter-requires c κs =
+    let s = c .before .before .before .before .before .before .before .before .before .before .before .before .before in
+    (s .pre .0 .0, s .pre .1 (sym (c .before .before .before .before .before .before .before .before .judge .ensures) ∙ fine-is _ (sym (c .before .before .before .before .before .before .before .is-fine .ensures) ∙ not-false _ (c .before .before .before .before .before .before .if1 .left))))
 
 takes-requires : tie.Need-takes-requires
 takes-requires c κs = search needs
 
-mul-t20 : tie.Need-mul-t20
-mul-t20 c = search needs
+mul-t25 : tie.Need-mul-t25
+mul-t25 c = search needs
 
-add-t21 : tie.Need-add-t21
-add-t21 c = search needs
+add-t26 : tie.Need-add-t26
+add-t26 c = search needs
 
-add-t22 : tie.Need-add-t22
-add-t22 c = search needs
+add-t27 : tie.Need-add-t27
+add-t27 c = search needs
 
-same-length-2 : tie.Need-same-length-2
-same-length-2 c = search needs
+same-length-3 : tie.Need-same-length-3
+same-length-3 c = search needs
+
+same-length-4 : tie.Need-same-length-4
+same-length-4 c = search needs
 
 returns-2 : tie.Need-returns-2
 returns-2 c =
-    let a = c .before .before .before .before .before .before .before .before .before .before .before .before .args in
-    let f = (sym (c .before .before .before .before .before .before .before .is-fine .ensures) ∙ not-false _ (c .before .before .before .before .before .before .if1 .left)) in (
-      step-fine (a .card) (a .memory .now) (a .p) (Good (a .line)) _ _ (c .before .before .before .before .before .before .before .before .judge .ensures) _ _ f (c .before .shelf-after .ensures) (ap (λ n. a .p .used + size * n) (c .takes .ensures .0)),
-      memory-enacted (a .card) (a .memory .now) (a .p) (Good (a .line)) _ _ (c .before .before .before .before .before .before .before .before .judge .ensures) _ f (c .before .before .before .before .write .ensures),
+    let a = c .before .before .before .before .before .before .before .before .before .before .before .before .before .before .before .before .before .args in
+    let h = shelfIn (a .s .now) in
+    let e = c .before .before .before .before .before .before .before .before .before .before .before .before .judge .ensures in
+    let f = sym (c .before .before .before .before .before .before .before .before .before .before .before .is-fine .ensures) ∙ not-false _ (c .before .before .before .before .before .before .before .before .before .before .if1 .left) in (
+      step-fine (a .card) (a .memory .now) (a .s .now) h (a .p) (Good (a .line)) _ _ e _ f (ap (λ n. a .p .used + size * n) (c .takes .ensures .0)),
+      (
+        memory-enacted (a .card) (a .memory .now) (a .s .now) h (a .p) (Good (a .line)) _ _ e _ f (c .before .before .before .before .before .before .before .write .ensures),
+        state-enacted (a .card) (a .memory .now) (a .s .now) h (a .p) (Good (a .line)) _ _ e _ f (c .before .before .before .enter .ensures),
+      ),
     )
 
 pub enact-spec : {M : Type 1} → statement M
@@ -64,14 +83,16 @@ enact-spec =
     (tie.spec
     judge-requires
     is-fine-requires
-    add-t14
+    add-t16
     same-length
+    same-length-2
     returns
     write-requires
-    shelf-after-requires
+    enter-requires
     takes-requires
-    mul-t20
-    add-t21
-    add-t22
-    same-length-2
+    mul-t25
+    add-t26
+    add-t27
+    same-length-3
+    same-length-4
     returns-2)

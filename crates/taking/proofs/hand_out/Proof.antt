@@ -33,9 +33,9 @@ same-length c = search needs
 
 returns : tie.Need-returns
 returns c =
-    let a = c .before .before .before .before .before .before .before .before .before .before .before .before .args in
+    let a = c .before .before .before .before .before .before .before .before .before .before .args in
     c .before .before .write-cell .ensures
-    ∙ ap (λ h. lineCell h (part (a .cell .now) 8 48)) (c .before .before .before .before .before .outgoing .ensures ∙ (λ i. outgoing (a .unit .settings .link) (c .before .before .before .before .before .before .before .marks .ensures i) (c .before .before .before .before .before .before .four .ensures i)))
+    ∙ ap (λ h. lineCell h (part (a .cell .now) 8 48)) (c .before .before .before .before .before .outgoing .ensures ∙ (λ i. outgoing (a .link) (c .before .before .before .before .before .before .before .marks .ensures i) (c .before .before .before .before .before .before .four .ensures i)))
 
 pub hand-out-spec : {M : Type 1} → statement M
 hand-out-spec =

@@ -1,0 +1,47 @@
+-- Frame, of a state in lent bytes: what is answered, stored and sent goes by the shelf that the bytes are; written are the sender's inlet, the queues of those that
+-- hear it, then the arbiter, the grant and the frame number. Assumes nothing.
+use Prim.Native.Nat.{ℕ, _+_, _%_, _^_}
+use mathlib.Core.List.{List}
+use lib.ListN.{length, take}
+use Rattle.bus.specs.Frame.{heard}
+use Rattle.card.specs.declared.Card.{Card}
+use Rattle.store.specs.Rings.{popped}
+use Rattle.shelf.specs.declared.Found as F
+use Rattle.shelf.specs.declared.Found.the-variants.{At, Nothing}
+use Rattle.state.specs.Bytes.{unitIn, shelfIn, withRing, withTurn}
+use Rattle.soundness.specs.Soundings.{soundIn}
+use Rattle.answer.specs.declared.Outcome.{Outcome}
+use Rattle.answer.specs.Done.{outcomeOf}
+use Rattle.answer.specs.Answers.{refusedWith}
+use Rattle.admit.specs.Admission.{formedOr}
+use Rattle.framing.specs.Sending.{sentFrame}
+use Rattle.framing.specs.Frames.{sender, granted, checked, frameDone, frameStore, frameBuffer}
+use Rattle.framing.specs.Scenes.{heededBy}
+
+-- the state without the oldest cell of the unit in a place
+abbrev pub outState : List ℕ → ℕ → List ℕ
+outState b place = withRing b 14 15 place (popped (unitIn b place .inlet) 4)
+
+-- after that unit has sent it and all have heard it
+unfoldable pub sentState : List ℕ → ℕ → List ℕ → List ℕ
+sentState b place store = heededBy (heard (sentFrame (shelfIn b) place store)) (take 56 (sentFrame (shelfIn b) place store)) (outState b place) store .bytes
+
+unfoldable pub stateBy : F.Found → List ℕ → List ℕ → List ℕ
+stateBy (At place) b store = sentState b place store
+stateBy Nothing b store = b
+
+-- and after the grant
+abbrev pub stateAt : List ℕ → List ℕ → List ℕ
+stateAt b store = withTurn (stateBy (sender (shelfIn b)) b store) (granted (shelfIn b) .arbiter) (granted (shelfIn b) .unit) ((shelfIn b .frame + 1) % 2 ^ 16)
+
+abbrev pub frameOut : Card → List ℕ → List ℕ → ℕ → ℕ → Outcome
+frameOut card b store rows lent = formedOr b (outcomeOf (frameDone card (shelfIn b) store rows lent)) (refusedWith 8)
+
+abbrev pub frameState : Card → List ℕ → List ℕ → ℕ → ℕ → List ℕ
+frameState card b store rows lent = checked (soundIn card b (length store) rows) lent b b (stateAt b store)
+
+abbrev pub frameStoreIn : Card → List ℕ → List ℕ → ℕ → ℕ → List ℕ
+frameStoreIn card b store rows lent = formedOr b (frameStore card (shelfIn b) store rows lent) store
+
+abbrev pub frameBufferIn : Card → List ℕ → List ℕ → ℕ → List ℕ → List ℕ
+frameBufferIn card b store rows buffer = formedOr b (frameBuffer card (shelfIn b) store rows buffer) buffer

@@ -1,0 +1,195 @@
+-- Hearing, of a state in lent bytes: what is written at the unit's place, and that it is the shelf after the hearing. Assumes nothing.
+use Prim.Native.Nat.{ℕ, zero, suc, _+_, _*_, _%_, _≤_, _<_}
+use native.Mathlib.Omega.{arith}
+use mathlib.Core.Path.{_≡_, refl, sym, ap, _∙_}
+use mathlib.Core.Bool.{Bool, true, false, cond}
+use mathlib.Core.List.{List}
+use lib.Dec.{eqb}
+use lib.ListN.{length, getD, take, length-take}
+use lib.Seq.{set-getD}
+use Rattle.bus.specs.Frame.{heard}
+use Rattle.card.specs.declared.Card.{Card}
+use Rattle.outlet.specs.Outlets.{queue}
+use Rattle.store.specs.Rings.{pushed}
+use Rattle.shelf.specs.Shelves.{declared, blank}
+use Rattle.shelf.specs.Shelf.{Shelf}
+use Rattle.shelf.specs.declared.Unit as U
+use Rattle.shelf.proofs.Finding.{find-at}
+use Rattle.answer.specs.declared.Hearing as A
+use Rattle.answer.specs.Done.{Done, outcomeOf}
+use Rattle.answer.specs.Answers.{refused, refusedWith}
+use Rattle.state.specs.Bytes.{col, limitsBy, ringBy, unitBy, unitIn, shelfIn, withRing}
+use Rattle.state.proofs.Laws.{unit-at, queue-put, ring-there}
+use Rattle.state.proofs.Kept.{ring-long, ring-other}
+use Rattle.soundness.specs.Soundings.{formedAll}
+use Rattle.soundness.proofs.Kept.{formed-ring}
+use Rattle.admit.specs.Admission.{admitted, decided, unitAt, withUnit}
+use Rattle.admit.specs.declared.Admitted as D
+use Rattle.admit.specs.declared.Admitted.the-variants.{At, Refused}
+use Rattle.admit.proofs.Laws.{decided-at, decided-refused}
+use Rattle.admit.proofs.InPlace.{in-place, refused-place}
+use Rattle.hearing.specs.Hearings.{planOf, fateBy, copyBy, copyOf, storeOf, doneAt, storeAt, hearDone}
+use Rattle.hearing.specs.InPlace.{stateBy, stateAt, outcomeAt, letInPlace, hearOut, hearState, hearStoreIn}
+use Rattle.hearing.specs.declared.Plan.{Plan}
+use Rattle.hearing.specs.declared.Plan.the-variants.{Queue, Lost}
+use Rattle.hearing.proofs.Plans.{plan-queue}
+
+-- the limits and a ring of a unit, read by themselves
+pub limits-in : (b : List ℕ) (i : ℕ) → limitsBy (col b i) ≡ unitIn b i .outlet .limits
+unfolding unitBy
+limits-in b i = refl
+
+pub ring-in : (b : List ℕ) (i q : ℕ) → q < 4 → ringBy (col b i) (16 + q) (20 + q) ≡ queue (unitIn b i .outlet) q
+unfolding unitBy
+ring-in b i zero h = refl
+ring-in b i (suc zero) h = refl
+ring-in b i (suc (suc zero)) h = refl
+ring-in b i (suc (suc (suc zero))) h = refl
+ring-in b i (suc (suc (suc (suc q)))) h = absurd (omega arith)
+
+-- the two ways a copy ends
+module _ (p : Plan) (b : List ℕ) (i : ℕ) where
+  pub lost-state : (fate : A.Hearing) → p ≡ Lost fate → b ≡ stateBy p b i
+  unfolding stateBy
+  lost-state fate e = sym (ap (λ x. stateBy x b i) e)
+
+  pub queued-state : (q : ℕ) → p ≡ Queue q → withRing b (16 + q) (20 + q) i (pushed (queue (unitIn b i .outlet) q)) ≡ stateBy p b i
+  unfolding stateBy
+  queued-state q e = sym (ap (λ x. stateBy x b i) e)
+
+-- the fate is that of the copy
+pub fate-copy : (p : Plan) (u : U.Unit) → fateBy p ≡ copyBy p u .fate
+unfolding fateBy copyBy
+fate-copy (Queue q) u = refl
+fate-copy (Lost fate) u = refl
+
+-- there are as many bytes as before
+pub state-long : (p : Plan) (b : List ℕ) (i : ℕ) → length (stateBy p b i) ≡ length b
+unfolding stateBy
+state-long (Queue q) b i = ring-long b (16 + q) (20 + q) i (pushed (queue (unitIn b i .outlet) q))
+state-long (Lost fate) b i = refl
+
+-- a shelf is itself with the same unit put back
+unturned : (s : Shelf) (i : ℕ) → s ≡ withUnit s i (unitAt s i)
+unturned s i t = record { bus = s .bus; count = s .count; units = sym (set-getD (s .units) i blank) t; arbiter = s .arbiter; granted = s .granted; frame = s .frame }
+
+-- one unit has heard; what is written leaves the others, all bytes but those of its rings, and what says a link, a mode or a mark
+module _ (p : Plan) (b : List ℕ) (i : ℕ) (few : (q : ℕ) → p ≡ Queue q → q < 4) (hi : i < 32) where
+  pub state-put : length b ≡ 2048 → shelfIn (stateBy p b i) ≡ withUnit (shelfIn b) i (copyBy p (unitIn b i) .unit)
+  unfolding stateBy copyBy
+  state-put long = by p refl
+    where
+      by : (x : Plan) → p ≡ x → shelfIn (stateBy x b i) ≡ withUnit (shelfIn b) i (copyBy x (unitIn b i) .unit)
+      by (Queue q) e = queue-put b i (pushed (queue (unitIn b i .outlet) q)) hi long q (few q e)
+      by (Lost fate) e = unturned (shelfIn b) i ∙ ap (withUnit (shelfIn b) i) (unit-at b i blank hi)
+
+  pub state-there : length b ≡ 2048 → (j : ℕ) → j < 32 → (j ≡ i → ⊥) → unitIn (stateBy p b i) j ≡ unitIn b j
+  unfolding stateBy
+  state-there long j hj ne = by p refl
+    where
+      by : (x : Plan) → p ≡ x → unitIn (stateBy x b i) j ≡ unitIn b j
+      by (Queue q) e = let f = few q e in ring-there b (16 + q) (20 + q) i (pushed (queue (unitIn b i .outlet) q)) (omega arith) (omega arith) hi long j hj ne
+      by (Lost fate) e = refl
+
+  pub state-other : (k : ℕ) → ((h : ℕ) → 14 ≤ h → h < 24 → k ≡ h * 32 + i → ⊥) → getD (stateBy p b i) k 0 ≡ getD b k 0
+  unfolding stateBy
+  state-other k ne = by p refl
+    where
+      by : (x : Plan) → p ≡ x → getD (stateBy x b i) k 0 ≡ getD b k 0
+      by (Queue q) e =
+          let f = few q e in
+          ring-other b (16 + q) (20 + q) i (pushed (queue (unitIn b i .outlet) q)) k (ne (16 + q) (omega arith) (omega arith)) (ne (20 + q) (omega arith) (omega arith))
+      by (Lost fate) e = refl
+
+  pub state-formed : formedAll (stateBy p b i) ≡ formedAll b
+  unfolding stateBy
+  state-formed = by p refl
+    where
+      by : (x : Plan) → p ≡ x → formedAll (stateBy x b i) ≡ formedAll b
+      by (Queue q) e = let f = few q e in formed-ring b (16 + q) (20 + q) i (pushed (queue (unitIn b i .outlet) q)) (omega arith) (omega arith) (omega arith) (omega arith) hi
+      by (Lost fate) e = refl
+
+-- the event: let in at a place, or refused
+module _ (card : Card) (b : List ℕ) (rows unit : ℕ) (f : List ℕ) where
+  module _ (store : ℕ) (i : ℕ) (e : letInPlace card b store rows unit f ≡ At i) where
+    pub out-at : outcomeAt i (fateBy (planOf (unitIn b i) (heard f))) ≡ hearOut card b store rows unit f
+    out-at =
+        let l = in-place card b store rows unit (eqb (length f) 57) i e in
+        let u = sym (unit-at b i blank (l .below)) in
+        ap (outcomeAt i) (fate-copy (planOf (unitIn b i) (heard f)) (unitIn b i) ∙ ap (λ x. copyOf x (heard f) .fate) u)
+        ∙ ap outcomeOf (decided-at (λ place. doneAt (shelfIn b) place f) (refused (shelfIn b)) _ i (l .shelf))
+        ∙ ap (λ t. cond t (outcomeOf (hearDone card (shelfIn b) store rows unit f)) (refusedWith 8)) (sym (l .formed))
+
+  pub store-at : (store : List ℕ) (i : ℕ) → letInPlace card b (length store) rows unit f ≡ At i → storeOf (unitIn b i) (heard f) i store (take 56 f) ≡ hearStoreIn card b store rows unit f
+  store-at store i e =
+      let l = in-place card b (length store) rows unit (eqb (length f) 57) i e in
+      ap (λ x. storeOf x (heard f) i store (take 56 f)) (sym (unit-at b i blank (l .below)))
+      ∙ decided-at (λ place. storeAt (shelfIn b) place store f) (λ number. store) _ i (l .shelf)
+      ∙ ap (λ t. cond t (decided (admitted card (shelfIn b) (length store) rows unit (eqb (length f) 57)) (λ place. storeAt (shelfIn b) place store f) (λ number. store)) store) (sym (l .formed))
+
+  pub out-refused : (store n : ℕ) → letInPlace card b store rows unit f ≡ Refused n → refusedWith n ≡ hearOut card b store rows unit f
+  out-refused store n e = by (formedAll b) refl
+    where
+      by : (t : Bool) → formedAll b ≡ t → refusedWith n ≡ cond t (outcomeOf (hearDone card (shelfIn b) store rows unit f)) (refusedWith 8)
+      by true h = ap outcomeOf (decided-refused (λ place. doneAt (shelfIn b) place f) (refused (shelfIn b)) _ n (refused-place card b store rows unit (eqb (length f) 57) 0 n e .0 h))
+      by false h = ap refusedWith (refused-place card b store rows unit (eqb (length f) 57) 0 n e .1 h)
+
+  pub store-refused : (store : List ℕ) (n : ℕ) → letInPlace card b (length store) rows unit f ≡ Refused n → store ≡ hearStoreIn card b store rows unit f
+  store-refused store n e = by (formedAll b) refl
+    where
+      by : (t : Bool) → formedAll b ≡ t → store ≡ cond t (decided (admitted card (shelfIn b) (length store) rows unit (eqb (length f) 57)) (λ place. storeAt (shelfIn b) place store f) (λ number. store)) store
+      by true h = decided-refused (λ place. storeAt (shelfIn b) place store f) (λ number. store) _ n (refused-place card b (length store) rows unit (eqb (length f) 57) 0 n e .0 h)
+      by false h = refl
+
+-- what holds of the bytes before and after a copy is heard at a place holds after the event
+module _ (card : Card) (b : List ℕ) (store rows unit : ℕ) (f : List ℕ) where
+  abbrev queues : (i q : ℕ) → planOf (unitIn b i) (heard f) ≡ Queue q → q < 4
+  queues i = plan-queue (unitIn b i) (heard f)
+
+  kept : (P : List ℕ → Type 0) → P b → ((i : ℕ) → letInPlace card b store rows unit f ≡ At i → i < 32 → P (stateAt b i f)) → P (hearState card b store rows unit f)
+  unfolding decided
+  kept P was is = by (letInPlace card b store rows unit f) refl
+    where
+      by : (d : D.Admitted) → letInPlace card b store rows unit f ≡ d → P (decided d (λ place. stateAt b place f) (λ number. b))
+      by (At i) e = is i e (in-place card b store rows unit (eqb (length f) 57) i e .below)
+      by (Refused n) e = was
+
+  declared-place : (i : ℕ) → letInPlace card b store rows unit f ≡ At i → i < getD b 805 0
+  declared-place i e =
+      let l = in-place card b store rows unit (eqb (length f) 57) i e in
+      omega (arith, length-take (getD b 805 0) (shelfIn b .units), find-at unit (declared (shelfIn b)) i .0 (l .let-in .found) .inside)
+
+  -- all but the rings of the unit that hears it
+  pub hear-other : (k : ℕ) → ((i : ℕ) → letInPlace card b store rows unit f ≡ At i → 448 ≤ k → k < 768 → k % 32 ≡ i → ⊥) → getD (hearState card b store rows unit f) k 0 ≡ getD b k 0
+  hear-other k ne =
+      kept (λ x. getD x k 0 ≡ getD b k 0) refl (λ i e hi. state-other (planOf (unitIn b i) (heard f)) b i (queues i) hi k (λ h lh hh q. ne i e (omega arith) (omega arith) (omega arith)))
+
+  -- the tie to the shelf of specs
+  pub hear-long : length b ≡ 2048 → formedAll b ≡ true → length (hearState card b store rows unit f) ≡ 2048
+  hear-long long formed = kept (λ x. length x ≡ 2048) long (λ i e h. state-long (planOf (unitIn b i) (heard f)) b i ∙ long)
+
+  pub hear-formed : length b ≡ 2048 → formedAll b ≡ true → formedAll (hearState card b store rows unit f) ≡ true
+  hear-formed long formed = kept (λ x. formedAll x ≡ true) formed (λ i e h. state-formed (planOf (unitIn b i) (heard f)) b i (queues i) h ∙ formed)
+
+  -- the bytes behind those of the frame number; the columns before those of rings; the places past the declared units
+  pub hear-free : length b ≡ 2048 → formedAll b ≡ true → (k : ℕ) → 808 ≤ k → getD (hearState card b store rows unit f) k 0 ≡ getD b k 0
+  hear-free long formed k low = hear-other k (λ i e x y z. omega arith)
+
+  pub hear-kept : length b ≡ 2048 → formedAll b ≡ true → (k : ℕ) → k < 448 → getD (hearState card b store rows unit f) k 0 ≡ getD b k 0
+  hear-kept long formed k high = hear-other k (λ i e x y z. omega arith)
+
+  pub hear-others : length b ≡ 2048 → formedAll b ≡ true → (k : ℕ) → k < 768 → getD b 805 0 ≤ k % 32 → getD (hearState card b store rows unit f) k 0 ≡ getD b k 0
+  hear-others long formed k high past = hear-other k (λ i e x y z. let c = declared-place i e in omega arith)
+
+  pub hear-decodes : length b ≡ 2048 → formedAll b ≡ true → shelfIn (hearState card b store rows unit f) ≡ hearDone card (shelfIn b) store rows unit f .reply .shelf
+  unfolding decided
+  hear-decodes long formed = by (letInPlace card b store rows unit f) refl
+    where
+      by : (d : D.Admitted) → letInPlace card b store rows unit f ≡ d → shelfIn (decided d (λ place. stateAt b place f) (λ number. b)) ≡ hearDone card (shelfIn b) store rows unit f .reply .shelf
+      by (At i) e =
+          let l = in-place card b store rows unit (eqb (length f) 57) i e in
+          state-put (planOf (unitIn b i) (heard f)) b i (queues i) (l .below) long
+          ∙ ap (λ x. withUnit (shelfIn b) i (copyOf x (heard f) .unit)) (sym (unit-at b i blank (l .below)))
+          ∙ ap (λ (x : Done). x .reply .shelf) (decided-at (λ place. doneAt (shelfIn b) place f) (refused (shelfIn b)) _ i (l .shelf))
+      by (Refused n) e =
+          ap (λ (x : Done). x .reply .shelf) (decided-refused (λ place. doneAt (shelfIn b) place f) (refused (shelfIn b)) _ n (refused-place card b store rows unit (eqb (length f) 57) 0 n e .0 formed))

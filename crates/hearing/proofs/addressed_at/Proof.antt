@@ -1,0 +1,53 @@
+-- `hearing::addressed_at` meets its contract. Assumes nothing.
+use mathlib.Core.Path.{ap, _∙_}
+use lib.Dec.{eqb}
+use Rattle.shelf.specs.Sessions.{hears}
+use Rattle.hearing.specs.Hearings.{addressed}
+use Rattle.state.specs.Bytes.{unitBy}
+use borrow.Author.Needs.{needs}
+use Rattle.hearing.proofs.addressed_at.Statement.{statement}
+use Rattle.hearing.proofs.addressed_at.Tie as tie
+
+enum-known-target : tie.Need-enum-known-target
+enum-known-target c = search needs
+
+at-requires : tie.Need-at-requires
+at-requires c κs = search needs
+
+enum-known-target-2 : tie.Need-enum-known-target-2
+enum-known-target-2 c = search needs
+
+sessions-at-requires : tie.Need-sessions-at-requires
+sessions-at-requires c κs = search needs
+
+hears-requires : tie.Need-hears-requires
+hears-requires c κs = search needs
+
+enum-told : tie.Need-enum-told
+enum-told c = search needs
+
+returns : tie.Need-returns
+unfolding addressed unitBy
+returns c = rw (c .before .before .target .given .1) (λ t. eqb (c .at .ensures t) (c .before .before .target .given .0 .0))
+
+returns-2 : tie.Need-returns-2
+unfolding addressed unitBy
+returns-2 c = rw (c .before .before .before .target2 .given .1) (c .hears .ensures ∙ ap (λ x. hears x (c .before .before .before .target2 .given .0 .0)) (c .before .sessions-at .ensures))
+
+returns-3 : tie.Need-returns-3
+unfolding addressed unitBy
+returns-3 c = rw (c .enum-told .given .1)
+
+pub addressed-at-spec : {M : Type 1} → statement M
+addressed-at-spec =
+    tie.close
+    (tie.spec
+    enum-known-target
+    at-requires
+    enum-known-target-2
+    sessions-at-requires
+    hears-requires
+    enum-told
+    returns
+    returns-2
+    returns-3)

@@ -1,0 +1,70 @@
+-- `named::put_sessions` meets its contract. Assumes nothing.
+use mathlib.Core.Path.{_≡_, refl}
+use Prim.Native.Nat.{_+_, _*_, _≤_, _-_}
+use lib.ListN.{length}
+use Rattle.hex.specs.Writing.{Wrote}
+use Rattle.hex.proofs.Splices.{then}
+use Rattle.named.specs.Named.{heardBelow}
+use Rattle.named.proofs.Written.{no-session, next-session}
+use native.Mathlib.Omega.{arith}
+use borrow.Author.Needs.{needs}
+use Rattle.named.proofs.put_sessions.Statement.{statement}
+use Rattle.named.proofs.put_sessions.Tie as tie
+
+abbrev Inv-loop : tie.InvT-loop
+Inv-loop out₀ at sessions next₀ i₀ out next i = (i ≤ 256) × (next ≤ next₀ + 21 * i) × (length out ≡ length out₀) × Wrote out₀ next₀ (heardBelow sessions i) next out
+
+abbrev μ-loop : tie.MeasureT-loop
+μ-loop out₀ at sessions next₀ i₀ out next i = 256 - i
+
+slice-aggregate-put : tie.Need-slice-aggregate-put Inv-loop μ-loop
+slice-aggregate-put c = search needs
+
+put-requires : tie.Need-put-requires Inv-loop μ-loop
+put-requires c κs = search needs
+
+loop-holds : tie.Need-loop-holds Inv-loop μ-loop
+loop-holds c = (omega arith, omega arith, refl, no-session _ _ _)
+
+cast-put-session : tie.Need-cast-put-session Inv-loop μ-loop
+cast-put-session c = search needs
+
+put-session-requires : tie.Need-put-session-requires Inv-loop μ-loop
+put-session-requires c κs = search needs
+
+add-i : tie.Need-add-i Inv-loop μ-loop
+add-i c = search needs
+
+loop-less : tie.Need-loop-less Inv-loop μ-loop
+loop-less c = search needs
+
+loop-again : tie.Need-loop-again Inv-loop μ-loop
+loop-again c =
+    let l = c .before .before .before .before .before .loop in
+    (omega arith, omega arith, search needs, next-session _ _ _ _ _ _ _ _ (l .inv .3) (c .before .before .put-session .ensures .0) (omega arith))
+
+same-length : tie.Need-same-length Inv-loop μ-loop
+same-length c = search needs
+
+returns : tie.Need-returns Inv-loop μ-loop
+returns c =
+    let l = c .before .loop in
+    let z : l .i ≡ 256 = omega arith in
+    (then _ _ _ _ _ _ _ _ (c .before .before .before .before .put .ensures) (rw z at (l .inv .3)) (omega arith), omega arith)
+
+pub put-sessions-spec : {M : Type 1} → statement M
+put-sessions-spec =
+    tie.close
+    (tie.spec
+    Inv-loop
+    μ-loop
+    slice-aggregate-put
+    put-requires
+    loop-holds
+    cast-put-session
+    put-session-requires
+    add-i
+    loop-less
+    loop-again
+    same-length
+    returns)

@@ -1,0 +1,57 @@
+-- `named::unit` meets its contract. Assumes nothing.
+use mathlib.Core.Path.{sym, _∙_}
+use Rattle.named.specs.Named.{unitText}
+use Rattle.named.proofs.Written.{found-below}
+use native.Mathlib.Omega.{arith}
+use borrow.Author.Needs.{needs}
+use Rattle.named.proofs.unit.Statement.{statement}
+use Rattle.named.proofs.unit.Tie as tie
+
+find-requires : tie.Need-find-requires
+find-requires c κs = search needs
+
+enum-known-i : tie.Need-enum-known-i
+enum-known-i c = search needs
+
+put-unit-requires : tie.Need-put-unit-requires
+put-unit-requires c κs =
+    let below = found-below (c .before .before .before .before .before .before .before .args .s .now) (c .before .before .before .before .before .before .before .args .number) _ (sym (c .before .before .before .before .find .ensures) ∙ c .before .before .i .given .1) in
+    (search needs, below, search needs)
+
+enum-told : tie.Need-enum-told
+enum-told c = search needs
+
+slice-aggregate-put : tie.Need-slice-aggregate-put
+slice-aggregate-put c = search needs
+
+put-requires : tie.Need-put-requires
+put-requires c κs = search needs
+
+same-length : tie.Need-same-length
+same-length c = search needs
+
+returns : tie.Need-returns
+unfolding unitText
+returns c = rw (sym (c .before .before .before .before .before .before .before .find .ensures) ∙ c .before .before .before .before .before .i .given .1) (c .before .before .put-unit .ensures .0)
+
+same-length-2 : tie.Need-same-length-2
+same-length-2 c = search needs
+
+returns-2 : tie.Need-returns-2
+unfolding unitText
+returns-2 c = rw (sym (c .before .before .before .before .before .before .before .find .ensures) ∙ c .before .before .before .before .before .enum-told .given .1) (c .before .before .put .ensures)
+
+pub unit-spec : {M : Type 1} → statement M
+unit-spec =
+    tie.close
+    (tie.spec
+    find-requires
+    enum-known-i
+    put-unit-requires
+    enum-told
+    slice-aggregate-put
+    put-requires
+    same-length
+    returns
+    same-length-2
+    returns-2)

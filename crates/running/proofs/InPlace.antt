@@ -1,0 +1,289 @@
+-- An event in lent bytes is the event on the shelf that they are. Assumes nothing.
+use Prim.Native.Nat.{ℕ, _≤_}
+use native.Mathlib.Omega.{arith}
+use mathlib.Core.Path.{_≡_, refl, sym, ap, _∙_}
+use mathlib.Core.Logic.{inl, inr}
+use mathlib.Core.Bool.{Bool, true, false, cond, _&&_, false≢true}
+use mathlib.Core.List.{List, [], _∷_}
+use lib.Dec.{eqb}
+use lib.ListN.{length, getD}
+use Rattle.card.specs.declared.Card.{Card}
+use Rattle.shelf.specs.Shelves.{declared, findIn, isAt}
+use Rattle.shelf.specs.declared.Found as F
+use Rattle.shelf.specs.declared.Found.the-variants as found
+use Rattle.soundness.specs.State.{soundOf}
+use Rattle.soundness.specs.Soundings.{formedAll, soundIn}
+use Rattle.counters.specs.Counting.{settled, settledTo}
+use Rattle.counters.specs.declared.Counters as C
+use Rattle.answer.specs.Answers.{refusedWith}
+use Rattle.answer.specs.Done.{outcomeOf}
+use Rattle.answer.specs.declared.Answer.the-variants as answer
+use Rattle.admit.specs.Admission.{atUnit, admitted, admittedIn, decided, toldApart}
+use Rattle.admit.specs.declared.Admitted.the-variants.{At, Refused}
+use Rattle.admit.proofs.InPlace.{formed-in, unformed-in}
+use Rattle.arriving.specs.Arriving.{arriveDone, arriveStore}
+use Rattle.arriving.specs.InPlace as arriving
+use Rattle.arriving.proofs.InPlace.{arrive-decodes, arrive-formed, arrive-long, arrive-free, arrive-kept, arrive-others}
+use Rattle.hearing.specs.Hearings.{hearDone, hearStore}
+use Rattle.hearing.specs.InPlace as hearing
+use Rattle.hearing.proofs.InPlace.{hear-decodes, hear-formed, hear-long, hear-free, hear-kept, hear-others}
+use Rattle.taking.specs.Takes.{takeDone, takeBuffer}
+use Rattle.taking.specs.InPlace as taking
+use Rattle.taking.proofs.InPlace.{take-decodes, take-formed, take-long, take-free, take-kept, take-others}
+use Rattle.framing.specs.Frames.{checked, frameDone, frameStore, frameBuffer}
+use Rattle.framing.specs.InPlace as framing
+use Rattle.framing.proofs.InPlace.{frame-decodes, frame-formed, frame-long, frame-free, frame-kept, frame-others}
+use Rattle.loading.specs.Loads.{loadDone, loadMemory}
+use Rattle.loading.proofs.InPlace.{load-decodes, load-formed, load-long, load-free}
+use Rattle.entry.specs.Counts.{countOf, counted}
+use Rattle.paper.specs.State.{Formed}
+use Rattle.paper.proofs.State.{formed-iff}
+use Rattle.document.specs.Events.{Event, arrive, frame, hear, take-cell, count, bytesOf, answers}
+use Rattle.running.specs.Events.{World, countSaid, happens}
+use Rattle.running.specs.Keeping.{run, loaded}
+use Rattle.running.specs.Refusing.{known, fits, refusal}
+use Rattle.running.specs.Lent.{Lent, Long, does, runIn, loadedIn, seen, shown}
+use Rattle.running.specs.InPlace.{Untouched, Tied, InPlace, RunsInPlace}
+use Rattle.running.proofs.Refused.{refusal-changes-nothing}
+
+module _ (card : Card) (l : Lent) where
+  abbrev b : List ℕ
+  b = l .state
+
+  abbrev s : ℕ
+  s = length (l .store)
+
+  abbrev n : ℕ
+  n = length (l .rows)
+
+  abbrev w : World
+  w = seen l
+
+  -- A. bytes that are a state: what is said of them is what is done to the shelf
+  module _ (long : Long l) (formed : formedAll b ≡ true) where
+    pub same : (e : Event) → shown (does card l e) ≡ happens card w e
+    unfolding does happens
+    same (arrive unit c) =
+        λ t.
+        let out = cond (formed t) (outcomeOf (arriveDone card (w .shelf) (l .memory) s n unit c)) (refusedWith 8) in
+        record {
+          said = answers (out .answer);
+          world = record {
+            shelf = arrive-decodes card b (l .memory) s n unit c long formed t;
+            memory = l .memory;
+            store = cond (formed t) (arriveStore card (w .shelf) (l .memory) (l .store) n unit c) (l .store);
+            rows = settled (l .rows) (out .rises);
+          };
+          bytes = c;
+        }
+    same (frame buffer) =
+        λ t.
+        let out = cond (formed t) (outcomeOf (frameDone card (w .shelf) (l .store) n (length buffer))) (refusedWith 8) in
+        record {
+          said = answers (out .answer);
+          world = record {
+            shelf = frame-decodes card b (l .store) n (length buffer) long formed t;
+            memory = l .memory;
+            store = cond (formed t) (frameStore card (w .shelf) (l .store) n (length buffer)) (l .store);
+            rows = settled (l .rows) (out .rises);
+          };
+          bytes = cond (formed t) (frameBuffer card (w .shelf) (l .store) n buffer) buffer;
+        }
+    same (hear unit f) =
+        λ t.
+        let out = cond (formed t) (outcomeOf (hearDone card (w .shelf) s n unit f)) (refusedWith 8) in
+        record {
+          said = answers (out .answer);
+          world = record {
+            shelf = hear-decodes card b s n unit f long formed t;
+            memory = l .memory;
+            store = cond (formed t) (hearStore card (w .shelf) (l .store) n unit f) (l .store);
+            rows = settled (l .rows) (out .rises);
+          };
+          bytes = f;
+        }
+    same (take-cell unit buffer) =
+        λ t.
+        let out = cond (formed t) (outcomeOf (takeDone card (w .shelf) s n unit (length buffer))) (refusedWith 8) in
+        record {
+          said = answers (out .answer);
+          world = record { shelf = take-decodes card b s n unit (length buffer) long formed t; memory = l .memory; store = l .store; rows = settled (l .rows) (out .rises) };
+          bytes = cond (formed t) (takeBuffer card (w .shelf) (l .store) n unit buffer) buffer;
+        }
+    same (count unit) = λ t. record { said = countSaid (countOf (toldApart (formed-in card b s n unit true formed t)) (l .rows)); world = w; bytes = [] }
+
+    pub formed-after : (e : Event) → formedAll (does card l e .lent .state) ≡ true
+    unfolding does
+    formed-after (arrive unit c) = arrive-formed card b (l .memory) s n unit c long formed
+    formed-after (frame buffer) = frame-formed card b (l .store) n (length buffer) long formed
+    formed-after (hear unit f) = hear-formed card b s n unit f long formed
+    formed-after (take-cell unit buffer) = take-formed card b s n unit (length buffer) long formed
+    formed-after (count unit) = formed
+
+    pub long-after : (e : Event) → Long (does card l e .lent)
+    unfolding does
+    long-after (arrive unit c) = arrive-long card b (l .memory) s n unit c long
+    long-after (frame buffer) = frame-long card b (l .store) n (length buffer) long formed
+    long-after (hear unit f) = hear-long card b s n unit f long formed
+    long-after (take-cell unit buffer) = take-long card b s n unit (length buffer) long
+    long-after (count unit) = long
+
+    kept : (e : Event) (k : ℕ) → Untouched b k → getD (does card l e .lent .state) k 0 ≡ getD b k 0
+    unfolding does
+    kept (arrive unit c) k (inl h) = arrive-others card b (l .memory) s n unit c long k (h .1)
+    kept (arrive unit c) k (inr (inl h)) = arrive-kept card b (l .memory) s n unit c long k h
+    kept (arrive unit c) k (inr (inr h)) = arrive-free card b (l .memory) s n unit c long k (omega arith)
+    kept (frame buffer) k (inl h) = frame-others card b (l .store) n (length buffer) long formed k (h .0) (h .1)
+    kept (frame buffer) k (inr (inl h)) = frame-kept card b (l .store) n (length buffer) long formed k h
+    kept (frame buffer) k (inr (inr h)) = frame-free card b (l .store) n (length buffer) long formed k h
+    kept (hear unit f) k (inl h) = hear-others card b s n unit f long formed k (h .0) (h .1)
+    kept (hear unit f) k (inr (inl h)) = hear-kept card b s n unit f long formed k h
+    kept (hear unit f) k (inr (inr h)) = hear-free card b s n unit f long formed k h
+    kept (take-cell unit buffer) k (inl h) = take-others card b s n unit (length buffer) long k (h .1)
+    kept (take-cell unit buffer) k (inr (inl h)) = take-kept card b s n unit (length buffer) long k h
+    kept (take-cell unit buffer) k (inr (inr h)) = take-free card b s n unit (length buffer) long k (omega arith)
+    kept (count unit) k h = refl
+
+    pub tied : (e : Event) → Tied card l e
+    tied e = record { same = same e; formed = formed-iff (does card l e .lent .state) .0 (formed-after e); long = long-after e; kept = kept e }
+
+  -- B. bytes that are none
+  unformed : formedAll b ≡ false → (e : Event) → does card l e ≡ record { said = answers (answer.Refused 8); lent = l; bytes = bytesOf e }
+  unfolding does bytesOf decided settledTo checked soundIn toldApart counted countSaid
+  unformed none (arrive unit c) =
+      λ t.
+      let out = cond (none t) (outcomeOf (arriveDone card (w .shelf) (l .memory) s n unit c)) (refusedWith 8) in
+      record {
+        said = answers (out .answer);
+        lent = record {
+          state = decided (unformed-in card b s n unit (eqb (length c) 53) none t) (λ place. arriving.stateAt card b place (l .memory) c) (λ number. b);
+          memory = l .memory;
+          store = cond (none t) (arriveStore card (w .shelf) (l .memory) (l .store) n unit c) (l .store);
+          rows = settled (l .rows) (out .rises);
+        };
+        bytes = c;
+      }
+  unformed none (frame buffer) =
+      λ t.
+      let out = cond (none t) (outcomeOf (frameDone card (w .shelf) (l .store) n (length buffer))) (refusedWith 8) in
+      record {
+        said = answers (out .answer);
+        lent = record {
+          state = checked (none t && soundOf card (w .shelf) s n) (length buffer) b b (framing.stateAt b (l .store));
+          memory = l .memory;
+          store = cond (none t) (frameStore card (w .shelf) (l .store) n (length buffer)) (l .store);
+          rows = settled (l .rows) (out .rises);
+        };
+        bytes = cond (none t) (frameBuffer card (w .shelf) (l .store) n buffer) buffer;
+      }
+  unformed none (hear unit f) =
+      λ t.
+      let out = cond (none t) (outcomeOf (hearDone card (w .shelf) s n unit f)) (refusedWith 8) in
+      record {
+        said = answers (out .answer);
+        lent = record {
+          state = decided (unformed-in card b s n unit (eqb (length f) 57) none t) (λ place. hearing.stateAt b place f) (λ number. b);
+          memory = l .memory;
+          store = cond (none t) (hearStore card (w .shelf) (l .store) n unit f) (l .store);
+          rows = settled (l .rows) (out .rises);
+        };
+        bytes = f;
+      }
+  unformed none (take-cell unit buffer) =
+      λ t.
+      let out = cond (none t) (outcomeOf (takeDone card (w .shelf) s n unit (length buffer))) (refusedWith 8) in
+      record {
+        said = answers (out .answer);
+        lent = record {
+          state = decided (unformed-in card b s n unit (eqb (length buffer) 53) none t) (taking.stateAt b) (λ number. b);
+          memory = l .memory;
+          store = l .store;
+          rows = settled (l .rows) (out .rises);
+        };
+        bytes = cond (none t) (takeBuffer card (w .shelf) (l .store) n unit buffer) buffer;
+      }
+  unformed none (count unit) = λ t. record { said = countSaid (countOf (toldApart (unformed-in card b s n unit true none t)) (l .rows)); lent = l; bytes = [] }
+
+-- C. what is refused changes no byte
+keeps : (x : Bool) (f : F.Found) (r : Bool) (inside : ℕ → List ℕ) (state : List ℕ) → (_≡_ {A = ℕ} (cond x (cond (isAt f) (cond r 0 10) 9) 8) 0 → ⊥) →
+    decided (cond x (atUnit f r) (Refused 8)) inside (λ number. state) ≡ state
+unfolding decided atUnit
+keeps true (found.At i) true inside state h = absurd (h refl)
+keeps true (found.At i) false inside state h = refl
+keeps true found.Nothing r inside state h = refl
+keeps false f r inside state h = refl
+
+kept-frame : (x r : Bool) (state sent : List ℕ) → (_≡_ {A = ℕ} (cond x (cond r 0 10) 8) 0 → ⊥) → cond x (cond r sent state) state ≡ state
+kept-frame true true state sent h = absurd (h refl)
+kept-frame true false state sent h = refl
+kept-frame false r state sent h = refl
+
+module _ (card : Card) (l : Lent) (long : Long l) (formed : formedAll (l .state) ≡ true) where
+  at-unit : (unit : ℕ) (r : Bool) (inside : ℕ → List ℕ) →
+      (_≡_ {A = ℕ} (cond (soundOf card (seen l .shelf) (length (l .store)) (length (l .rows))) (cond (isAt (findIn (declared (seen l .shelf)) unit)) (cond r 0 10) 9) 8) 0 → ⊥) →
+      decided (admittedIn card (l .state) (length (l .store)) (length (l .rows)) unit r) inside (λ number. l .state) ≡ l .state
+  unfolding admitted
+  at-unit unit r inside h =
+      ap (λ d. decided d inside (λ number. l .state)) (formed-in card (l .state) (length (l .store)) (length (l .rows)) unit r formed)
+      ∙ keeps (soundOf card (seen l .shelf) (length (l .store)) (length (l .rows))) (findIn (declared (seen l .shelf)) unit) r inside (l .state) h
+
+  state-kept : (e : Event) → (refusal card (seen l) e ≡ 0 → ⊥) → does card l e .lent .state ≡ l .state
+  unfolding does known fits checked soundIn
+  state-kept (arrive unit c) h = at-unit unit (eqb (length c) 53) _ h
+  state-kept (frame buffer) h =
+      let sound = soundOf card (seen l .shelf) (length (l .store)) (length (l .rows)) in
+      let sent = framing.stateAt (l .state) (l .store) in
+      ap (λ t. cond (t && sound) (cond (eqb (length buffer) 57) sent (l .state)) (l .state)) formed ∙ kept-frame sound (eqb (length buffer) 57) (l .state) sent h
+  state-kept (hear unit f) h = at-unit unit (eqb (length f) 57) _ h
+  state-kept (take-cell unit buffer) h = at-unit unit (eqb (length buffer) 53) _ h
+  state-kept (count unit) h = refl
+
+  pub refused-keeps : (e : Event) → (refusal card (seen l) e ≡ 0 → ⊥) → does card l e ≡ record { said = answers (answer.Refused (refusal card (seen l) e)); lent = l; bytes = bytesOf e }
+  refused-keeps e h =
+      let v = same card l long formed e ∙ refusal-changes-nothing card (seen l) e h in
+      λ t. record { said = v t .said; lent = record { state = state-kept e h t; memory = v t .world .memory; store = v t .world .store; rows = v t .world .rows }; bytes = v t .bytes }
+
+pub in-place : InPlace
+in-place card l e long = by (formedAll (l .state)) refl
+  where
+    by : (t : Bool) → formedAll (l .state) ≡ t → (Formed (l .state) → Tied card l e) × ((Formed (l .state) → ⊥) → does card l e ≡ record { said = answers (answer.Refused 8); lent = l; bytes = bytesOf e })
+    by true f = (λ h. tied card l long f e, λ none. absurd (none (formed-iff (l .state) .0 f)))
+    by false f = (λ h. absurd (false≢true (sym f ∙ formed-iff (l .state) .1 h)), λ none. unformed card l f e)
+
+-- D. one event after the other
+record Ran (card : Card) (l : Lent) (es : List Event) : Type 0 where
+  same : seen (runIn card l es) ≡ run card (seen l) es
+  formed : formedAll (runIn card l es .state) ≡ true
+  long : Long (runIn card l es)
+  free : (k : ℕ) → 808 ≤ k → getD (runIn card l es .state) k 0 ≡ getD (l .state) k 0
+
+ran : (card : Card) (l : Lent) (es : List Event) → Long l → formedAll (l .state) ≡ true → Ran card l es
+unfolding run runIn
+ran card l [] long formed = record { same = refl; formed = formed; long = long; free = λ k h. refl }
+ran card l (e ∷ es) long formed =
+    let one = tied card l long formed e in
+    let r = ran card (does card l e .lent) es (one .long) (formed-after card l long formed e) in
+    record { same = r .same ∙ ap (λ o. run card (o .world) es) (one .same); formed = r .formed; long = r .long; free = λ k h. r .free k h ∙ one .kept k (inr (inr h)) }
+
+-- a load
+pub loaded-seen : (card : Card) (text memory store : List ℕ) (rows : List C.Counters) → seen (loadedIn card text memory store rows) ≡ loaded card text memory store rows
+loaded-seen card text memory store rows =
+    let d = loadDone card text memory (length store) (length rows) in
+    λ t. record { shelf = load-decodes card text memory (length store) (length rows) t; memory = loadMemory card text memory (length store) (length rows); store = store; rows = settled rows (d .rises) }
+
+pub runs-in-place : RunsInPlace
+runs-in-place card text memory store rows es =
+    let r = ran card (loadedIn card text memory store rows) es (load-long card text memory (length store) (length rows)) (load-formed card text memory (length store) (length rows)) in
+    record {
+      same = r .same ∙ ap (λ w. run card w es) (loaded-seen card text memory store rows);
+      formed = formed-iff (runIn card (loadedIn card text memory store rows) es .state) .0 (r .formed);
+      long = r .long;
+      free = λ k h j. r .free k h ∙ load-free card text memory (length store) (length rows) k h j;
+    }
+
+-- so an event after a load is the event on the shelf
+pub after-load : (card : Card) (text memory store : List ℕ) (rows : List C.Counters) (es : List Event) (e : Event) →
+    shown (does card (runIn card (loadedIn card text memory store rows) es) e) ≡ happens card (run card (loaded card text memory store rows) es) e
+after-load card text memory store rows es e =
+    let r = runs-in-place card text memory store rows es in
+    in-place card (runIn card (loadedIn card text memory store rows) es) e (r .long) .0 (r .formed) .same ∙ ap (λ w. happens card w e) (r .same)

@@ -1,0 +1,44 @@
+-- Bytes that say links, modes and marks go on saying them: where those columns and the count are as they were, and so after a ring is written, and after a frame's end. Assumes nothing.
+use mathlib.Core.Path.{_≡_, refl, ap, _∙_}
+use mathlib.Core.Bool.{Bool, _&&_, _||_}
+use mathlib.Core.List.{List}
+use Prim.Native.Nat.{ℕ, zero, suc, _+_, _*_, _≤_, _<_}
+use native.Mathlib.Omega.{arith}
+use lib.Dec.{leb}
+use lib.ListN.{length, getD}
+use Rattle.outlet.specs.declared.Ring.{Ring}
+use Rattle.arbiter.specs.declared.Arbiter.{Arbiter}
+use Rattle.state.specs.Bytes.{col, withRing, withTurn}
+use Rattle.state.proofs.Kept.{ring-behind, ring-column}
+use Rattle.state.proofs.Turn.{turn-before, turn-between}
+use Rattle.soundness.specs.Lanes.{formed, lanes}
+use Rattle.soundness.specs.Soundings.{formedAll}
+
+lanes-same : (f g : ℕ → Bool) (count i n : ℕ) → ((j : ℕ) → i ≤ j → j < i + n → f j ≡ g j) → lanes f count i n ≡ lanes g count i n
+unfolding lanes
+lanes-same f g count i zero e = refl
+lanes-same f g count i (suc n) e =
+    let r = lanes-same f g count (suc i) n (λ j a l. e j (omega arith) (omega arith)) in
+    let u = e i (omega arith) (omega arith) in
+    (λ t. (leb count i || u t) && r t)
+
+pub formed-same : (a b : List ℕ) → getD a 805 0 ≡ getD b 805 0 → ((j : ℕ) → j < 32 → (col a j 1 ≡ col b j 1) × (col a j 5 ≡ col b j 5) × (col a j 9 ≡ col b j 9)) → formedAll a ≡ formedAll b
+formed-same a b n e =
+    ap (λ k. lanes (λ i. formed (col a i)) k 0 32) n
+    ∙ lanes-same (λ i. formed (col a i)) (λ i. formed (col b i)) (getD b 805 0) 0 32 (λ j h l.
+    let x = e j (omega arith) in
+    (λ t. leb (x .0 t) 1 && leb (x .1 t) 1 && leb (x .2 t) 1))
+
+-- the columns of rings are 14 to 23
+pub formed-ring : (b : List ℕ) (h c i : ℕ) (r : Ring) → 14 ≤ h → h < 24 → 14 ≤ c → c < 24 → i < 32 → formedAll (withRing b h c i r) ≡ formedAll b
+formed-ring b h c i r lh hh lc hc hi =
+    formed-same (withRing b h c i r) b (ring-behind b h c i r hh hc hi 805 (omega arith)) (λ j hj. (
+      ring-column b h c i r hh hc hi j 1 hj (λ e. omega arith) (λ e. omega arith),
+      ring-column b h c i r hh hc hi j 5 hj (λ e. omega arith) (λ e. omega arith),
+      ring-column b h c i r hh hc hi j 9 hj (λ e. omega arith) (λ e. omega arith),
+    ))
+
+pub formed-turn : (b : List ℕ) (a : Arbiter) (g n : ℕ) → length b ≡ 2048 → length (a .asks) ≡ 32 → formedAll (withTurn b a g n) ≡ formedAll b
+formed-turn b a g n long all =
+    formed-same (withTurn b a g n) b (turn-between b a g n long all 805 (omega arith) (omega arith)) (λ j h.
+    (turn-before b a g n long all (1 * 32 + j) (omega arith), turn-before b a g n long all (5 * 32 + j) (omega arith), turn-before b a g n long all (9 * 32 + j) (omega arith)))

@@ -1,0 +1,198 @@
+-- The test of the bytes, turn by turn. Assumes nothing.
+use Prim.Native.Nat.{ℕ, zero, suc, _+_, _<_, _≤_}
+use native.Mathlib.Numerals.{add-one}
+use native.Mathlib.Omega.{arith}
+use mathlib.Core.Path.{_≡_, refl, sym, ap, subst, _∙_}
+use mathlib.Core.Bool.{Bool, true, false, _&&_, and-true, and-assoc, false≢true}
+use mathlib.Core.Logic.{_↔_, _⊎_, inl, inr, ⊎-elim, Iff·rfl}
+use mathlib.Core.List.{List, [], _∷_}
+use lib.Dec.{leb}
+use lib.ListN.{length, getD, set, drop, drop-of-length-le}
+use lib.Seq.{drop-cons}
+use Rattle.header.specs.Fields.{highest}
+use Rattle.card.specs.declared.Card.{Card}
+use Rattle.card.specs.declared.Ask.the-variants.{On}
+use Rattle.card.specs.Cards.{holds}
+use Rattle.outlet.proofs.Truth.{le-iff, lt-iff, and-iff, or-iff}
+use Rattle.shelf.specs.Shelves.{declared, blank, numberOf, numbers}
+use Rattle.shelf.specs.declared.Unit as U
+use Rattle.shelf.proofs.Finding.{declared-length, declared-at}
+use Rattle.state.specs.Bytes.{col, unitBy, unitIn, shelfIn}
+use Rattle.state.proofs.Laws.{units-length, unit-at}
+use Rattle.soundness.specs.State.{every, among, noneRepeated, roomy, belowBus, settingsGiven, couldBeGiven, withinCapacity, grantHasCell, requestHasCell, arbiterKnown, unitFits, soundOf}
+use Rattle.soundness.specs.Lanes.{formed, laneGood, lanes}
+use Rattle.soundness.specs.Numbered.{free, arbiterHeld}
+use Rattle.soundness.specs.Soundings.{formedAll, soundIn}
+use Rattle.soundness.proofs.Pass.{none, priorityOf, cellsOf, Placed, all-placed, pass, roomy-iff, bus-most}
+use Rattle.soundness.proofs.Facts.{every-iff}
+use Rattle.soundness.proofs.Numbered.{pass-document}
+
+split : (k i : ℕ) → k ≤ i → (k ≡ i) ⊎ (suc k ≤ i)
+split zero zero h = inl refl
+split zero (suc i) h = inr (omega arith)
+split (suc k) zero h = absurd (omega arith)
+split (suc k) (suc i) h = ⊎-elim (λ e. inl (ap suc e)) (λ e. inr (omega arith)) (split k i (omega arith))
+
+-- a place below the count is good where all are; and all are where each is
+pub lanes-at : (good : ℕ → Bool) (count k n i : ℕ) → lanes good count k n ≡ true → k ≤ i → i < k + n → i < count → good i ≡ true
+unfolding lanes
+lanes-at good count k zero i t h l c = absurd (omega arith)
+lanes-at good count k (suc n) i t h l c =
+    let w = and-iff (or-iff (le-iff count k) (Iff·rfl {A = good k ≡ true})) (Iff·rfl {A = lanes good count (suc k) n ≡ true}) .0 t in
+    ⊎-elim (λ e. subst (λ j. good j ≡ true) e (⊎-elim (λ m. absurd (omega arith)) (λ g. g) (w .0))) (λ m. lanes-at good count (suc k) n i (w .1) m (omega arith) c) (split k i h)
+
+pub lanes-all : (good : ℕ → Bool) (count k n : ℕ) → ((i : ℕ) → k ≤ i → i < k + n → i < count → good i ≡ true) → lanes good count k n ≡ true
+unfolding lanes
+lanes-all good count k zero g = refl
+lanes-all good count k (suc n) g =
+    and-iff (or-iff (le-iff count k) (Iff·rfl {A = good k ≡ true})) (Iff·rfl {A = lanes good count (suc k) n ≡ true}) .1
+    (near (leb count k) refl, lanes-all good count (suc k) n (λ i a b c. g i (omega arith) (omega arith) c))
+  where
+    near : (t : Bool) → leb count k ≡ t → (count ≤ k) ⊎ (good k ≡ true)
+    near true e = inl (le-iff count k .0 e)
+    near false e = inr (g k (omega arith) (omega arith) (less (apart count k) e))
+      where
+        apart : (a b : ℕ) → (a ≤ b) ⊎ (b < a)
+        apart zero b = inl (omega arith)
+        apart (suc a) zero = inr (omega arith)
+        apart (suc a) (suc b) = ⊎-elim (λ h. inl (omega arith)) (λ h. inr (omega arith)) (apart a b)
+
+        less : (count ≤ k) ⊎ (k < count) → leb count k ≡ false → k < count
+        less (inl h) e = absurd (false≢true (sym e ∙ le-iff count k .1 h))
+        less (inr h) e = h
+
+-- two tests, and one of them
+first : (a b : Bool) → (a && b) ≡ true → a ≡ true
+first true b t = refl
+first false b t = t
+
+second : (a b : Bool) → (a && b) ≡ true → b ≡ true
+second true b t = t
+second false b t = absurd (false≢true t)
+
+both-true : (a b c : Bool) → (a ≡ true → b ≡ true → c ≡ true) → c ≡ false → (a && b) ≡ false
+both-true true true c f e = absurd (false≢true (sym e ∙ f refl refl))
+both-true true false c f e = refl
+both-true false b c f e = refl
+
+-- the document's items: those of a unit by itself, and what is left where they hold
+own : (a n b c w g r k : Bool) → (a && n && b && c && w && g && r && k) ≡ true → (b ≡ true) × (c ≡ true) × (w ≡ true)
+own a n b c w g r k t =
+    let x = first (a && n && b && c && w) g (first (a && n && b && c && w && g) r (first (a && n && b && c && w && g && r) k t)) in
+    let y = first (a && n && b && c) w x in
+    (second (a && n) b (first (a && n && b) c y), second (a && n && b) c y, second (a && n && b && c) w x)
+
+others : (a n b c w g r k : Bool) → a ≡ true → b ≡ true → c ≡ true → w ≡ true → (a && n && b && c && w && g && r && k) ≡ (n && g && r && k)
+others a n b c w g r k p q s t =
+    (λ z. p z && n && q z && s z && t z && g && r && k)
+    ∙ ap (λ x. x && g && r && k) (and-true (n && true && true) ∙ and-true (n && true) ∙ and-true n)
+
+each : (f : U.Unit → Bool) (us : List U.Unit) → (every f us ≡ true) ↔ ((i : ℕ) → i < length us → f (getD us i blank) ≡ true)
+each f us = every-iff f (λ u. f u ≡ true) (λ u. Iff·rfl) us
+
+module _ (b : List ℕ) where
+  abbrev us : List U.Unit
+  us = declared (shelfIn b)
+
+  abbrev count : ℕ
+  count = getD b 805 0
+
+  -- what is left of the pass at place i
+  abbrev pub left : List ℕ → List ℕ → ℕ → Bool
+  left ps cs i = pass (getD b 803 0) (shelfIn b .arbiter .last) (shelfIn b .arbiter .asks) ps cs (drop i us)
+
+  module _ (most : count ≤ 32) where
+    long : length us ≡ count
+    long = let l = declared-length (shelfIn b) (units-length b 0 32) in omega (arith, l)
+
+    there : (i : ℕ) → i < count → getD us i blank ≡ unitIn b i
+    there i h = declared-at (shelfIn b) i blank h ∙ unit-at b i blank (omega arith)
+
+    module _ (ps cs : List ℕ) (i : ℕ) where
+      next : i < count → drop i us ≡ unitIn b i ∷ drop (suc i) us
+      next h = let l = long in drop-cons us i blank (omega arith) ∙ ap (λ u. u ∷ drop (suc i) us) (there i h)
+
+      pub goes-on : (once : Bool) → i < count → (once && left ps cs i) ≡ ((once && free ps (col b i 0)) && left (set ps (col b i 0) (col b i 4)) (set cs (col b i 0) (col b i 15)) (i + 1))
+      unfolding pass unitBy
+      goes-on once h =
+          rw (add-one, next h)
+          (sym (and-assoc once (free ps (col b i 0)) (left (set ps (col b i 0) (col b i 4)) (set cs (col b i 0) (col b i 15)) (suc i))))
+
+      pub ends : count ≤ i → left ps cs i ≡ arbiterHeld ps cs (getD b 803 0) (shelfIn b .arbiter .last) (shelfIn b .arbiter .asks)
+      unfolding pass
+      ends h = let l = long in rw (drop-of-length-le us {i = i} (omega arith))
+
+module _ (card : Card) (b : List ℕ) (store rows : ℕ) where
+  abbrev bus : ℕ
+  bus = getD b 804 0
+
+  abbrev good : ℕ → Bool
+  good = laneGood card bus b
+
+  pub small : roomy bus (count b) store rows ≡ false → false ≡ soundIn card b store rows
+  unfolding soundIn soundOf
+  small e = sym (both-true (formedAll b) (soundOf card (shelfIn b) store rows) (soundOf card (shelfIn b) store rows) (λ p q. q) (rw e))
+
+  module _ (t : roomy bus (count b) store rows ≡ true) where
+    pub few : count b ≤ 32
+    few = roomy-iff bus (count b) store rows .0 t .0 .0 .1
+
+    fits-at : soundOf card (shelfIn b) store rows ≡ true → (i : ℕ) → i < count b → unitFits card bus (unitIn b i) ≡ true
+    unfolding soundOf unitFits
+    fits-at e i h =
+        let l = long b few in
+        let w =
+        own (roomy bus (count b) store rows) (noneRepeated (numbers (us b))) (every (belowBus bus) (us b)) (every (couldBeGiven card) (us b)) (every withinCapacity (us b))
+        (every (grantHasCell (getD b 803 0)) (us b)) (every (requestHasCell (getD b 803 0) (shelfIn b .arbiter .asks)) (us b))
+        (arbiterKnown (among (numbers (us b))) (getD b 803 0) (shelfIn b .arbiter .last) (shelfIn b .arbiter .asks)) e in
+        subst (λ u. unitFits card bus u ≡ true) (there b few i h)
+        (and-iff (and-iff (Iff·rfl {A = belowBus bus (getD (us b) i blank) ≡ true}) (Iff·rfl {A = couldBeGiven card (getD (us b) i blank) ≡ true})) (Iff·rfl {A = withinCapacity (getD (us b) i blank) ≡ true}) .1
+        ((each (belowBus bus) (us b) .0 (w .0) i (omega arith), each (couldBeGiven card) (us b) .0 (w .1) i (omega arith)), each withinCapacity (us b) .0 (w .2) i (omega arith)))
+
+    pub unfit : lanes good (count b) 0 32 ≡ false → false ≡ soundIn card b store rows
+    unfolding soundIn
+    unfit e =
+        sym (both-true (formedAll b) (soundOf card (shelfIn b) store rows) (lanes good (count b) 0 32)
+        (λ p q. lanes-all good (count b) 0 32 (λ i a l c. and-iff (Iff·rfl {A = formed (col b i) ≡ true}) (Iff·rfl {A = unitFits card bus (unitIn b i) ≡ true}) .1 (lanes-at (λ j. formed (col b j)) (count b) 0 32 i p a l c, fits-at q i c))) e)
+
+    module _ (g : lanes good (count b) 0 32 ≡ true) where
+      parts : (i : ℕ) → i < count b → (formed (col b i) ≡ true) × (unitFits card bus (unitIn b i) ≡ true)
+      parts i h = let m = few in and-iff (Iff·rfl {A = formed (col b i) ≡ true}) (Iff·rfl {A = unitFits card bus (unitIn b i) ≡ true}) .0 (lanes-at good (count b) 0 32 i g (omega arith) (omega arith) h)
+
+      fits : (i : ℕ) → i < length (us b) → ((belowBus bus (getD (us b) i blank) ≡ true) × (couldBeGiven card (getD (us b) i blank) ≡ true)) × (withinCapacity (getD (us b) i blank) ≡ true)
+      unfolding unitFits
+      fits i h =
+          let l = long b few in
+          let c : i < count b = omega arith in
+          and-iff (and-iff (Iff·rfl {A = belowBus bus (getD (us b) i blank) ≡ true}) (Iff·rfl {A = couldBeGiven card (getD (us b) i blank) ≡ true})) (Iff·rfl {A = withinCapacity (getD (us b) i blank) ≡ true}) .0
+          (subst (λ u. unitFits card bus u ≡ true) (sym (there b few i c)) (parts i c .1))
+
+      placed : Placed 32 (us b)
+      unfolding settingsGiven
+      placed =
+          all-placed (us b) 32 (λ i h.
+          let u = getD (us b) i blank in
+          let f = fits i h in
+          let m = bus-most bus (count b) store rows t in
+          let n = lt-iff (numberOf u) bus .0 (f .0 .0) in
+          let p = and-iff (Iff·rfl {A = settingsGiven card (u .settings) ≡ true}) Iff·rfl .0 (f .0 .1) .0 in
+          let s = second (holds card (On (u .settings .link)) && leb (u .settings .top) (highest (u .settings .link))) (leb 1 (priorityOf u) && leb (priorityOf u) 3) p in
+          let q = le-iff 1 (priorityOf u) .0 (first (leb 1 (priorityOf u)) (leb (priorityOf u) 3) s) in
+          (omega (arith, n, m), q))
+
+      pub number-below : (i : ℕ) → i < count b → col b i 0 < 32
+      unfolding unitBy unitFits
+      number-below i h =
+          let m = bus-most bus (count b) store rows t in
+          let n = lt-iff (col b i 0) bus .0 (first (belowBus bus (unitIn b i)) (couldBeGiven card (unitIn b i)) (first (belowBus bus (unitIn b i) && couldBeGiven card (unitIn b i)) (withinCapacity (unitIn b i)) (parts i h .1))) in
+          omega (arith, n, m)
+
+      pub begins : soundIn card b store rows ≡ left b none none 0
+      unfolding soundIn soundOf
+      begins =
+          let a = shelfIn b .arbiter in
+          ap (λ x. x && soundOf card (shelfIn b) store rows) (lanes-all (λ i. formed (col b i)) (count b) 0 32 (λ i p l c. parts i c .0))
+          ∙ others (roomy bus (count b) store rows) (noneRepeated (numbers (us b))) (every (belowBus bus) (us b)) (every (couldBeGiven card) (us b)) (every withinCapacity (us b))
+          (every (grantHasCell (getD b 803 0)) (us b)) (every (requestHasCell (getD b 803 0) (a .asks)) (us b)) (arbiterKnown (among (numbers (us b))) (getD b 803 0) (a .last) (a .asks))
+          t (each (belowBus bus) (us b) .1 (λ i h. fits i h .0 .0)) (each (couldBeGiven card) (us b) .1 (λ i h. fits i h .0 .1)) (each withinCapacity (us b) .1 (λ i h. fits i h .1))
+          ∙ pass-document (getD b 803 0) (a .last) (a .asks) (us b) placed

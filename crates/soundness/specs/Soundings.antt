@@ -1,0 +1,15 @@
+-- State, of lent bytes: as of the shelf that they are, and each byte of a declared unit that says a link, a mode or a mark is one. Assumes nothing.
+use Prim.Native.Nat.{ℕ}
+use mathlib.Core.Bool.{Bool, _&&_}
+use mathlib.Core.List.{List}
+use lib.ListN.{getD}
+use Rattle.card.specs.declared.Card.{Card}
+use Rattle.soundness.specs.State.{soundOf}
+use Rattle.state.specs.Bytes.{col, shelfIn}
+use Rattle.soundness.specs.Lanes.{formed, lanes}
+
+abbrev pub formedAll : List ℕ → Bool
+formedAll b = lanes (λ i. formed (col b i)) (getD b 805 0) 0 32
+
+unfoldable pub soundIn : Card → List ℕ → ℕ → ℕ → Bool
+soundIn card b store rows = formedAll b && soundOf card (shelfIn b) store rows
