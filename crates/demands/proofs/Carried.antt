@@ -1,4 +1,5 @@
 -- The three demands are met. Assumes nothing.
+use Rattle.paper.proofs.Layouts.{layout, layout-once}
 use Rattle.wording.proofs.Numerals.{numeral-iff}
 use Rattle.wording.proofs.Texts.{texts-apart}
 use Rattle.promise.proofs.Refusals.{either-way}
@@ -53,6 +54,8 @@ demand-1 =
       either-way = either-way;
       refused-table-zeroes = refused-table-zeroes;
       good-load = good-load;
+      layout = layout;
+      layout-once = layout-once;
       in-place = in-place;
       runs-in-place = runs-in-place;
       refused-rule = refused-rule;

@@ -1,14 +1,17 @@
 -- The three demands: each sentence, and the statement that carries it. What is said of the shelf is said of the 2,048 lent bytes of its state: `running: Lent` has the contracts of
--- `entry` over them, `state: Bytes` the shelf that they are. Assumes nothing.
+-- `entry` over them, `state: Bytes` the shelf that they are, `paper: Layouts` which byte of them says what. Assumes nothing.
 use Prim.Native.Nat.{ℕ, _<_}
 use mathlib.Core.Path.{_≡_}
 use mathlib.Core.Logic.{_⊎_, _↔_}
 use mathlib.Core.Bool.{true}
 use mathlib.Core.List.{List}
 use lib.Dec.{T}
+use lib.ListN.{length}
 use Rattle.routing.specs.Routing.{check}
 use Rattle.card.specs.declared.Card.{Card}
+use Rattle.state.specs.Bytes.{shelfIn}
 use Rattle.line.specs.declared.Line.{Line}
+use Rattle.paper.specs.Layouts.{Layout, LayoutOnce}
 use Rattle.wording.specs.Reads.{NumeralIff, TextsApart}
 use Rattle.promise.specs.Refusals.{Accepts, Refuses}
 use Rattle.promise.specs.Narrow.{NoneWide, FirstWide}
@@ -70,10 +73,14 @@ pub record Demand1 : Type 2 where
   -- "each `unit` line takes (top VPI + 1) records and each `page` line (top VCI + 1) records, in line order, 8 bytes a record, from byte 0 without gaps": the memory byte by byte, and the
   -- shelf number by number; "A good load zeroes its rows and starts with all queues empty."
   pub good-load : GoodLoad
-  -- an event on bytes that are a state is the event on the shelf that they are: what is said, each lent byte, the shelf afterwards; they are a state again, and no byte of a place that is
-  -- not declared has changed. Bytes that are none are refused, and stay
+  -- docs/STATE.md, "The state of one shelf is 2,048 bytes": "The byte of place p in column c is byte 32 c + p."; "The shelf itself"; "Sessions": which byte says what
+  pub layout : (state : List ℕ) → length state ≡ 2048 → Layout state (shelfIn state)
+  -- and that is all of a shelf but the places that are not declared: bytes are one shelf
+  pub layout-once : LayoutOnce
+  -- an event on bytes that are a state is the event on the shelf that they are: what is said, each lent byte, the shelf afterwards; they are a state again, and no byte has changed
+  -- but requests, grants, the frame number and the rings of declared units. Bytes that are none are refused, and stay
   pub in-place : InPlace
-  -- so it is from every load on, which leaves a state, all 2,048 bytes of it, whatever they were
+  -- so it is from every load on, which leaves a state, all 2,048 bytes of it, whatever they were: those that say nothing are zero and stay so
   pub runs-in-place : RunsInPlace
   -- "A bad .. frame, cell, buffer or shelf state is refused with a fixed number.": each of 8 to 10, over every event on all bytes, a state or not, exactly when 01 says so, a bad state item
   -- by item; "every other refusal changes nothing", not one byte

@@ -132,9 +132,18 @@ module _ (b store : List ℕ) (long : length b ≡ 2048) where
   at-behind k h =
       turn-behind (stateBy (sender (shelfIn b)) b store) (granted (shelfIn b) .arbiter) (granted (shelfIn b) .unit) next sent-long asks-long k h ∙ sent-other k (λ j c hj lj lc hc e. omega arith)
 
+  at-turn : shelfIn (stateAt b store) ≡ turnPut (shelfIn (stateBy (sender (shelfIn b)) b store)) (granted (shelfIn b) .arbiter) (granted (shelfIn b) .unit) next
+  at-turn = turn-shelf (stateBy (sender (shelfIn b)) b store) (granted (shelfIn b) .arbiter) (granted (shelfIn b) .unit) next sent-long asks-long last-long (omega arith)
+
+  at-bus : getD (stateAt b store) 804 0 ≡ getD b 804 0
+  at-bus = ap (λ s. s .bus) at-turn ∙ sent-other 804 (λ j c hj lj lc hc e. omega arith)
+
+  at-count : getD (stateAt b store) 805 0 ≡ getD b 805 0
+  at-count = ap (λ s. s .count) at-turn ∙ sent-other 805 (λ j c hj lj lc hc e. omega arith)
+
   at-decodes : shelfIn (stateAt b store) ≡ doneAt (shelfIn b) store .reply .shelf
   at-decodes =
-      turn-shelf (stateBy (sender (shelfIn b)) b store) (granted (shelfIn b) .arbiter) (granted (shelfIn b) .unit) next sent-long asks-long last-long (omega arith)
+      at-turn
       ∙ ap (λ s. turnPut s (granted (shelfIn b) .arbiter) (granted (shelfIn b) .unit) next) sent-decodes
 
 -- the tie to the shelf of specs
@@ -157,6 +166,13 @@ module _ (card : Card) (b store : List ℕ) (rows lent : ℕ) where
   -- the bytes behind those of the frame number; the columns before those of rings; the places past the declared units
   pub frame-free : length b ≡ 2048 → formedAll b ≡ true → (k : ℕ) → 808 ≤ k → getD (frameState card b store rows lent) k 0 ≡ getD b k 0
   frame-free long formed k low = kept (λ x. getD x k 0 ≡ getD b k 0) refl (at-behind b store long k low)
+
+  -- the bus and the count of units
+  pub frame-bus : length b ≡ 2048 → getD (frameState card b store rows lent) 804 0 ≡ getD b 804 0
+  frame-bus long = kept (λ x. getD x 804 0 ≡ getD b 804 0) refl (at-bus b store long)
+
+  pub frame-count : length b ≡ 2048 → getD (frameState card b store rows lent) 805 0 ≡ getD b 805 0
+  frame-count long = kept (λ x. getD x 805 0 ≡ getD b 805 0) refl (at-count b store long)
 
   pub frame-kept : length b ≡ 2048 → formedAll b ≡ true → (k : ℕ) → k < 448 → getD (frameState card b store rows lent) k 0 ≡ getD b k 0
   frame-kept long formed k high = kept (λ x. getD x k 0 ≡ getD b k 0) refl (at-before b store long k (omega arith) (λ j c hj lj lc hc e. omega arith))

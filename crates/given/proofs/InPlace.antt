@@ -1,27 +1,31 @@
 -- What a line makes of the bytes is what it makes of the shelf that they are; and bytes that are well formed stay so. Assumes nothing.
 use mathlib.Core.Path.{_≡_, refl, sym, ap, subst, _∙_}
 use mathlib.Core.Bool.{Bool, true, false, _&&_}
+use mathlib.Core.Logic.{_⊎_, inl, inr}
 use mathlib.Core.List.{List}
-use Prim.Native.Nat.{ℕ, _+_, _*_, _/_, _%_, _^_, _≤_, _<_}
+use Prim.Native.Nat.{ℕ, _+_, _-_, _*_, _/_, _%_, _^_, _≤_, _<_}
 use native.Mathlib.Omega.{arith}
 use lib.Bits.{bitOr}
 use lib.Dec.{eqb, leb}
 use lib.ListN.{length, getD}
+use lib.Seq.{getD-set-other}
 use borrow.Author.Tests.{eqb-true, eqb-false}
 use Rattle.header.specs.declared.Link.{Link}
 use Rattle.header.specs.declared.Link.the-variants.{Uni, Nni}
+use Rattle.octets.specs.Octets.{part}
 use Rattle.outlet.specs.Outlets.{fresh as freshOutlet}
 use Rattle.outlet.specs.declared.Mode.{Mode}
 use Rattle.outlet.specs.declared.Mode.the-variants.{One, Four}
 use Rattle.outlet.specs.declared.Limits.{Limits}
-use Rattle.shelf.specs.Shelves.{blank, declared, findIn}
+use Rattle.shelf.specs.Shelves.{unit, blank, declared, findIn}
+use Rattle.shelf.proofs.Finding.{declared-length, find-at}
 use Rattle.shelf.specs.declared.Settings.{Settings}
 use Rattle.shelf.specs.declared.Found.{Found}
 use Rattle.shelf.specs.declared.Found.the-variants.{At, Nothing}
 use Rattle.state.specs.Bytes.{col, unitBy, unitIn, shelfIn, withUnit}
 use Rattle.state.specs.Placing.{linkByte, modeByte, markByte, columnsOf, freshBytes, declaredBy, joined}
 use Rattle.state.proofs.Laws.{units-length, unit-at}
-use Rattle.state.proofs.Placed.{placed-long, placed-kept, placed-count, placed-here, placed-there, declared-shelf}
+use Rattle.state.proofs.Placed.{placed-long, placed-kept, placed-count, placed-here, placed-there, declared-shelf, part-at}
 use Rattle.state.proofs.Afresh.{fresh-long, fresh-zero, fresh-shelf}
 use Rattle.state.proofs.Joined.{session-long, session-kept, joined-shelf}
 use Rattle.soundness.specs.Lanes.{formed, lanes}
@@ -44,11 +48,15 @@ Roomy b (Page a v top) = Unit {0}
 Roomy b (Vc a v w target class outvpi outvci) = Unit {0}
 Roomy b (Mc a session) = Unit {0}
 
--- bytes as loading leaves them: as many as there are, well formed, and those for later requests zero
+-- the bytes that say nothing: those for later requests, the columns and the sessions of the places that are not declared
+abbrev pub Spare : List ℕ → ℕ → Type 0
+Spare b k = ((808 ≤ k) × (k < 1024)) ⊎ (((k < 768) × (getD b 805 0 ≤ k % 32)) ⊎ ((1024 + 32 * getD b 805 0 ≤ k) × (k < 2048)))
+
+-- bytes as loading leaves them: as many as there are, well formed, and those that say nothing zero
 pub record Well (b : List ℕ) : Type 0 where
   pub long : length b ≡ 2048
   pub formed : formedAll b ≡ true
-  pub free : (k : ℕ) → 808 ≤ k → k < 1024 → getD b k 0 ≡ 0
+  pub spare : (k : ℕ) → Spare b k → getD b k 0 ≡ 0
 
 -- A. a session more
 module _ (b : List ℕ) (a session : ℕ) (long : length b ≡ 2048) (small : session < 256) where
@@ -87,8 +95,13 @@ fresh-well bus =
     record {
       long = fresh-long bus;
       formed = lanes-all (λ i. formed (col (freshBytes bus) i)) (getD (freshBytes bus) 805 0) 0 32 (λ i a l c. absurd (omega (arith, z, c)));
-      free = λ k h l. fresh-zero bus k (omega arith) (λ a b. absurd (omega arith));
+      spare = zero;
     }
+  where
+    zero : (k : ℕ) → Spare (freshBytes bus) k → getD (freshBytes bus) k 0 ≡ 0
+    zero k (inl h) = fresh-zero bus k (let l = h .1 in omega arith) (λ a b. let l = h .0 in absurd (omega arith))
+    zero k (inr (inl h)) = fresh-zero bus k (let l = h .0 in omega arith) (λ a b. let l = h .0 in absurd (omega arith))
+    zero k (inr (inr h)) = fresh-zero bus k (h .1) (λ a b. let l = h .0 in absurd (omega arith))
 
 module _ (b : List ℕ) (s : Settings) (l : Limits) (place : ℕ) (w : Well b) (h : getD b 805 0 < 32) where
   abbrev n : ℕ
@@ -108,17 +121,50 @@ module _ (b : List ℕ) (s : Settings) (l : Limits) (place : ℕ) (w : Well b) (
       same-formed (col next i) (col b i) (placed-there b n vs h (w .long) refl i hi ne)
       ∙ lanes-at (λ j. formed (col b j)) n 0 32 i (w .formed) (omega arith) (omega arith) (omega arith)
 
+  -- the sessions of the places behind
+  sessions-behind : (j : ℕ) → j < 32 → n < j → part next (1024 + 32 * j) 32 ≡ part b (1024 + 32 * j) 32
+  unfolding unitBy
+  sessions-behind j hj more =
+      ap (λ u. u .sessions)
+      (sym (unit-at next j blank hj) ∙ ap (λ x. getD (x .units) j blank) (declared-shelf b s l place (w .long) h)
+      ∙ getD-set-other (shelfIn b .units) n j (unit s l place) blank (λ e. absurd (omega arith)) ∙ unit-at b j blank hj)
+
+  spare-kept : (k : ℕ) → Spare next k → getD next k 0 ≡ 0
+  spare-kept k (inl x) =
+      let lo = x .0 in
+      let hi = x .1 in
+      placed-kept b n vs h (w .long) refl k (omega arith) (omega arith) (λ q. absurd (omega arith)) ∙ w .spare k (inl x)
+  spare-kept k (inr (inl x)) =
+      let e = placed-count b n vs h (w .long) refl in
+      let k-below = x .0 in
+      let past = x .1 in
+      let split : k ≡ k / 32 * 32 + k % 32 = omega arith in
+      ap (λ i. getD next i 0) split ∙ placed-there b n vs h (w .long) refl (k % 32) (omega arith) (λ q. absurd (omega (arith, e, past, q))) (k / 32) (omega arith)
+      ∙ ap (λ i. getD b i 0) (sym split) ∙ w .spare k (inr (inl (k-below, omega (arith, e, past))))
+  spare-kept k (inr (inr x)) =
+      let e = placed-count b n vs h (w .long) refl in
+      let past = x .0 in
+      let k-below = x .1 in
+      let j = (k - 1024) / 32 in
+      let m = (k - 1024) % 32 in
+      let hm : m < 32 = omega arith in
+      let hj : j < 32 = omega arith in
+      let more : n < j = omega (arith, e, past) in
+      let split : k ≡ 1024 + 32 * j + m = omega (arith, e, past) in
+      ap (λ i. getD next i 0) split ∙ sym (part-at next (1024 + 32 * j) 32 m hm) ∙ ap (λ l. getD l m 0) (sessions-behind j hj more) ∙ part-at b (1024 + 32 * j) 32 m hm
+      ∙ ap (λ i. getD b i 0) (sym split) ∙ w .spare k (inr (inr (omega (arith, e, past), k-below)))
+
   declared-well : Well next
   declared-well =
       let e = placed-count b n vs h (w .long) refl in
       record {
         long = placed-long b n vs h (w .long) refl;
         formed = lanes-all (λ i. formed (col next i)) (getD next 805 0) 0 32 (λ i a m c. formed-at i (omega arith) (omega (arith, e, c)) (eqb i n) refl);
-        free = λ k x y. placed-kept b n vs h (w .long) refl k (omega arith) (omega arith) (λ q. absurd (omega arith)) ∙ w .free k x y;
+        spare = spare-kept;
       }
 
-joined-well : (b : List ℕ) (i session : ℕ) → Well b → i < 32 → session < 256 → Well (joined b i session)
-joined-well b i session w hi small =
+joined-well : (b : List ℕ) (i session : ℕ) → Well b → i < 32 → i < getD b 805 0 → session < 256 → Well (joined b i session)
+joined-well b i session w hi lo small =
     let k : session / 8 < 32 = omega arith in
     let v = bitOr (getD b (1024 + 32 * i + session / 8) 0) (2 ^ (session % 8)) in
     let count = session-kept b i (session / 8) v hi k (w .long) 805 (λ e. absurd (omega arith)) in
@@ -127,12 +173,33 @@ joined-well b i session w hi small =
       formed = lanes-all (λ j. formed (col (joined b i session) j)) (getD (joined b i session) 805 0) 0 32
           (λ j a m c. same-formed (col (joined b i session) j) (col b j) (λ x hx. session-kept b i (session / 8) v hi k (w .long) (x * 32 + j) (λ e. absurd (omega arith)))
           ∙ lanes-at (λ x. formed (col b x)) (getD b 805 0) 0 32 j (w .formed) a m (omega (arith, count, c)));
-      free = λ x y z. session-kept b i (session / 8) v hi k (w .long) x (λ e. absurd (omega arith)) ∙ w .free x y z;
+      spare = zero;
     }
+  where
+    hk : session / 8 < 32
+    hk = omega arith
+
+    same : (x : ℕ) → (x ≡ 1024 + 32 * i + session / 8 → ⊥) → getD (joined b i session) x 0 ≡ getD b x 0
+    same = session-kept b i (session / 8) (bitOr (getD b (1024 + 32 * i + session / 8) 0) (2 ^ (session % 8))) hi hk (w .long)
+
+    zero : (x : ℕ) → Spare (joined b i session) x → getD (joined b i session) x 0 ≡ 0
+    zero x (inl h) = same x (λ e. let l = h .1 in absurd (omega arith)) ∙ w .spare x (inl h)
+    zero x (inr (inl h)) =
+        let count = same 805 (λ e. absurd (omega arith)) in
+        let l = h .0 in
+        let past = h .1 in
+        same x (λ e. absurd (omega arith)) ∙ w .spare x (inr (inl (l, omega (arith, count, past))))
+    zero x (inr (inr h)) =
+        let count = same 805 (λ e. absurd (omega arith)) in
+        let past = h .0 in
+        same x (λ e. absurd (omega (arith, count, past, e, hk, lo))) ∙ w .spare x (inr (inr (omega (arith, count, past), h .1)))
 
 join-well : (b : List ℕ) (a session : ℕ) (f : Found) → Well b → session < 256 → findIn (declared (shelfIn b)) a ≡ f → Well (joinedAt b f session)
 unfolding joinedAt
-join-well b a session (At i) w small e = joined-well b i session w (found-in (shelfIn b) a i (units-length b 0 32) e) small
+join-well b a session (At i) w small e =
+    let f = find-at a (declared (shelfIn b)) i .0 e in
+    let n = declared-length (shelfIn b) (units-length b 0 32) in
+    joined-well b i session w (found-in (shelfIn b) a i (units-length b 0 32) e) (omega (arith, f .inside, n)) small
 join-well b a session Nothing w small e = w
 
 pub state-well : (l : Line) (place : ℕ) (b : List ℕ) → Well b → Roomy b l → Ranged l → Well (stateBy l place b)

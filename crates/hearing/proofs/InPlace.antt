@@ -172,7 +172,7 @@ module _ (card : Card) (b : List ℕ) (store rows unit : ℕ) (f : List ℕ) whe
   hear-formed long formed = kept (λ x. formedAll x ≡ true) formed (λ i e h. state-formed (planOf (unitIn b i) (heard f)) b i (queues i) h ∙ formed)
 
   -- the bytes behind those of the frame number; the columns before those of rings; the places past the declared units
-  pub hear-free : length b ≡ 2048 → formedAll b ≡ true → (k : ℕ) → 808 ≤ k → getD (hearState card b store rows unit f) k 0 ≡ getD b k 0
+  pub hear-free : length b ≡ 2048 → formedAll b ≡ true → (k : ℕ) → 768 ≤ k → getD (hearState card b store rows unit f) k 0 ≡ getD b k 0
   hear-free long formed k low = hear-other k (λ i e x y z. omega arith)
 
   pub hear-kept : length b ≡ 2048 → formedAll b ≡ true → (k : ℕ) → k < 448 → getD (hearState card b store rows unit f) k 0 ≡ getD b k 0

@@ -1,5 +1,5 @@
--- The bytes that loading leaves: the shelf that it gives back, as many as there are, well formed, and those for later requests zero. Assumes nothing.
-use Prim.Native.Nat.{ℕ, _≤_, _<_}
+-- The bytes that loading leaves: the shelf that it gives back, as many as there are, well formed, and those that say nothing zero. Assumes nothing.
+use Prim.Native.Nat.{ℕ}
 use mathlib.Core.Path.{_≡_}
 use mathlib.Core.Bool.{true}
 use mathlib.Core.List.{List}
@@ -7,6 +7,7 @@ use lib.ListN.{length, getD}
 use Rattle.card.specs.declared.Card.{Card}
 use Rattle.state.specs.Bytes.{shelfIn}
 use Rattle.soundness.specs.Soundings.{formedAll}
+use Rattle.given.proofs.InPlace.{Spare}
 use Rattle.table.proofs.InPlace.{load-stands}
 use Rattle.loading.specs.Loads.{loadDone}
 use Rattle.loading.specs.InPlace.{loadState}
@@ -21,5 +22,5 @@ module _ (card : Card) (text memory : List ℕ) (store rows : ℕ) where
   pub load-long : length (loadState card text memory store rows) ≡ 2048
   load-long = load-stands card text memory store rows .0 .long
 
-  pub load-free : (k : ℕ) → 808 ≤ k → k < 1024 → getD (loadState card text memory store rows) k 0 ≡ 0
-  load-free = load-stands card text memory store rows .0 .free
+  pub load-spare : (k : ℕ) → Spare (loadState card text memory store rows) k → getD (loadState card text memory store rows) k 0 ≡ 0
+  load-spare = load-stands card text memory store rows .0 .spare

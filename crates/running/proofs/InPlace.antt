@@ -1,8 +1,8 @@
 -- An event in lent bytes is the event on the shelf that they are. Assumes nothing.
-use Prim.Native.Nat.{ℕ, _≤_}
+use Prim.Native.Nat.{ℕ, _+_, _*_, _%_, _≤_, _<_}
 use native.Mathlib.Omega.{arith}
-use mathlib.Core.Path.{_≡_, refl, sym, ap, _∙_}
-use mathlib.Core.Logic.{inl, inr}
+use mathlib.Core.Path.{_≡_, refl, sym, ap, subst, _∙_}
+use mathlib.Core.Logic.{_⊎_, inl, inr}
 use mathlib.Core.Bool.{Bool, true, false, cond, _&&_, false≢true}
 use mathlib.Core.List.{List, [], _∷_}
 use lib.Dec.{eqb}
@@ -32,9 +32,9 @@ use Rattle.taking.specs.InPlace as taking
 use Rattle.taking.proofs.InPlace.{take-decodes, take-formed, take-long, take-free, take-kept, take-others}
 use Rattle.framing.specs.Frames.{checked, frameDone, frameStore, frameBuffer}
 use Rattle.framing.specs.InPlace as framing
-use Rattle.framing.proofs.InPlace.{frame-decodes, frame-formed, frame-long, frame-free, frame-kept, frame-others}
+use Rattle.framing.proofs.InPlace.{frame-decodes, frame-formed, frame-long, frame-free, frame-bus, frame-count, frame-kept, frame-others}
 use Rattle.loading.specs.Loads.{loadDone, loadMemory}
-use Rattle.loading.proofs.InPlace.{load-decodes, load-formed, load-long, load-free}
+use Rattle.loading.proofs.InPlace.{load-decodes, load-formed, load-long, load-spare}
 use Rattle.entry.specs.Counts.{countOf, counted}
 use Rattle.paper.specs.State.{Formed}
 use Rattle.paper.proofs.State.{formed-iff}
@@ -43,7 +43,7 @@ use Rattle.running.specs.Events.{World, countSaid, happens}
 use Rattle.running.specs.Keeping.{run, loaded}
 use Rattle.running.specs.Refusing.{known, fits, refusal}
 use Rattle.running.specs.Lent.{Lent, Long, does, runIn, loadedIn, seen, shown}
-use Rattle.running.specs.InPlace.{Untouched, Tied, InPlace, RunsInPlace}
+use Rattle.running.specs.InPlace.{Untouched, Spare, Tied, InPlace, RunsInPlace}
 use Rattle.running.proofs.Refused.{refusal-changes-nothing}
 
 module _ (card : Card) (l : Lent) where
@@ -128,20 +128,29 @@ module _ (card : Card) (l : Lent) where
     long-after (take-cell unit buffer) = take-long card b s n unit (length buffer) long
     long-after (count unit) = long
 
+    above : (k : ℕ) → (k ≡ 804) ⊎ (k ≡ 805) → 768 ≤ k
+    above k (inl e) = omega arith
+    above k (inr e) = omega arith
+
     kept : (e : Event) (k : ℕ) → Untouched b k → getD (does card l e .lent .state) k 0 ≡ getD b k 0
     unfolding does
     kept (arrive unit c) k (inl h) = arrive-others card b (l .memory) s n unit c long k (h .1)
     kept (arrive unit c) k (inr (inl h)) = arrive-kept card b (l .memory) s n unit c long k h
-    kept (arrive unit c) k (inr (inr h)) = arrive-free card b (l .memory) s n unit c long k (omega arith)
+    kept (arrive unit c) k (inr (inr (inl h))) = arrive-free card b (l .memory) s n unit c long k (above k h)
+    kept (arrive unit c) k (inr (inr (inr h))) = arrive-free card b (l .memory) s n unit c long k (omega arith)
     kept (frame buffer) k (inl h) = frame-others card b (l .store) n (length buffer) long formed k (h .0) (h .1)
     kept (frame buffer) k (inr (inl h)) = frame-kept card b (l .store) n (length buffer) long formed k h
-    kept (frame buffer) k (inr (inr h)) = frame-free card b (l .store) n (length buffer) long formed k h
+    kept (frame buffer) k (inr (inr (inl (inl e)))) = ap (λ i. getD (framing.frameState card b (l .store) n (length buffer)) i 0) e ∙ frame-bus card b (l .store) n (length buffer) long ∙ ap (λ i. getD b i 0) (sym e)
+    kept (frame buffer) k (inr (inr (inl (inr e)))) = ap (λ i. getD (framing.frameState card b (l .store) n (length buffer)) i 0) e ∙ frame-count card b (l .store) n (length buffer) long ∙ ap (λ i. getD b i 0) (sym e)
+    kept (frame buffer) k (inr (inr (inr h))) = frame-free card b (l .store) n (length buffer) long formed k h
     kept (hear unit f) k (inl h) = hear-others card b s n unit f long formed k (h .0) (h .1)
     kept (hear unit f) k (inr (inl h)) = hear-kept card b s n unit f long formed k h
-    kept (hear unit f) k (inr (inr h)) = hear-free card b s n unit f long formed k h
+    kept (hear unit f) k (inr (inr (inl h))) = hear-free card b s n unit f long formed k (above k h)
+    kept (hear unit f) k (inr (inr (inr h))) = hear-free card b s n unit f long formed k (omega arith)
     kept (take-cell unit buffer) k (inl h) = take-others card b s n unit (length buffer) long k (h .1)
     kept (take-cell unit buffer) k (inr (inl h)) = take-kept card b s n unit (length buffer) long k h
-    kept (take-cell unit buffer) k (inr (inr h)) = take-free card b s n unit (length buffer) long k (omega arith)
+    kept (take-cell unit buffer) k (inr (inr (inl h))) = take-free card b s n unit (length buffer) long k (above k h)
+    kept (take-cell unit buffer) k (inr (inr (inr h))) = take-free card b s n unit (length buffer) long k (omega arith)
     kept (count unit) k h = refl
 
     pub tied : (e : Event) → Tied card l e
@@ -255,15 +264,32 @@ record Ran (card : Card) (l : Lent) (es : List Event) : Type 0 where
   same : seen (runIn card l es) ≡ run card (seen l) es
   formed : formedAll (runIn card l es .state) ≡ true
   long : Long (runIn card l es)
-  free : (k : ℕ) → 808 ≤ k → getD (runIn card l es .state) k 0 ≡ getD (l .state) k 0
+  count : getD (runIn card l es .state) 805 0 ≡ getD (l .state) 805 0
+  spare : (k : ℕ) → Spare (l .state) k → getD (runIn card l es .state) k 0 ≡ getD (l .state) k 0
+
+-- with as many units the same bytes say nothing, and no event writes one
+spare-as : (a b : List ℕ) (k : ℕ) → getD a 805 0 ≡ getD b 805 0 → Spare b k → Spare a k
+spare-as a b k e = subst (λ n. ((808 ≤ k) × (k < 1024)) ⊎ (((k < 768) × (n ≤ k % 32)) ⊎ ((1024 + 32 * n ≤ k) × (k < 2048)))) (sym e)
+
+spare-untouched : (b : List ℕ) (k : ℕ) → Spare b k → Untouched b k
+spare-untouched b k (inl h) = inr (inr (inr (h .0)))
+spare-untouched b k (inr (inl h)) = inl h
+spare-untouched b k (inr (inr h)) = let l = h .0 in inr (inr (inr (omega arith)))
 
 ran : (card : Card) (l : Lent) (es : List Event) → Long l → formedAll (l .state) ≡ true → Ran card l es
 unfolding run runIn
-ran card l [] long formed = record { same = refl; formed = formed; long = long; free = λ k h. refl }
+ran card l [] long formed = record { same = refl; formed = formed; long = long; count = refl; spare = λ k h. refl }
 ran card l (e ∷ es) long formed =
     let one = tied card l long formed e in
     let r = ran card (does card l e .lent) es (one .long) (formed-after card l long formed e) in
-    record { same = r .same ∙ ap (λ o. run card (o .world) es) (one .same); formed = r .formed; long = r .long; free = λ k h. r .free k h ∙ one .kept k (inr (inr h)) }
+    let c = one .kept 805 (inr (inr (inl (inr refl)))) in
+    record {
+      same = r .same ∙ ap (λ o. run card (o .world) es) (one .same);
+      formed = r .formed;
+      long = r .long;
+      count = r .count ∙ c;
+      spare = λ k h. r .spare k (spare-as (does card l e .lent .state) (l .state) k c h) ∙ one .kept k (spare-untouched (l .state) k h);
+    }
 
 -- a load
 pub loaded-seen : (card : Card) (text memory store : List ℕ) (rows : List C.Counters) → seen (loadedIn card text memory store rows) ≡ loaded card text memory store rows
@@ -278,7 +304,9 @@ runs-in-place card text memory store rows es =
       same = r .same ∙ ap (λ w. run card w es) (loaded-seen card text memory store rows);
       formed = formed-iff (runIn card (loadedIn card text memory store rows) es .state) .0 (r .formed);
       long = r .long;
-      free = λ k h j. r .free k h ∙ load-free card text memory (length store) (length rows) k h j;
+      spare = λ k h.
+          let x = spare-as (loadedIn card text memory store rows .state) (runIn card (loadedIn card text memory store rows) es .state) k (sym (r .count)) h in
+          r .spare k x ∙ load-spare card text memory (length store) (length rows) k x;
     }
 
 -- so an event after a load is the event on the shelf

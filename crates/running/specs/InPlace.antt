@@ -1,5 +1,5 @@
 -- An event in lent bytes is the event on the shelf that they are, and keeps every byte that it need not write. Assumes nothing.
-use Prim.Native.Nat.{ℕ, _%_, _<_, _≤_}
+use Prim.Native.Nat.{ℕ, _+_, _*_, _%_, _<_, _≤_}
 use mathlib.Core.Path.{_≡_}
 use mathlib.Core.Logic.{_⊎_}
 use mathlib.Core.List.{List}
@@ -13,9 +13,14 @@ use Rattle.running.specs.Events.{happens}
 use Rattle.running.specs.Keeping.{run, loaded}
 use Rattle.running.specs.Lent.{Lent, Long, does, runIn, loadedIn, seen, shown}
 
--- the bytes that no event writes: every column of a place that is not declared, and of the others all but the columns of rings, from 14 on; from 808 on the free bytes and the sessions
+-- the bytes that no event writes: every column of a place that is not declared, and of the others all but the columns of rings, from 14 on; 804, the bus, and 805, the count of units; from
+-- 808 on the free bytes and the sessions
 abbrev pub Untouched : List ℕ → ℕ → Type 0
-Untouched state k = ((k < 768) × (getD state 805 0 ≤ k % 32)) ⊎ ((k < 448) ⊎ (808 ≤ k))
+Untouched state k = ((k < 768) × (getD state 805 0 ≤ k % 32)) ⊎ ((k < 448) ⊎ (((k ≡ 804) ⊎ (k ≡ 805)) ⊎ (808 ≤ k)))
+
+-- the bytes that say nothing: "808 to 1,023 | free", and all bytes of the places that are not declared, their columns and their sessions
+abbrev pub Spare : List ℕ → ℕ → Type 0
+Spare state k = ((808 ≤ k) × (k < 1024)) ⊎ (((k < 768) × (getD state 805 0 ≤ k % 32)) ⊎ ((1024 + 32 * getD state 805 0 ≤ k) × (k < 2048)))
 
 -- bytes that are a state: what is said, the lent bytes and the shelf afterwards are those of the event on their shelf, and they are a state again
 pub record Tied (card : Card) (l : Lent) (e : Event) : Type 0 where
@@ -35,8 +40,8 @@ pub record RunsTied (card : Card) (text memory store : List ℕ) (rows : List C.
   pub same : seen (runIn card (loadedIn card text memory store rows) es) ≡ run card (loaded card text memory store rows) es
   pub formed : Formed (runIn card (loadedIn card text memory store rows) es .state)
   pub long : Long (runIn card (loadedIn card text memory store rows) es)
-  -- "808 to 1,023 are free": load writes them zero
-  pub free : (k : ℕ) → 808 ≤ k → k < 1024 → getD (runIn card (loadedIn card text memory store rows) es .state) k 0 ≡ 0
+  -- load "writes all 2,048 bytes": "the free bytes and all bytes of the other places are 0", and stay so
+  pub spare : (k : ℕ) → Spare (runIn card (loadedIn card text memory store rows) es .state) k → getD (runIn card (loadedIn card text memory store rows) es .state) k 0 ≡ 0
 
 abbrev pub RunsInPlace : Type 0
 RunsInPlace = (card : Card) (text memory store : List ℕ) (rows : List C.Counters) (es : List Event) → RunsTied card text memory store rows es
