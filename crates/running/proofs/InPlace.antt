@@ -1,7 +1,7 @@
 -- An event in lent bytes is the event on the shelf that they are. Assumes nothing.
-use Prim.Native.Nat.{ℕ, _+_, _*_, _%_, _≤_, _<_}
+use Prim.Native.Nat.{ℕ, _≤_}
 use native.Mathlib.Omega.{arith}
-use mathlib.Core.Path.{_≡_, refl, sym, ap, subst, _∙_}
+use mathlib.Core.Path.{_≡_, refl, sym, ap, _∙_}
 use mathlib.Core.Logic.{_⊎_, inl, inr}
 use mathlib.Core.Bool.{Bool, true, false, cond, _&&_, false≢true}
 use mathlib.Core.List.{List, [], _∷_}
@@ -269,7 +269,9 @@ record Ran (card : Card) (l : Lent) (es : List Event) : Type 0 where
 
 -- with as many units the same bytes say nothing, and no event writes one
 spare-as : (a b : List ℕ) (k : ℕ) → getD a 805 0 ≡ getD b 805 0 → Spare b k → Spare a k
-spare-as a b k e = subst (λ n. ((808 ≤ k) × (k < 1024)) ⊎ (((k < 768) × (n ≤ k % 32)) ⊎ ((1024 + 32 * n ≤ k) × (k < 2048)))) (sym e)
+spare-as a b k e (inl h) = inl h
+spare-as a b k e (inr (inl h)) = let l = h .1 in inr (inl (h .0, omega (arith, e, l)))
+spare-as a b k e (inr (inr h)) = let l = h .0 in inr (inr (omega (arith, e, l), h .1))
 
 spare-untouched : (b : List ℕ) (k : ℕ) → Spare b k → Untouched b k
 spare-untouched b k (inl h) = inr (inr (inr (h .0)))
