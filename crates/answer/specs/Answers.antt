@@ -12,6 +12,7 @@ use Rattle.answer.specs.declared.Hearing as He
 use Rattle.answer.specs.declared.Hearing.the-variants as hearing
 use Rattle.answer.specs.declared.Rises.{Rises}
 use Rattle.answer.specs.declared.Outcome.{Outcome}
+use Rattle.answer.specs.declared.Single.{Single}
 use Rattle.answer.specs.Done.{Done}
 
 -- "Thirteen counters a unit ..: arrived, hec, ignored, misrouted, inletfull, sent, unheard, damaged, queued (outlet), full, clp, wide, taken."
@@ -146,3 +147,18 @@ refused shelf number = ends (Refused number) shelf none
 -- the same without the shelf
 abbrev pub refusedWith : ℕ → Outcome
 refusedWith number = record { answer = Refused number; rises = none }
+
+-- an event at one unit: nothing is counted; or these counters rise in the row of a place
+abbrev pub uncountedWith : A.Answer → Single
+uncountedWith answer = record { answer = answer; counted = false; place = 0; counters = 0 }
+
+abbrev pub countedWith : A.Answer → ℕ → ℕ → Single
+countedWith answer place counters = record { answer = answer; counted = true; place = place; counters = counters }
+
+unfoldable pub spread : Bool → ℕ → ℕ → Rises
+spread true place counters = row place counters
+spread false place counters = none
+
+-- what it comes to, as of any event
+abbrev pub outcomeBy : Single → Outcome
+outcomeBy o = record { answer = o .answer; rises = spread (o .counted) (o .place) (o .counters) }

@@ -1,7 +1,6 @@
 // What an event answers, and which counters of which units rise by it.
 ghost use mathlib.Core.Path.{_≡_};
-ghost use Prim.Native.Nat.{_<_};
-ghost use Rattle.answer.specs.Answers.{none, row as rowOf, arrivalRises, hearingRises, refusedWith};
+ghost use Rattle.answer.specs.Answers.{none, arrivalRises, hearingRises, refusedWith, uncountedWith, countedWith};
 
 // The fates of an arriving cell.
 pub enum Arrival {
@@ -89,6 +88,14 @@ pub struct Outcome {
     pub rises: Rises,
 }
 
+// The same of an event at one unit: the counters that rise in the row of its place, if it is counted at all. It goes by value in a few words.
+pub struct Single {
+    pub answer: Answer,
+    pub counted: bool,
+    pub place: usize,
+    pub counters: u16,
+}
+
 impl Rises {
     // No row changes.
     pub fn none() -> Rises
@@ -99,21 +106,6 @@ impl Rises {
             to: 0,
             anew: false,
             each: [0; 32],
-        }
-    }
-
-    // In the row of one place these rise.
-    pub fn row(place: usize, counters: u16) -> Rises
-        requires { ⌜ place < 32 ⌝ }
-        ensures { λ r. ⌜ r ≡ rowOf place counters ⌝ }
-    {
-        let mut each = [0; 32];
-        each[place] = counters;
-        Rises {
-            from: place,
-            to: place + 1,
-            anew: false,
-            each,
         }
     }
 }
@@ -153,5 +145,29 @@ pub fn refused(number: u8) -> Outcome
     Outcome {
         answer: Answer::Refused(number),
         rises,
+    }
+}
+
+// An event at a unit answers this, and nothing is counted.
+pub fn uncounted(answer: Answer) -> Single
+    ensures { λ r. ⌜ r ≡ uncountedWith answer ⌝ }
+{
+    Single {
+        answer,
+        counted: false,
+        place: 0,
+        counters: 0,
+    }
+}
+
+// It answers this, and these counters rise in the row of a place.
+pub fn counted(answer: Answer, place: usize, counters: u16) -> Single
+    ensures { λ r. ⌜ r ≡ countedWith answer place counters ⌝ }
+{
+    Single {
+        answer,
+        counted: true,
+        place,
+        counters,
     }
 }
