@@ -171,16 +171,34 @@ lane-by card bus b i h low =
     (guarded g (ringsAt f) w (λ t. rings-by (ringBy f 14 15) (ringBy f 16 20) (ringBy f 17 21) (ringBy f 18 22) (ringBy f 19 23) (f 6) (f 5) (λ e. alone (f 6) (f 7) (f 8) (f 9) (f 5) e t)))
     ∙ mix (ltb (f 0) bus) (leb (f 1) 1) o (between 1 3 (f 4)) (leb (f 5) 1) (leb (f 9) 1) (given (limitsBy f)) w
 
--- one place more
-pub lanes-step : (good : ℕ → Bool) (count k : ℕ) (before here : Bool) → k < 32 → here ≡ (leb count k || good k) →
-    (before && lanes good count k (32 - k)) ≡ ((before && here) && lanes good count (k + 1) (32 - (k + 1)))
+-- places judged alike
+pub lanes-same : (f g : ℕ → Bool) (count i n : ℕ) → ((j : ℕ) → i ≤ j → j < i + n → f j ≡ g j) → lanes f count i n ≡ lanes g count i n
 unfolding lanes
-lanes-step good count k before here h e =
-    let n : 32 - k ≡ suc (32 - (k + 1)) = omega arith in
-    ap (λ m. before && lanes good count k m) n
-    ∙ (λ t. before && (sym e t && lanes good (count) (sym (add-one k) t) (32 - (k + 1))))
-    ∙ sym (and-assoc before here (lanes good count (k + 1) (32 - (k + 1))))
+lanes-same f g count i zero e = refl
+lanes-same f g count i (suc n) e =
+    let r = lanes-same f g count (suc i) n (λ j a l. e j (omega arith) (omega arith)) in
+    let u = e i (omega arith) (omega arith) in
+    (λ t. (leb count i || u t) && r t)
 
-pub lanes-end : (good : ℕ → Bool) (count k : ℕ) (before : Bool) → k ≡ 32 → (before && lanes good count k (32 - k)) ≡ before
-unfolding lanes
-lanes-end good count k before e = ap (λ n. before && lanes good count n (32 - n)) e ∙ and-true before
+-- all places, as the code goes through them: to begin with, one place more, and the end
+module _ (links last : ℕ) (b : List ℕ) (count : ℕ) where
+  abbrev pub places : ℕ → ℕ → Bool
+  places i n = lanes (λ j. laneAt links last (col b j)) count i n
+
+  pub places-step : (i k worst over lane least next : ℕ) → i < 32 → k ≡ i → eqb over 0 ≡ leb count k → eqb lane 0 ≡ laneAt links last (col b i) →
+      least ≡ lesser over lane → eqb next 0 ≡ (eqb worst 0 && eqb least 0) → (eqb worst 0 && places i (32 - i)) ≡ (eqb next 0 && places (i + 1) (32 - (i + 1)))
+  unfolding lanes
+  places-step i k worst over lane least next h e o l m n =
+      let here = ap (λ x. eqb x 0) m ∙ lesser-zero over lane ∙ (λ t. o t || l t) ∙ ap (λ j. leb count j || laneAt links last (col b i)) e in
+      let rest : 32 - i ≡ suc (32 - (i + 1)) = omega arith in
+      ap (λ r. eqb worst 0 && places i r) rest
+      ∙ (λ t. eqb worst 0 && (sym here t && places (sym (add-one i) t) (32 - (i + 1))))
+      ∙ sym (and-assoc (eqb worst 0) (eqb least 0) (places (i + 1) (32 - (i + 1))))
+      ∙ (λ t. sym n t && places (i + 1) (32 - (i + 1)))
+
+  pub places-end : (card : Card) (bus i worst : ℕ) → 0 < bus → ((j : ℕ) → getD b j 0 < 256) → links ≡ highestLink card → last ≡ bus - 1 → i ≡ 32 →
+      (eqb worst 0 && places i (32 - i)) ≡ places 0 32 → eqb worst 0 ≡ lanes (laneGood card bus b) count 0 32
+  unfolding lanes
+  places-end card bus i worst h bytes e l end t =
+      sym (ap (λ n. eqb worst 0 && places n (32 - n)) end ∙ and-true (eqb worst 0)) ∙ t
+      ∙ lanes-same (λ j. laneAt links last (col b j)) (laneGood card bus b) count 0 32 (λ j a k. (λ t. laneAt (e t) (l t) (col b j)) ∙ lane-by card bus b j h (bytes (3 * 32 + j)))

@@ -10,7 +10,7 @@ use native.Mathlib.Omega.{arith}
 use lib.Dec.{eqb, leb}
 use lib.ListN.{length, getD, drop, List·getD-eq-default, drop-of-length-le}
 use lib.Seq.{drop-cons}
-use borrow.Author.Tests.{ne-eqb, leb-false}
+use borrow.Author.Tests.{ne-eqb, eqb-true, eqb-false, le-leb, lt-leb}
 use Rattle.outlet.specs.Outlets.{between}
 use Rattle.outlet.proofs.Truth.{same, and-iff, or-iff, eq-iff, le-iff}
 use Rattle.arbiter.specs.Arbitration.{besides}
@@ -67,35 +67,45 @@ module _ (p c n granted : ℕ) (least : 1 ≤ p) (most : p ≤ 3) where
   left = besides c (eqb n granted)
 
   pub stands-some : 1 ≤ standing p c n granted
-  stands-some = at (leb 1 left) (leb 1 c)
+  stands-some = at (leb 1 left) (eqb c 0)
     where
-      at : (x y : Bool) → 1 ≤ cond x p (cond y 4 5)
+      at : (x y : Bool) → 1 ≤ cond x p (cond y 5 4)
       at true y = least
       at false true = omega arith
       at false false = omega arith
 
   pub stands-grant : between 1 4 (standing p c n granted) ≡ leb 1 c
-  stands-grant = at (leb 1 left) (leb 1 c) refl refl
+  stands-grant = at (leb 1 left) (eqb c 0) refl refl
     where
-      at : (x y : Bool) → leb 1 left ≡ x → leb 1 c ≡ y → between 1 4 (cond x p (cond y 4 5)) ≡ y
-      at true true e f = and-iff (le-iff 1 p) (le-iff p 4) .1 (least, omega arith)
-      at true false e f = let a = le-iff 1 left .0 e in let b = leb-false 1 c f in absurd (omega arith)
-      at false true e f = refl
-      at false false e f = refl
+      some : (m : ℕ) → (m ≡ 0 → ⊥) → leb 1 m ≡ true
+      some zero h = absurd (h refl)
+      some (suc m) h = le-leb 1 (suc m) (omega arith)
+
+      at : (x y : Bool) → leb 1 left ≡ x → eqb c 0 ≡ y → between 1 4 (cond x p (cond y 5 4)) ≡ leb 1 c
+      at true y e f = let a = le-iff 1 left .0 e in and-iff (le-iff 1 p) (le-iff p 4) .1 (least, omega arith) ∙ sym (le-leb 1 c (omega arith))
+      at false true e f = let a = eqb-true c 0 f in sym (lt-leb 1 c (omega arith))
+      at false false e f = sym (some c (eqb-false c 0 f))
 
   pub stands-ask : (ask : ℕ) → askIn ask (standing p c n granted) ≡ askHeld granted ask n p c
-  stands-ask ask = ap (λ x. eqb ask 0 || x) (at (leb 1 left) (leb 1 c))
+  stands-ask ask = ap (λ x. eqb ask 0 || x) (at (leb 1 left) (eqb c 0))
     where
       never : (m : ℕ) → 4 ≤ m → (eqb ask m && leb ask 3) ≡ (eqb ask p && false)
       never m h = same (eqb ask m && leb ask 3) (eqb ask p && false) (λ t. let w = and-iff (eq-iff ask m) (le-iff ask 3) .0 t in absurd (omega arith)) (λ t. absurd (false≢true (sym (and-false (eqb ask p)) ∙ t)))
 
-      at : (x y : Bool) → (eqb ask (cond x p (cond y 4 5)) && leb ask 3) ≡ (eqb ask p && x)
+      at : (x y : Bool) → (eqb ask (cond x p (cond y 5 4)) && leb ask 3) ≡ (eqb ask p && x)
       at true y =
           let e = eq-iff ask p in
           same (eqb ask p && leb ask 3) (eqb ask p && true) (λ t. and-true (eqb ask p) ∙ e .1 (and-iff e (le-iff ask 3) .0 t .0))
           (λ t. let w = e .0 (sym (and-true (eqb ask p)) ∙ t) in and-iff e (le-iff ask 3) .1 (w, omega arith))
-      at false true = never 4 (omega arith)
-      at false false = never 5 (omega arith)
+      at false true = never 5 (omega arith)
+      at false false = never 4 (omega arith)
+
+-- the code's test, of the cells beside those taken
+pub stands-left : (p c n granted t : ℕ) → t ≡ cond (eqb n granted) 1 0 → t < c → p ≡ standing p c n granted
+stands-left p c n granted t e h = ap (λ x. cond x p (cond (eqb c 0) 5 4)) (sym (le-leb 1 (besides c (eqb n granted)) (omega arith)))
+
+pub stands-without : (p c n granted t w : ℕ) → t ≡ cond (eqb n granted) 1 0 → c ≤ t → w ≡ cond (eqb c 0) 5 4 → w ≡ standing p c n granted
+stands-without p c n granted t w e h f = f ∙ ap (λ x. cond x p (cond (eqb c 0) 5 4)) (sym (lt-leb 1 (besides c (eqb n granted)) (omega arith)))
 
 abbrev pub Ranged : List U.Unit → Type 0
 Ranged us = (i : ℕ) → i < length us → (numberOf (getD us i blank) < 32) × (1 ≤ priorityOf (getD us i blank)) × (priorityOf (getD us i blank) ≤ 3)

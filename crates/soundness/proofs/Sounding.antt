@@ -8,7 +8,7 @@ use mathlib.Core.Logic.{_↔_, _⊎_, inl, inr, ⊎-elim, Iff·rfl}
 use mathlib.Core.List.{List, [], _∷_}
 use lib.Dec.{leb}
 use lib.ListN.{length, getD, set, drop, drop-of-length-le}
-use lib.Seq.{drop-cons}
+use lib.Seq.{drop-cons, getD-set-same, getD-set-other}
 use Rattle.header.specs.Fields.{highest}
 use Rattle.card.specs.declared.Card.{Card}
 use Rattle.card.specs.declared.Ask.the-variants.{On}
@@ -60,6 +60,13 @@ lanes-all good count k (suc n) g =
         less : (count ≤ k) ⊎ (k < count) → leb count k ≡ false → k < count
         less (inl h) e = absurd (false≢true (sym e ∙ le-iff count k .1 h))
         less (inr h) e = h
+
+-- how one place more stands
+pub one-more : (b : List ℕ) (granted : ℕ) (each : List ℕ) (i n : ℕ) → i < length each → ((j : ℕ) → j < i → getD each j 0 ≡ standingIn granted (col b j)) → n ≡ standingIn granted (col b i) →
+    (j : ℕ) → j < i + 1 → getD (set each i n) j 0 ≡ standingIn granted (col b j)
+one-more b granted each i n l g e j h =
+    ⊎-elim (λ x. subst (λ k. getD (set each i n) k 0 ≡ standingIn granted (col b k)) (sym x) (getD-set-same each i n 0 l ∙ e)) (λ x. getD-set-other each i j n 0 (λ y. omega arith) ∙ g j (omega arith))
+    (split j i (omega arith))
 
 -- two tests, and one of them
 first : (a b : Bool) → (a && b) ≡ true → a ≡ true

@@ -12,7 +12,7 @@ use Rattle.soundness.specs.State.{lastsKnown}
 
 -- how a unit stands: its priority, or 4 without a cell besides a granted one, or 5 without any; by its columns
 abbrev pub standing : ℕ → ℕ → ℕ → ℕ → ℕ
-standing priority cells number granted = cond (leb 1 (besides cells (eqb number granted))) priority (cond (leb 1 cells) 4 5)
+standing priority cells number granted = cond (leb 1 (besides cells (eqb number granted))) priority (cond (eqb cells 0) 5 4)
 
 abbrev pub standingIn : ℕ → (ℕ → ℕ) → ℕ
 standingIn granted f = standing (f 4) (f 15) (f 0) granted

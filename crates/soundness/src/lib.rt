@@ -163,13 +163,19 @@ fn units_good(s: &[u8], card: Card, bus: u8, count: u8) -> bool
     worst == 0
 }
 
+// The cells of a unit that are granted.
+fn taken(number: u8, granted: u8) -> u8
+    ensures { λ r. ⌜ r ≡ cond (eqb number granted) 1 0 ⌝ }
+{
+    if number == granted { 1 } else { 0 }
+}
+
 // How a unit stands: its priority, or 4 without a cell besides a granted one, or 5 without any.
 fn standing(priority: u8, cells: u8, number: u8, granted: u8) -> u8
     ensures { λ r. ⌜ r ≡ standingOf priority cells number granted ⌝ }
 {
-    let taken = if number == granted { 1 } else { 0 };
-    let without = if cells == 0 { 5 } else { 4 };
-    if taken < cells { priority } else { without }
+    let without = by(cells, 5, 4);
+    if taken(number, granted) < cells { priority } else { without }
 }
 
 fn standings(s: &[u8], granted: u8) -> [u8; 32]

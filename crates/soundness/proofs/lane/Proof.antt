@@ -25,7 +25,7 @@ worse-requires-2 : tie.Need-worse-requires-2
 worse-requires-2 c κs = search needs
 
 returns : tie.Need-returns
-returns c = ?
+returns c = cc
 
 pub lane-spec : {M : Type 1} → statement M
 lane-spec =

@@ -47,7 +47,7 @@ worse-requires-3 : tie.Need-worse-requires-3
 worse-requires-3 c κs = search needs
 
 returns : tie.Need-returns
-returns c = ?
+returns c = cc
 
 pub settings-over-spec : {M : Type 1} → statement M
 settings-over-spec =
