@@ -143,6 +143,9 @@ module _ (card : Card) (b : List ℕ) (store rows : ℕ) where
     pub few : count b ≤ 32
     few = roomy-iff bus (count b) store rows .0 t .0 .0 .1
 
+    pub some-bus : 0 < bus
+    some-bus = ⊎-elim (λ e. omega arith) (λ e. omega arith) (roomy-iff bus (count b) store rows .0 t .0 .0 .0)
+
     fits-at : soundOf card (shelfIn b) store rows ≡ true → (i : ℕ) → i < count b → unitFits card bus (unitIn b i) ≡ true
     unfolding soundOf unitFits
     fits-at e i h =

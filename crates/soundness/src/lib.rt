@@ -175,7 +175,11 @@ fn standing(priority: u8, cells: u8, number: u8, granted: u8) -> u8
     ensures { λ r. ⌜ r ≡ standingOf priority cells number granted ⌝ }
 {
     let without = by(cells, 5, 4);
-    if taken(number, granted) < cells { priority } else { without }
+    if taken(number, granted) < cells {
+        priority
+    } else {
+        without
+    }
 }
 
 fn standings(s: &[u8], granted: u8) -> [u8; 32]
@@ -185,7 +189,12 @@ fn standings(s: &[u8], granted: u8) -> [u8; 32]
     let mut each = [0; 32];
     let mut i: usize = 0;
     while i < 32 {
-        each[i] = standing(state::at(s, 4, i), state::at(s, 15, i), state::at(s, 0, i), granted);
+        each[i] = standing(
+            state::at(s, 4, i),
+            state::at(s, 15, i),
+            state::at(s, 0, i),
+            granted,
+        );
         i += 1;
     }
     each
