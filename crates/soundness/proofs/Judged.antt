@@ -1,128 +1,204 @@
 -- The flat tests of the bytes are the tests of the unit. Assumes nothing.
-use mathlib.Core.Path.{_≡_, refl, sym, ap, ap₂, _∙_}
-use mathlib.Core.Bool.{Bool, true, false, _&&_, _||_}
+use mathlib.Core.Path.{_≡_, refl, sym, ap, _∙_}
+use mathlib.Core.Bool.{Bool, true, false, _&&_, _||_, cond, and-false, and-true, and-assoc, false≢true}
+use mathlib.Core.Logic.{_⊎_, inl, inr, ⊎-elim}
 use mathlib.Core.List.{List}
-use Prim.Native.Nat.{ℕ, zero, suc, _+_, _*_, _-_, _<_}
+use Prim.Native.Nat.{ℕ, zero, suc, _+_, _*_, _-_, _≤_, _<_}
 use native.Mathlib.Numerals.{add-one}
 use native.Mathlib.Omega.{arith}
-use lib.Dec.{eqb, leb, ltb}
-use borrow.Author.Tests.{ne-eqb, lt-leb}
-use Rattle.outlet.proofs.Truth.{same, eq-iff, le-iff}
+use lib.Dec.{eqb, leb, ltb, eqb·suc-zero}
+use lib.ListN.{getD}
+use borrow.Author.Tests.{lt-leb}
+use Rattle.outlet.proofs.Truth.{same, eq-iff, le-iff, lt-iff, and-iff, or-iff}
 use Rattle.card.specs.declared.Card.{Card}
 use Rattle.card.specs.declared.Card.the-variants.{Narrow, Wide}
+use Rattle.card.specs.declared.Ask.the-variants.{On}
 use Rattle.card.specs.Cards.{holds, narrowHolds}
-use Rattle.header.specs.declared.Link.the-variants.{Uni, Nni}
-use Rattle.outlet.specs.Outlets.{between, given, outletFits, ringFits, ringsFit}
+use Rattle.header.specs.Fields.{highest}
+use Rattle.outlet.specs.Outlets.{between, capacities, capacity, given, ringFits, queueFits, ringsFit}
+use Rattle.outlet.specs.declared.Limits.{Limits}
+use Rattle.outlet.specs.declared.Ring.{Ring}
 use Rattle.outlet.specs.declared.Mode.the-variants.{One, Four}
-use Rattle.outlet.proofs.Laws.{fits-one, fits-four}
+use Rattle.outlet.proofs.Laws.{given-iff, fits-iff}
 use Rattle.soundness.specs.State.{settingsGiven, unitFits}
-use Rattle.state.specs.Bytes.{col, linkOf, modeOf, settingsBy, limitsBy, outletBy, ringBy, unitBy, unitIn}
-use Rattle.soundness.specs.Lanes.{isWide, formed, laneGood, lanes, ringsOne, ringsFour}
+use Rattle.state.specs.Bytes.{col, linkOf, modeOf, limitsBy, outletBy, ringBy, unitBy}
+use Rattle.soundness.specs.Lanes.{highestLink, lesser, limitsAt, ringsAt, laneAt, laneGood, lanes}
 
-pub and-no : (b : Bool) → (b && false) ≡ false
-and-no true = refl
-and-no false = refl
+-- what is over 0 is not at most; the greater is 0 where both are, the lesser where one is
+pub over-zero : (n m : ℕ) → eqb (n - m) 0 ≡ leb n m
+over-zero n m =
+    let a = eq-iff (n - m) 0 in let b = le-iff n m in
+    same (eqb (n - m) 0) (leb n m) (λ t. let e = a .0 t in b .1 (omega arith)) (λ t. let e = b .0 t in a .1 (omega arith))
 
-pub and-yes : (b : Bool) → (b && true) ≡ b
-and-yes true = refl
-and-yes false = refl
+pub greater-zero : (a b c : ℕ) → a ≤ c → b ≤ c → (c ≡ a) ⊎ (c ≡ b) → eqb c 0 ≡ (eqb a 0 && eqb b 0)
+greater-zero a b c h l one =
+    let e = eq-iff c 0 in let f = and-iff (eq-iff a 0) (eq-iff b 0) in
+    same (eqb c 0) (eqb a 0 && eqb b 0) (λ t. let z = e .0 t in f .1 (omega arith, omega arith))
+    (λ t. let w = f .0 t in ⊎-elim (λ x. e .1 (omega arith)) (λ x. e .1 (omega arith)) one)
 
-pub and-both : (a b c : Bool) → ((a && b) && c) ≡ (a && (b && c))
-and-both true b c = refl
-and-both false b c = refl
+pub lesser-zero : (a b : ℕ) → eqb (lesser a b) 0 ≡ (eqb a 0 || eqb b 0)
+lesser-zero a b =
+    let e = eq-iff (lesser a b) 0 in let f = or-iff (eq-iff a 0) (eq-iff b 0) in
+    same (eqb (lesser a b) 0) (eqb a 0 || eqb b 0) (λ t. let z = e .0 t in f .1 (either a z)) (λ t. ⊎-elim (λ x. e .1 (omega arith)) (λ x. e .1 (omega arith)) (f .0 t))
+  where
+    either : (n : ℕ) → lesser n b ≡ 0 → (n ≡ 0) ⊎ (b ≡ 0)
+    either zero z = inl refl
+    either (suc n) z = inr (omega arith)
 
-or-no : (b : Bool) → (b || false) ≡ b
-or-no true = refl
-or-no false = refl
+-- a ring, also of no capacity
+pub ring-flat : (ring : Ring) (k : ℕ) → (leb (ring .head) (k - 1) && leb (ring .count) k) ≡ ringFits ring k
+ring-flat ring k =
+    let e = and-iff (le-iff (ring .head) (k - 1)) (le-iff (ring .count) k) in let f = fits-iff ring k in
+    same (leb (ring .head) (k - 1) && leb (ring .count) k) (ringFits ring k)
+    (λ t. let w = e .0 t in f .1 (record { place = λ h. omega arith; nowhere = λ h. omega arith; held = w .1 }))
+    (λ t. let w = f .0 t in e .1 (below k (w .place) (w .nowhere), w .held))
+  where
+    below : (n : ℕ) → (0 < n → ring .head < n) → (n ≡ 0 → ring .head ≡ 0) → ring .head ≤ n - 1
+    below zero p q = let z = q refl in omega arith
+    below (suc n) p q = let z = p (omega arith) in omega arith
 
--- a byte that says neither of two things
-not-zero : (n : ℕ) → eqb (suc (suc n)) 0 ≡ false
-not-zero n = ne-eqb (suc (suc n)) 0 (λ e. absurd (omega arith))
+-- a number below the bus number
+below-bus : (n bus : ℕ) → 0 < bus → leb n (bus - 1) ≡ ltb n bus
+below-bus n bus h =
+    let a = le-iff n (bus - 1) in let b = lt-iff n bus in
+    same (leb n (bus - 1)) (ltb n bus) (λ t. let e = a .0 t in b .1 (omega arith)) (λ t. let e = b .0 t in a .1 (omega arith))
 
-not-one : (n : ℕ) → eqb (suc (suc n)) 1 ≡ false
-not-one n = ne-eqb (suc (suc n)) 1 (λ e. absurd (omega arith))
-
-past-one : (n : ℕ) → leb (suc (suc n)) 1 ≡ false
-past-one n = lt-leb (suc (suc n)) 1 (omega arith)
-
--- a top VPI by its high byte
-high-uni : (high low : ℕ) → low < 256 → eqb high 0 ≡ leb (high * 256 + low) 255
+-- a top VPI by its high byte, and the link: of a UNI, of an NNI on the wide card, or none
+high-uni : (high low : ℕ) → low < 256 → leb high 0 ≡ leb (high * 256 + low) 255
 high-uni high low h =
-    let l = le-iff (high * 256 + low) 255 in
-    same (eqb high 0) (leb (high * 256 + low) 255) (λ t. let e = eq-iff high 0 .0 t in l .1 (omega arith)) (λ t. let e = l .0 t in eq-iff high 0 .1 (omega arith))
+    let a = le-iff high 0 in let l = le-iff (high * 256 + low) 255 in
+    same (leb high 0) (leb (high * 256 + low) 255) (λ t. let e = a .0 t in l .1 (omega arith)) (λ t. let e = l .0 t in a .1 (omega arith))
 
 high-nni : (high low : ℕ) → low < 256 → leb high 15 ≡ leb (high * 256 + low) 4095
 high-nni high low h =
-    let l = le-iff (high * 256 + low) 4095 in
-    same (leb high 15) (leb (high * 256 + low) 4095) (λ t. let e = le-iff high 15 .0 t in l .1 (omega arith)) (λ t. let e = l .0 t in le-iff high 15 .1 (omega arith))
+    let a = le-iff high 15 in let l = le-iff (high * 256 + low) 4095 in
+    same (leb high 15) (leb (high * 256 + low) 4095) (λ t. let e = a .0 t in l .1 (omega arith)) (λ t. let e = l .0 t in a .1 (omega arith))
 
--- an outlet: one in mode one, one in mode four, or none
-module _ (f : ℕ → ℕ) where
-  abbrev pub one : Bool
-  one = (eqb (f 6) 0 && eqb (f 7) 0 && between 1 123 (f 8)) && ringsOne f
+past : (l k : ℕ) → k ≤ 1 → leb (suc (suc l)) k ≡ false
+past l k h = lt-leb (suc (suc l)) k (omega arith)
 
-  abbrev pub four : Bool
-  four = (between 1 88 (f 6) && between 1 (f 6) (f 7) && between 1 (89 - f 6) (f 8)) && ringsFour f
+link-by : (card : Card) (l high low : ℕ) → low < 256 →
+    (leb l (highestLink card) && leb high (cond (eqb l 0) 0 15)) ≡ (leb l 1 && (holds card (On (linkOf l)) && leb (high * 256 + low) (highest (linkOf l))))
+unfolding linkOf holds narrowHolds
+link-by Narrow zero high low h = high-uni high low h
+link-by Wide zero high low h = high-uni high low h
+link-by Narrow (suc zero) high low h = refl
+link-by Wide (suc zero) high low h = high-nni high low h
+link-by Narrow (suc (suc l)) high low h = rw (past l 0 (omega arith), past l 1 (omega arith))
+link-by Wide (suc (suc l)) high low h = rw (past l 1 (omega arith))
 
-  pub mode-one : f 5 ≡ 0 → one ≡ outletFits (outletBy f)
-  unfolding modeOf given
-  mode-one e =
-      let m : outletBy f .limits .mode ≡ One = ap modeOf e in
-      sym (rw m) ∙ fits-one (outletBy f) m
+-- the limits: in mode one, in mode four, or none
+module _ (l c v k : ℕ) where
+  abbrev limits : ℕ → Limits
+  limits m = record { mode = modeOf m; cbrlength = l; cbrlimit = c; vbrlimit = v; mark = eqb k 1 }
 
-  pub mode-four : f 5 ≡ 1 → four ≡ outletFits (outletBy f)
-  unfolding modeOf given
-  mode-four e =
-      let m : outletBy f .limits .mode ≡ Four = ap modeOf e in
-      sym (rw m) ∙ fits-four (outletBy f) m
+  abbrev flat : ℕ → Bool
+  flat m = (leb k 1 && between (lesser l 1) (lesser l 1) m) && (between m l c && between 1 (cond (eqb m 0) 123 (89 - l)) v)
 
-  pub outlet-by : (m : ℕ) → f 5 ≡ m → (leb (f 9) 1 && ((eqb m 0 && one) || (eqb m 1 && four))) ≡ (leb m 1 && leb (f 9) 1 && outletFits (outletBy f))
-  outlet-by zero e = ap (λ b. leb (f 9) 1 && b) (or-no one ∙ mode-one e)
-  outlet-by (suc zero) e = ap (λ b. leb (f 9) 1 && b) (mode-four e)
-  outlet-by (suc (suc m)) e =
-      (λ t. leb (f 9) 1 && ((not-zero m t && one) || (not-one m t && four))) ∙ and-no (leb (f 9) 1) ∙ (λ t. sym (past-one m) t && leb (f 9) 1 && outletFits (outletBy f))
+  limits-by : (m : ℕ) → flat m ≡ (leb m 1 && leb k 1 && given (limits m))
+  unfolding modeOf
+  limits-by zero =
+      let e = and-iff (and-iff (le-iff k 1) (and-iff (le-iff (lesser l 1) 0) (le-iff 0 (lesser l 1)))) (and-iff (and-iff (le-iff 0 c) (le-iff c l)) (and-iff (le-iff 1 v) (le-iff v 123))) in
+      let f = and-iff (and-iff (le-iff 0 1) (le-iff k 1)) (given-iff (limits 0)) in
+      same (flat 0) (leb 0 1 && leb k 1 && given (limits 0))
+      (λ t. let w = e .0 t in f .1 ((omega arith, w .0 .0), (omega arith, omega arith, w .1 .1 .0, w .1 .1 .1)))
+      (λ t. let w = f .0 t in e .1 ((w .0 .1, (omega arith, omega arith)), ((omega arith, omega arith), (w .1 .2, w .1 .3))))
+  limits-by (suc zero) =
+      let e = and-iff (and-iff (le-iff k 1) (and-iff (le-iff (lesser l 1) 1) (le-iff 1 (lesser l 1)))) (and-iff (and-iff (le-iff 1 c) (le-iff c l)) (and-iff (le-iff 1 v) (le-iff v (89 - l)))) in
+      let f = and-iff (and-iff (le-iff 1 1) (le-iff k 1)) (given-iff (limits 1)) in
+      same (flat 1) (leb 1 1 && leb k 1 && given (limits 1))
+      (λ t. let w = e .0 t in f .1 ((omega arith, w .0 .0), (omega arith, omega arith, w .1 .0 .0, w .1 .0 .1, w .1 .1 .0, w .1 .1 .1)))
+      (λ t. let w = f .0 t in e .1 ((w .0 .1, (omega arith, omega arith)), ((w .1 .2, w .1 .3), (w .1 .4, w .1 .5))))
+  limits-by (suc (suc m)) =
+      let e = and-iff (le-iff k 1) (and-iff (le-iff (lesser l 1) (suc (suc m))) (le-iff (suc (suc m)) (lesser l 1))) in
+      rw (past m 1 (omega arith)) (none (leb k 1 && between (lesser l 1) (lesser l 1) (suc (suc m))) _ (λ t. let w = e .0 t in absurd (omega arith)))
+    where
+      none : (a b : Bool) → (a ≡ true → ⊥) → (a && b) ≡ false
+      none true b h = absurd (h refl)
+      none false b h = refl
 
-  -- the settings: of a UNI, of an NNI on the wide card, or none
-  settings-by : (card : Card) (l : ℕ) → f 1 ≡ l →
-      (((eqb l 0 && leb (f 2 * 256 + f 3) 255) || (eqb l 1 && isWide card && leb (f 2 * 256 + f 3) 4095)) && between 1 3 (f 4)) ≡ (leb l 1 && settingsGiven card (settingsBy f))
-  unfolding settingsGiven linkOf holds narrowHolds
-  settings-by Narrow zero e = rw e (ap (λ b. b && between 1 3 (f 4)) (or-no (leb (f 2 * 256 + f 3) 255)))
-  settings-by Wide zero e = rw e (ap (λ b. b && between 1 3 (f 4)) (or-no (leb (f 2 * 256 + f 3) 255)))
-  settings-by Narrow (suc zero) e = rw e refl
-  settings-by Wide (suc zero) e = rw e refl
-  settings-by card (suc (suc l)) e =
-      (λ t. ((not-zero l t && leb (f 2 * 256 + f 3) 255) || (not-one l t && isWide card && leb (f 2 * 256 + f 3) 4095)) && between 1 3 (f 4))
-      ∙ (λ t. sym (past-one l) t && settingsGiven card (settingsBy f))
+  -- in mode one there is no CBR length
+  alone : (m : ℕ) → m ≡ 0 → (leb m 1 && leb k 1 && given (limits m)) ≡ true → l ≡ 0
+  unfolding modeOf
+  alone zero e t = and-iff (and-iff (le-iff 0 1) (le-iff k 1)) (given-iff (limits 0)) .0 t .1 .0
+  alone (suc m) e t = absurd (omega arith)
 
-mix : (a l s w m k g r : Bool) → ((a && (l && s)) && (w && ((m && k) && (g && r)))) ≡ (((l && m) && k) && ((a && (s && g)) && (w && r)))
-mix false l s w m k g r = sym (and-no ((l && m) && k))
-mix true false s w m k g r = refl
-mix true true false w m k g r = sym (and-no (m && k))
-mix true true true false m k g r = sym (ap (λ b. (m && k) && b) (and-no g) ∙ and-no (m && k))
-mix true true true true m k g r = refl
+-- the rings, in mode one and in mode four
+module _ (inlet q r u v : Ring) (l : ℕ) where
+  five : (a b c d e : Bool) → ((a && b) && (c && (d && e))) ≡ (a && (((b && c) && d) && e))
+  five false b c d e = refl
+  five true false c d e = refl
+  five true true false d e = refl
+  five true true true d e = refl
+
+  rings-by : (m : ℕ) → (m ≡ 0 → l ≡ 0) →
+      let caps = capacities (modeOf m) l in
+      ((ringFits inlet 4 && ringFits q (cond (eqb m 0) 123 2)) && (ringFits r l && (ringFits u (cond (eqb m 0) 0 (89 - l)) && ringFits v (cond (eqb m 0) 0 32))))
+      ≡ (ringFits inlet 4 && (ringFits q (getD caps 0 0) && ringFits r (getD caps 1 0) && ringFits u (getD caps 2 0) && ringFits v (getD caps 3 0)))
+  unfolding modeOf
+  rings-by zero h =
+      ap (λ n. (ringFits inlet 4 && ringFits q 123) && (ringFits r n && (ringFits u 0 && ringFits v 0))) (h refl)
+      ∙ five (ringFits inlet 4) (ringFits q 123) (ringFits r 0) (ringFits u 0) (ringFits v 0)
+  rings-by (suc m) h = rw (eqb·suc-zero m) (five (ringFits inlet 4) (ringFits q 2) (ringFits r l) (ringFits u (89 - l)) (ringFits v 32))
+
+guarded : (b x y : Bool) → (b ≡ true → x ≡ y) → (b && x) ≡ (b && y)
+guarded true x y h = h refl
+guarded false x y h = refl
+
+turned : (n l h p x : Bool) → (((n && l) && (h && p)) && x) ≡ (n && (((l && h) && p) && x))
+turned false l h p x = refl
+turned true true h p x = refl
+turned true false h p x = refl
+
+mix : (n l s p m k g w : Bool) → (n && (((l && s) && p) && (((m && k) && g) && w))) ≡ (((l && m) && k) && ((n && ((s && p) && g)) && w))
+mix false l s p m k g w = sym (and-false ((l && m) && k))
+mix true false s p m k g w = refl
+mix true true false p m k g w = sym (and-false (m && k))
+mix true true true false m k g w = sym (and-false (m && k))
+mix true true true true m k g w = and-assoc (m && k) g w
 
 -- all tests of a place together
-pub lane-by : (card : Card) (bus : ℕ) (b : List ℕ) (i : ℕ) → col b i 3 < 256 →
+pub lane-by : (card : Card) (bus : ℕ) (b : List ℕ) (i : ℕ) → 0 < bus → col b i 3 < 256 → laneAt (highestLink card) (bus - 1) (col b i) ≡ laneGood card bus b i
+unfolding unitBy unitFits settingsGiven ringsFit queueFits capacity
+lane-by card bus b i h low =
     let f = col b i in
-    ((ltb (f 0) bus && (((eqb (f 1) 0 && eqb (f 2) 0) || (eqb (f 1) 1 && isWide card && leb (f 2) 15)) && between 1 3 (f 4)))
-    && ((ltb (f 14) 4 && leb (f 15) 4) && (leb (f 5) 1 && leb (f 9) 1 && outletFits (outletBy f)))) ≡ laneGood card bus b i
-unfolding unitBy unitFits outletFits ringFits
-lane-by card bus b i low =
-    let f = col b i in
-    ap (λ s. (ltb (f 0) bus && s) && ((ltb (f 14) 4 && leb (f 15) 4) && (leb (f 5) 1 && leb (f 9) 1 && outletFits (outletBy f))))
-    ((λ t. ((eqb (f 1) 0 && high-uni (f 2) (f 3) low t) || (eqb (f 1) 1 && isWide card && high-nni (f 2) (f 3) low t)) && between 1 3 (f 4)) ∙ settings-by f card (f 1) refl)
-    ∙ mix (ltb (f 0) bus) (leb (f 1) 1) (settingsGiven card (settingsBy f)) (ltb (f 14) 4 && leb (f 15) 4) (leb (f 5) 1) (leb (f 9) 1) (given (limitsBy f)) (ringsFit (outletBy f))
+    let o = holds card (On (linkOf (f 1))) && leb (f 2 * 256 + f 3) (highest (linkOf (f 1))) in
+    let g = leb (f 5) 1 && leb (f 9) 1 && given (limitsBy f) in
+    let w = ringFits (ringBy f 14 15) 4 && ringsFit (outletBy f) in
+    turned (leb (f 0) (bus - 1)) (leb (f 1) (highestLink card)) (leb (f 2) (cond (eqb (f 1) 0) 0 15)) (between 1 3 (f 4)) (limitsAt f && ringsAt f)
+    ∙ (λ t. below-bus (f 0) bus h t && ((link-by card (f 1) (f 2) (f 3) low t && between 1 3 (f 4)) && (limits-by (f 6) (f 7) (f 8) (f 9) (f 5) t && ringsAt f)))
+    ∙ ap (λ x. ltb (f 0) bus && (((leb (f 1) 1 && o) && between 1 3 (f 4)) && x))
+    (guarded g (ringsAt f) w (λ t. rings-by (ringBy f 14 15) (ringBy f 16 20) (ringBy f 17 21) (ringBy f 18 22) (ringBy f 19 23) (f 6) (f 5) (λ e. alone (f 6) (f 7) (f 8) (f 9) (f 5) e t)))
+    ∙ mix (ltb (f 0) bus) (leb (f 1) 1) o (between 1 3 (f 4)) (leb (f 5) 1) (leb (f 9) 1) (given (limitsBy f)) w
 
--- one place more
-pub lanes-step : (good : ℕ → Bool) (count k : ℕ) (before here : Bool) → k < 32 → here ≡ (leb count k || good k) →
-    (before && lanes good count k (32 - k)) ≡ ((before && here) && lanes good count (k + 1) (32 - (k + 1)))
+-- places judged alike
+pub lanes-same : (f g : ℕ → Bool) (count i n : ℕ) → ((j : ℕ) → i ≤ j → j < i + n → f j ≡ g j) → lanes f count i n ≡ lanes g count i n
 unfolding lanes
-lanes-step good count k before here h e =
-    let n : 32 - k ≡ suc (32 - (k + 1)) = omega arith in
-    ap (λ m. before && lanes good count k m) n
-    ∙ (λ t. before && (sym e t && lanes good (count) (sym (add-one k) t) (32 - (k + 1))))
-    ∙ sym (and-both before here (lanes good count (k + 1) (32 - (k + 1))))
+lanes-same f g count i zero e = refl
+lanes-same f g count i (suc n) e =
+    let r = lanes-same f g count (suc i) n (λ j a l. e j (omega arith) (omega arith)) in
+    let u = e i (omega arith) (omega arith) in
+    (λ t. (leb count i || u t) && r t)
 
-pub lanes-end : (good : ℕ → Bool) (count k : ℕ) (before : Bool) → k ≡ 32 → (before && lanes good count k (32 - k)) ≡ before
-unfolding lanes
-lanes-end good count k before e = ap (λ n. before && lanes good count n (32 - n)) e ∙ and-yes before
+-- all places, as the code goes through them: to begin with, one place more, and the end
+module _ (links last : ℕ) (b : List ℕ) (count : ℕ) where
+  abbrev pub places : ℕ → ℕ → Bool
+  places i n = lanes (λ j. laneAt links last (col b j)) count i n
+
+  pub places-step : (i k worst over lane least next : ℕ) → i < 32 → k ≡ i → eqb over 0 ≡ leb count k → eqb lane 0 ≡ laneAt links last (col b i) →
+      least ≡ lesser over lane → eqb next 0 ≡ (eqb worst 0 && eqb least 0) → (eqb worst 0 && places i (32 - i)) ≡ (eqb next 0 && places (i + 1) (32 - (i + 1)))
+  unfolding lanes
+  places-step i k worst over lane least next h e o l m n =
+      let here = ap (λ x. eqb x 0) m ∙ lesser-zero over lane ∙ (λ t. o t || l t) ∙ ap (λ j. leb count j || laneAt links last (col b i)) e in
+      let rest : 32 - i ≡ suc (32 - (i + 1)) = omega arith in
+      ap (λ r. eqb worst 0 && places i r) rest
+      ∙ (λ t. eqb worst 0 && (sym here t && places (sym (add-one i) t) (32 - (i + 1))))
+      ∙ sym (and-assoc (eqb worst 0) (eqb least 0) (places (i + 1) (32 - (i + 1))))
+      ∙ (λ t. sym n t && places (i + 1) (32 - (i + 1)))
+
+  pub places-end : (card : Card) (bus i worst : ℕ) → 0 < bus → ((j : ℕ) → getD b j 0 < 256) → links ≡ highestLink card → last ≡ bus - 1 → i ≡ 32 →
+      (eqb worst 0 && places i (32 - i)) ≡ places 0 32 → eqb worst 0 ≡ lanes (laneGood card bus b) count 0 32
+  unfolding lanes
+  places-end card bus i worst h bytes e l end t =
+      sym (ap (λ n. eqb worst 0 && places n (32 - n)) end ∙ and-true (eqb worst 0)) ∙ t
+      ∙ lanes-same (λ j. laneAt links last (col b j)) (laneGood card bus b) count 0 32 (λ j a k. (λ t. laneAt (e t) (l t) (col b j)) ∙ lane-by card bus b j h (bytes (3 * 32 + j)))

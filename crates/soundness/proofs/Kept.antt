@@ -1,8 +1,8 @@
 -- Bytes that say links, modes and marks go on saying them: where those columns and the count are as they were, and so after a ring is written, and after a frame's end. Assumes nothing.
-use mathlib.Core.Path.{_≡_, refl, ap, _∙_}
-use mathlib.Core.Bool.{Bool, _&&_, _||_}
+use mathlib.Core.Path.{_≡_, ap, _∙_}
+use mathlib.Core.Bool.{_&&_}
 use mathlib.Core.List.{List}
-use Prim.Native.Nat.{ℕ, zero, suc, _+_, _*_, _≤_, _<_}
+use Prim.Native.Nat.{ℕ, _+_, _*_, _≤_, _<_}
 use native.Mathlib.Omega.{arith}
 use lib.Dec.{leb}
 use lib.ListN.{length, getD}
@@ -13,14 +13,7 @@ use Rattle.state.proofs.Kept.{ring-behind, ring-column}
 use Rattle.state.proofs.Turn.{turn-before, turn-between}
 use Rattle.soundness.specs.Lanes.{formed, lanes}
 use Rattle.soundness.specs.Soundings.{formedAll}
-
-lanes-same : (f g : ℕ → Bool) (count i n : ℕ) → ((j : ℕ) → i ≤ j → j < i + n → f j ≡ g j) → lanes f count i n ≡ lanes g count i n
-unfolding lanes
-lanes-same f g count i zero e = refl
-lanes-same f g count i (suc n) e =
-    let r = lanes-same f g count (suc i) n (λ j a l. e j (omega arith) (omega arith)) in
-    let u = e i (omega arith) (omega arith) in
-    (λ t. (leb count i || u t) && r t)
+use Rattle.soundness.proofs.Judged.{lanes-same}
 
 pub formed-same : (a b : List ℕ) → getD a 805 0 ≡ getD b 805 0 → ((j : ℕ) → j < 32 → (col a j 1 ≡ col b j 1) × (col a j 5 ≡ col b j 5) × (col a j 9 ≡ col b j 9)) → formedAll a ≡ formedAll b
 formed-same a b n e =

@@ -1,4 +1,4 @@
--- The one pass over the declared units, that puts the priority and the cells of each in its number's place, and what stands there in the end. Assumes nothing.
+-- The one pass over the declared units, that puts how each stands in its number's place, and what is there in the end. Assumes nothing.
 use mathlib.Core.Path.{_≡_, refl, sym, ap, ap₂, _∙_}
 use mathlib.Core.Bool.{Bool, true, false, not, _&&_, _||_, and-false, and-assoc, false≢true}
 use mathlib.Core.Logic.{_↔_, _⊎_, ⊎-elim}
@@ -13,7 +13,7 @@ use Rattle.outlet.proofs.Truth.{same, and-iff, or-iff, eq-iff, le-iff}
 use Rattle.shelf.specs.Shelves.{blank, numberOf, numbers}
 use Rattle.shelf.specs.declared.Unit as U
 use Rattle.soundness.specs.State.{among, noneRepeated, roomy}
-use Rattle.soundness.specs.Numbered.{free, marks, arbiterHeld}
+use Rattle.soundness.specs.Numbered.{standing, free, marks, arbiterHeld}
 
 -- what is put for a unit
 abbrev pub priorityOf : U.Unit → ℕ
@@ -22,35 +22,32 @@ priorityOf u = u .settings .priority
 abbrev pub cellsOf : U.Unit → ℕ
 cellsOf u = u .inlet .count
 
+abbrev pub stands : ℕ → U.Unit → ℕ
+stands granted u = standing (priorityOf u) (cellsOf u) (numberOf u) granted
+
 -- it is put for each, in the place of its number
 abbrev pub put : (U.Unit → ℕ) → List ℕ → List U.Unit → List ℕ
 put f xs [] = xs
 put f xs (u ∷ us) = put f (set xs (numberOf u) (f u)) us
 
 -- no place was taken before
-abbrev fresh : List ℕ → List U.Unit → Bool
-fresh ps [] = true
-fresh ps (u ∷ us) = free ps (numberOf u) && fresh (set ps (numberOf u) (priorityOf u)) us
+abbrev pub fresh : (U.Unit → ℕ) → List ℕ → List U.Unit → Bool
+fresh f xs [] = true
+fresh f xs (u ∷ us) = free xs (numberOf u) && fresh f (set xs (numberOf u) (f u)) us
 
 abbrev unmarked : List ℕ → List U.Unit → Bool
-unmarked ps [] = true
-unmarked ps (u ∷ us) = free ps (numberOf u) && unmarked ps us
+unmarked xs [] = true
+unmarked xs (u ∷ us) = free xs (numberOf u) && unmarked xs us
 
--- each unit has a place and a priority
-pub Placed : ℕ → List U.Unit → Type 0
-Placed k [] = Unit {0}
-Placed k (u ∷ us) = (numberOf u < k) × (1 ≤ priorityOf u) × Placed k us
+-- each unit has a place, and more than nothing is put for it
+pub Placed : (U.Unit → ℕ) → ℕ → List U.Unit → Type 0
+Placed f k [] = Unit {0}
+Placed f k (u ∷ us) = (numberOf u < k) × (1 ≤ f u) × Placed f k us
 
-pub all-placed : (us : List U.Unit) (k : ℕ) → ((i : ℕ) → i < length us → (numberOf (getD us i blank) < k) × (1 ≤ priorityOf (getD us i blank))) → Placed k us
+pub all-placed : (f : U.Unit → ℕ) (us : List U.Unit) (k : ℕ) → ((i : ℕ) → i < length us → (numberOf (getD us i blank) < k) × (1 ≤ f (getD us i blank))) → Placed f k us
 unfolding Placed
-all-placed [] k g = tt
-all-placed (u ∷ us) k g = let h = g 0 (omega arith) in (h .0, h .1, all-placed us k (λ i l. g (suc i) (omega arith)))
-
-pub placed-at : (us : List U.Unit) (k i : ℕ) → Placed k us → i < length us → numberOf (getD us i blank) < k
-unfolding Placed
-placed-at [] k i b h = absurd (omega arith)
-placed-at (u ∷ us) k zero b h = b .0
-placed-at (u ∷ us) k (suc i) b h = placed-at us k i (b .2) (omega arith)
+all-placed f [] k g = tt
+all-placed f (u ∷ us) k g = let h = g 0 (omega arith) in (h .0, h .1, all-placed f us k (λ i l. g (suc i) (omega arith)))
 
 -- one place more is taken
 set-free : (ps : List ℕ) (n p k : ℕ) → n < length ps → 1 ≤ p → (b : Bool) → eqb n k ≡ b → free (set ps n p) k ≡ (not b && free ps k)
@@ -65,13 +62,13 @@ free-step : (e a f : Bool) → (not a && (not e && f)) ≡ (not (e || a) && f)
 free-step true a f = and-false (not a)
 free-step false a f = refl
 
-free-put : (ps : List ℕ) (us : List U.Unit) (k : ℕ) → Placed (length ps) us → free (put priorityOf ps us) k ≡ (not (among (numbers us) k) && free ps k)
+free-put : (f : U.Unit → ℕ) (xs : List ℕ) (us : List U.Unit) (k : ℕ) → Placed f (length xs) us → free (put f xs us) k ≡ (not (among (numbers us) k) && free xs k)
 unfolding among Placed
-free-put ps [] k b = refl
-free-put ps (u ∷ us) k b =
-    free-put (set ps (numberOf u) (priorityOf u)) us k (rw (length-set ps (numberOf u) (priorityOf u)) (b .2))
-    ∙ ap (λ x. not (among (numbers us) k) && x) (set-free ps (numberOf u) (priorityOf u) k (b .0) (b .1) (eqb (numberOf u) k) refl)
-    ∙ free-step (eqb (numberOf u) k) (among (numbers us) k) (free ps k)
+free-put f xs [] k b = refl
+free-put f xs (u ∷ us) k b =
+    free-put f (set xs (numberOf u) (f u)) us k (rw (length-set xs (numberOf u) (f u)) (b .2))
+    ∙ ap (λ x. not (among (numbers us) k) && x) (set-free xs (numberOf u) (f u) k (b .0) (b .1) (eqb (numberOf u) k) refl)
+    ∙ free-step (eqb (numberOf u) k) (among (numbers us) k) (free xs k)
 
 mark-step : (e f a u : Bool) → ((not e && f) && (not a && u)) ≡ (not (e || a) && (f && u))
 mark-step true f a u = refl
@@ -90,14 +87,14 @@ cross true true c d = refl
 cross true false c d = sym (and-false c)
 cross false b c d = refl
 
-fresh-none : (ps : List ℕ) (us : List U.Unit) → Placed (length ps) us → fresh ps us ≡ (unmarked ps us && noneRepeated (numbers us))
+fresh-none : (f : U.Unit → ℕ) (xs : List ℕ) (us : List U.Unit) → Placed f (length xs) us → fresh f xs us ≡ (unmarked xs us && noneRepeated (numbers us))
 unfolding noneRepeated Placed
-fresh-none ps [] b = refl
-fresh-none ps (u ∷ us) b =
-    ap (λ x. free ps (numberOf u) && x)
-    (fresh-none (set ps (numberOf u) (priorityOf u)) us (rw (length-set ps (numberOf u) (priorityOf u)) (b .2))
-    ∙ ap (λ x. x && noneRepeated (numbers us)) (unmarked-set ps (numberOf u) (priorityOf u) us (b .0) (b .1)))
-    ∙ cross (free ps (numberOf u)) (not (among (numbers us) (numberOf u))) (unmarked ps us) (noneRepeated (numbers us))
+fresh-none f xs [] b = refl
+fresh-none f xs (u ∷ us) b =
+    ap (λ x. free xs (numberOf u) && x)
+    (fresh-none f (set xs (numberOf u) (f u)) us (rw (length-set xs (numberOf u) (f u)) (b .2))
+    ∙ ap (λ x. x && noneRepeated (numbers us)) (unmarked-set xs (numberOf u) (f u) us (b .0) (b .1)))
+    ∙ cross (free xs (numberOf u)) (not (among (numbers us) (numberOf u))) (unmarked xs us) (noneRepeated (numbers us))
 
 -- from no place taken at all
 abbrev pub none : List ℕ
@@ -112,16 +109,16 @@ none-unmarked : (us : List U.Unit) → unmarked none us ≡ true
 none-unmarked [] = refl
 none-unmarked (u ∷ us) = rw (none-at 32 (numberOf u)) (none-unmarked us)
 
-pub fresh-from-none : (us : List U.Unit) → Placed 32 us → fresh none us ≡ noneRepeated (numbers us)
-fresh-from-none us b = fresh-none none us b ∙ ap (λ x. x && noneRepeated (numbers us)) (none-unmarked us)
+pub fresh-from-none : (f : U.Unit → ℕ) (us : List U.Unit) → Placed f 32 us → fresh f none us ≡ noneRepeated (numbers us)
+fresh-from-none f us b = fresh-none f none us b ∙ ap (λ x. x && noneRepeated (numbers us)) (none-unmarked us)
 
 twice : (a : Bool) → not (not a && true) ≡ a
 twice true = refl
 twice false = refl
 
-pub marks-from-none : (us : List U.Unit) (k : ℕ) → Placed 32 us → marks (put priorityOf none us) k ≡ among (numbers us) k
-marks-from-none us k b =
-    ap not (free-put none us k b ∙ ap (λ x. not (among (numbers us) k) && eqb x 0) (none-at 32 k)) ∙ twice (among (numbers us) k)
+pub marks-from-none : (f : U.Unit → ℕ) (us : List U.Unit) (k : ℕ) → Placed f 32 us → marks (put f none us) k ≡ among (numbers us) k
+marks-from-none f us k b =
+    ap not (free-put f none us k b ∙ ap (λ x. not (among (numbers us) k) && eqb x 0) (none-at 32 k)) ∙ twice (among (numbers us) k)
 
 -- what stands in the place of a number: nothing where none is declared, else what was put for its unit
 neither : (a b : Bool) → (a || b) ≡ false → (a ≡ false) × (b ≡ false)
@@ -139,7 +136,7 @@ put-other f xs (u ∷ us) n e =
     let w = neither (eqb (numberOf u) n) (among (numbers us) n) e in
     put-other f (set xs (numberOf u) (f u)) us n (w .1) ∙ getD-set-other xs (numberOf u) n (f u) 0 (λ x. eqb-false (numberOf u) n (w .0) (sym x))
 
-put-here : (f : U.Unit → ℕ) (xs : List ℕ) (us : List U.Unit) (i : ℕ) → Placed (length xs) us → noneRepeated (numbers us) ≡ true → i < length us →
+put-here : (f : U.Unit → ℕ) (xs : List ℕ) (us : List U.Unit) (i : ℕ) → Placed f (length xs) us → noneRepeated (numbers us) ≡ true → i < length us →
     getD (put f xs us) (numberOf (getD us i blank)) 0 ≡ f (getD us i blank)
 unfolding noneRepeated Placed
 put-here f xs [] i b t h = absurd (omega arith)
@@ -151,21 +148,22 @@ put-here f xs (u ∷ us) (suc i) b t h =
 pub put-none : (f : U.Unit → ℕ) (us : List U.Unit) (n : ℕ) → among (numbers us) n ≡ false → getD (put f none us) n 0 ≡ 0
 put-none f us n e = put-other f none us n e ∙ none-at 32 n
 
-pub put-at : (f : U.Unit → ℕ) (us : List U.Unit) (i : ℕ) → Placed 32 us → noneRepeated (numbers us) ≡ true → i < length us → getD (put f none us) (numberOf (getD us i blank)) 0 ≡ f (getD us i blank)
+pub put-at : (f : U.Unit → ℕ) (us : List U.Unit) (i : ℕ) → Placed f 32 us → noneRepeated (numbers us) ≡ true → i < length us → getD (put f none us) (numberOf (getD us i blank)) 0 ≡ f (getD us i blank)
 put-at f us i b t h = put-here f none us i b t h
 
 -- the pass; in the end the arbiter
 module _ (granted : ℕ) (last asks : List ℕ) where
-  unfoldable pub pass : List ℕ → List ℕ → List U.Unit → Bool
-  pass ps cs [] = arbiterHeld ps cs granted last asks
-  pass ps cs (u ∷ us) = free ps (numberOf u) && pass (set ps (numberOf u) (priorityOf u)) (set cs (numberOf u) (cellsOf u)) us
+  unfoldable pub pass : List ℕ → List U.Unit → Bool
+  pass held [] = arbiterHeld held granted last asks
+  pass held (u ∷ us) = free held (numberOf u) && pass (set held (numberOf u) (stands granted u)) us
 
-  pub pass-all : (ps cs : List ℕ) (us : List U.Unit) → pass ps cs us ≡ (fresh ps us && arbiterHeld (put priorityOf ps us) (put cellsOf cs us) granted last asks)
+  pub pass-all : (held : List ℕ) (us : List U.Unit) → pass held us ≡ (fresh (stands granted) held us && arbiterHeld (put (stands granted) held us) granted last asks)
   unfolding pass
-  pass-all ps cs [] = refl
-  pass-all ps cs (u ∷ us) =
-      ap (λ x. free ps (numberOf u) && x) (pass-all (set ps (numberOf u) (priorityOf u)) (set cs (numberOf u) (cellsOf u)) us)
-      ∙ sym (and-assoc (free ps (numberOf u)) (fresh (set ps (numberOf u) (priorityOf u)) us) (arbiterHeld (put priorityOf (set ps (numberOf u) (priorityOf u)) us) (put cellsOf (set cs (numberOf u) (cellsOf u)) us) granted last asks))
+  pass-all held [] = refl
+  pass-all held (u ∷ us) =
+      let next = set held (numberOf u) (stands granted u) in
+      ap (λ x. free held (numberOf u) && x) (pass-all next us)
+      ∙ sym (and-assoc (free held (numberOf u)) (fresh (stands granted) next us) (arbiterHeld (put (stands granted) next us) granted last asks))
 
 pub roomy-iff : (bus count store rows : ℕ) → (roomy bus count store rows ≡ true) ↔ (((((bus ≡ 16) ⊎ (bus ≡ 32)) × (count ≤ 32)) × (8192 * count ≤ store)) × (count ≤ rows))
 unfolding roomy

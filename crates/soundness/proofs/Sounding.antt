@@ -8,7 +8,7 @@ use mathlib.Core.Logic.{_↔_, _⊎_, inl, inr, ⊎-elim, Iff·rfl}
 use mathlib.Core.List.{List, [], _∷_}
 use lib.Dec.{leb}
 use lib.ListN.{length, getD, set, drop, drop-of-length-le}
-use lib.Seq.{drop-cons}
+use lib.Seq.{drop-cons, getD-set-same, getD-set-other}
 use Rattle.header.specs.Fields.{highest}
 use Rattle.card.specs.declared.Card.{Card}
 use Rattle.card.specs.declared.Ask.the-variants.{On}
@@ -21,11 +21,11 @@ use Rattle.state.specs.Bytes.{col, unitBy, unitIn, shelfIn}
 use Rattle.state.proofs.Laws.{units-length, unit-at}
 use Rattle.soundness.specs.State.{every, among, noneRepeated, roomy, belowBus, settingsGiven, couldBeGiven, withinCapacity, grantHasCell, requestHasCell, arbiterKnown, unitFits, soundOf}
 use Rattle.soundness.specs.Lanes.{formed, laneGood, lanes}
-use Rattle.soundness.specs.Numbered.{free, arbiterHeld}
+use Rattle.soundness.specs.Numbered.{standingIn, free, arbiterHeld}
 use Rattle.soundness.specs.Soundings.{formedAll, soundIn}
-use Rattle.soundness.proofs.Pass.{none, priorityOf, cellsOf, Placed, all-placed, pass, roomy-iff, bus-most}
+use Rattle.soundness.proofs.Pass.{none, priorityOf, cellsOf, stands, Placed, all-placed, pass, roomy-iff, bus-most}
 use Rattle.soundness.proofs.Facts.{every-iff}
-use Rattle.soundness.proofs.Numbered.{pass-document}
+use Rattle.soundness.proofs.Numbered.{Ranged, stands-some, pass-document}
 
 split : (k i : ℕ) → k ≤ i → (k ≡ i) ⊎ (suc k ≤ i)
 split zero zero h = inl refl
@@ -60,6 +60,13 @@ lanes-all good count k (suc n) g =
         less : (count ≤ k) ⊎ (k < count) → leb count k ≡ false → k < count
         less (inl h) e = absurd (false≢true (sym e ∙ le-iff count k .1 h))
         less (inr h) e = h
+
+-- how one place more stands
+pub one-more : (b : List ℕ) (granted : ℕ) (each : List ℕ) (i n : ℕ) → i < length each → ((j : ℕ) → j < i → getD each j 0 ≡ standingIn granted (col b j)) → n ≡ standingIn granted (col b i) →
+    (j : ℕ) → j < i + 1 → getD (set each i n) j 0 ≡ standingIn granted (col b j)
+one-more b granted each i n l g e j h =
+    ⊎-elim (λ x. subst (λ k. getD (set each i n) k 0 ≡ standingIn granted (col b k)) (sym x) (getD-set-same each i n 0 l ∙ e)) (λ x. getD-set-other each i j n 0 (λ y. omega arith) ∙ g j (omega arith))
+    (split j i (omega arith))
 
 -- two tests, and one of them
 first : (a b : Bool) → (a && b) ≡ true → a ≡ true
@@ -98,8 +105,8 @@ module _ (b : List ℕ) where
   count = getD b 805 0
 
   -- what is left of the pass at place i
-  abbrev pub left : List ℕ → List ℕ → ℕ → Bool
-  left ps cs i = pass (getD b 803 0) (shelfIn b .arbiter .last) (shelfIn b .arbiter .asks) ps cs (drop i us)
+  abbrev pub left : List ℕ → ℕ → Bool
+  left held i = pass (getD b 803 0) (shelfIn b .arbiter .last) (shelfIn b .arbiter .asks) held (drop i us)
 
   module _ (most : count ≤ 32) where
     long : length us ≡ count
@@ -108,17 +115,16 @@ module _ (b : List ℕ) where
     there : (i : ℕ) → i < count → getD us i blank ≡ unitIn b i
     there i h = declared-at (shelfIn b) i blank h ∙ unit-at b i blank (omega arith)
 
-    module _ (ps cs : List ℕ) (i : ℕ) where
+    module _ (held : List ℕ) (i : ℕ) where
       next : i < count → drop i us ≡ unitIn b i ∷ drop (suc i) us
       next h = let l = long in drop-cons us i blank (omega arith) ∙ ap (λ u. u ∷ drop (suc i) us) (there i h)
 
-      pub goes-on : (once : Bool) → i < count → (once && left ps cs i) ≡ ((once && free ps (col b i 0)) && left (set ps (col b i 0) (col b i 4)) (set cs (col b i 0) (col b i 15)) (i + 1))
+      pub goes-on : (once : Bool) → i < count → (once && left held i) ≡ ((once && free held (col b i 0)) && left (set held (col b i 0) (standingIn (getD b 803 0) (col b i))) (i + 1))
       unfolding pass unitBy
       goes-on once h =
-          rw (add-one, next h)
-          (sym (and-assoc once (free ps (col b i 0)) (left (set ps (col b i 0) (col b i 4)) (set cs (col b i 0) (col b i 15)) (suc i))))
+          rw (add-one, next h) (sym (and-assoc once (free held (col b i 0)) (left (set held (col b i 0) (standingIn (getD b 803 0) (col b i))) (suc i))))
 
-      pub ends : count ≤ i → left ps cs i ≡ arbiterHeld ps cs (getD b 803 0) (shelfIn b .arbiter .last) (shelfIn b .arbiter .asks)
+      pub ends : count ≤ i → left held i ≡ arbiterHeld held (getD b 803 0) (shelfIn b .arbiter .last) (shelfIn b .arbiter .asks)
       unfolding pass
       ends h = let l = long in rw (drop-of-length-le us {i = i} (omega arith))
 
@@ -136,6 +142,9 @@ module _ (card : Card) (b : List ℕ) (store rows : ℕ) where
   module _ (t : roomy bus (count b) store rows ≡ true) where
     pub few : count b ≤ 32
     few = roomy-iff bus (count b) store rows .0 t .0 .0 .1
+
+    pub some-bus : 0 < bus
+    some-bus = ⊎-elim (λ e. omega arith) (λ e. omega arith) (roomy-iff bus (count b) store rows .0 t .0 .0 .0)
 
     fits-at : soundOf card (shelfIn b) store rows ≡ true → (i : ℕ) → i < count b → unitFits card bus (unitIn b i) ≡ true
     unfolding soundOf unitFits
@@ -167,18 +176,24 @@ module _ (card : Card) (b : List ℕ) (store rows : ℕ) where
           and-iff (and-iff (Iff·rfl {A = belowBus bus (getD (us b) i blank) ≡ true}) (Iff·rfl {A = couldBeGiven card (getD (us b) i blank) ≡ true})) (Iff·rfl {A = withinCapacity (getD (us b) i blank) ≡ true}) .0
           (subst (λ u. unitFits card bus u ≡ true) (sym (there b few i c)) (parts i c .1))
 
-      placed : Placed 32 (us b)
+      ranged : Ranged (us b)
       unfolding settingsGiven
-      placed =
-          all-placed (us b) 32 (λ i h.
+      ranged i h =
           let u = getD (us b) i blank in
           let f = fits i h in
           let m = bus-most bus (count b) store rows t in
           let n = lt-iff (numberOf u) bus .0 (f .0 .0) in
           let p = and-iff (Iff·rfl {A = settingsGiven card (u .settings) ≡ true}) Iff·rfl .0 (f .0 .1) .0 in
           let s = second (holds card (On (u .settings .link)) && leb (u .settings .top) (highest (u .settings .link))) (leb 1 (priorityOf u) && leb (priorityOf u) 3) p in
-          let q = le-iff 1 (priorityOf u) .0 (first (leb 1 (priorityOf u)) (leb (priorityOf u) 3) s) in
-          (omega (arith, n, m), q))
+          let q = and-iff (le-iff 1 (priorityOf u)) (le-iff (priorityOf u) 3) .0 s in
+          (omega (arith, n, m), q .0, q .1)
+
+      placed : Placed (stands (getD b 803 0)) 32 (us b)
+      placed =
+          all-placed (stands (getD b 803 0)) (us b) 32 (λ i h.
+          let u = getD (us b) i blank in
+          let r = ranged i h in
+          (r .0, stands-some (priorityOf u) (cellsOf u) (numberOf u) (getD b 803 0) (r .1) (r .2)))
 
       pub number-below : (i : ℕ) → i < count b → col b i 0 < 32
       unfolding unitBy unitFits
@@ -187,7 +202,7 @@ module _ (card : Card) (b : List ℕ) (store rows : ℕ) where
           let n = lt-iff (col b i 0) bus .0 (first (belowBus bus (unitIn b i)) (couldBeGiven card (unitIn b i)) (first (belowBus bus (unitIn b i) && couldBeGiven card (unitIn b i)) (withinCapacity (unitIn b i)) (parts i h .1))) in
           omega (arith, n, m)
 
-      pub begins : soundIn card b store rows ≡ left b none none 0
+      pub begins : soundIn card b store rows ≡ left b none 0
       unfolding soundIn soundOf
       begins =
           let a = shelfIn b .arbiter in
@@ -195,4 +210,4 @@ module _ (card : Card) (b : List ℕ) (store rows : ℕ) where
           ∙ others (roomy bus (count b) store rows) (noneRepeated (numbers (us b))) (every (belowBus bus) (us b)) (every (couldBeGiven card) (us b)) (every withinCapacity (us b))
           (every (grantHasCell (getD b 803 0)) (us b)) (every (requestHasCell (getD b 803 0) (a .asks)) (us b)) (arbiterKnown (among (numbers (us b))) (getD b 803 0) (a .last) (a .asks))
           t (each (belowBus bus) (us b) .1 (λ i h. fits i h .0 .0)) (each (couldBeGiven card) (us b) .1 (λ i h. fits i h .0 .1)) (each withinCapacity (us b) .1 (λ i h. fits i h .1))
-          ∙ pass-document (getD b 803 0) (a .last) (a .asks) (us b) placed
+          ∙ pass-document (getD b 803 0) (a .last) (a .asks) (us b) placed ranged

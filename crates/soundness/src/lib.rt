@@ -4,15 +4,15 @@ use card::Card;
 use outlet::Outlet;
 use shelf::Unit;
 ghost use mathlib.Core.Path.{_≡_};
+ghost use mathlib.Core.Bool.{_&&_, cond};
 ghost use Prim.Native.Nat.{_-_, _<_};
-ghost use mathlib.Core.Bool.{_&&_, _||_};
-ghost use lib.Dec.{eqb, leb, ltb};
+ghost use lib.Dec.{eqb, leb};
 ghost use lib.ListN.{length};
-ghost use Rattle.outlet.specs.Outlets.{between, outletFits};
-ghost use Rattle.state.specs.Bytes.{col, outletBy};
+ghost use Rattle.outlet.specs.Outlets.{between, ringFits};
+ghost use Rattle.state.specs.Bytes.{col, ringBy};
 ghost use Rattle.soundness.specs.State.{roomy as roomyIn, nobodyOr};
-ghost use Rattle.soundness.specs.Lanes.{isWide, ringsOne, ringsFour, laneGood, lanes};
-ghost use Rattle.soundness.specs.Numbered.{marks, asksHeld, grantIn, arbiterHeld};
+ghost use Rattle.soundness.specs.Lanes.{highestLink, lesser, settingsAt, limitsAt, ringsAt, laneAt, laneGood, lanes};
+ghost use Rattle.soundness.specs.Numbered.{marks, standing as standingOf, Standings, asksHeld, grantIn, arbiterHeld};
 ghost use Rattle.soundness.specs.Soundings.{soundIn};
 
 // Whether the bus has a size, and there is room for its units.
@@ -23,184 +23,229 @@ fn roomy(bus: u8, count: u8, store: usize, rows: usize) -> bool
     ((bus == 16) | (bus == 32)) & (count <= 32) & (store::PART * units <= store) & (units <= rows)
 }
 
-fn wide(card: Card) -> bool
-    ensures { λ r. ⌜ r ≡ isWide card ⌝ }
+// The highest link byte of the card.
+fn highest_link(card: Card) -> u8
+    ensures { λ r. ⌜ r ≡ highestLink card ⌝ }
 {
     match card {
-        Card::Narrow => false,
-        Card::Wide => true,
+        Card::Narrow => 0,
+        Card::Wide => 1,
     }
 }
 
-fn rest(cbrlength: u8) -> u8
-    ensures { λ r. ⌜ r ≡ 89 - cbrlength ⌝ }
+// How much n is over the most that it may be: 0 where it is not.
+fn over(n: u8, most: u8) -> u8
+    ensures { λ r. ⌜ (r ≡ n - most) × (eqb r 0 ≡ leb n most) ⌝ }
 {
-    if cbrlength <= Outlet::SHARED {
-        Outlet::SHARED - cbrlength
-    } else {
-        0
-    }
+    if most < n { n - most } else { 0 }
 }
 
-fn within(head: u8, count: u8, capacity: u8) -> bool
-    ensures { λ r. ⌜ r ≡ (ltb head capacity && leb count capacity) ⌝ }
+// The greater of two: 0 where both are.
+fn worse(a: u8, b: u8) -> u8
+    ensures { λ r. ⌜ eqb r 0 ≡ (eqb a 0 && eqb b 0) ⌝ }
 {
-    (head < capacity) & (count <= capacity)
+    if a < b { b } else { a }
 }
 
-fn nothing(head: u8, count: u8) -> bool
-    ensures { λ r. ⌜ r ≡ (eqb head 0 && eqb count 0) ⌝ }
+fn least(a: u8, b: u8) -> u8
+    ensures { λ r. ⌜ r ≡ lesser a b ⌝ }
 {
-    (head == 0) & (count == 0)
+    if a < b { a } else { b }
 }
 
-// Whether the bytes of a unit's settings are such as a `unit` line gives. All tests are made, and of bytes: many places are judged at once.
-// A top VPI to 255 has 0 in its high byte, one to 4,095 at most 15.
-fn settings_good(wide: bool, number: u8, link: u8, high: u8, priority: u8, bus: u8) -> bool
-    ensures { λ r. ⌜ r ≡ (ltb number bus && (((eqb link 0 && eqb high 0) || (eqb link 1 && wide && leb high 15)) && between 1 3 priority)) ⌝ }
+// What goes with a byte of 0, or with another.
+fn by(byte: u8, zero: u8, other: u8) -> u8
+    ensures { λ r. ⌜ r ≡ cond (eqb byte 0) zero other ⌝ }
 {
-    let uni = (link == 0) & (high == 0);
-    let nni = (link == 1) & wide & (high <= 15);
-    (number < bus) & ((uni | nni) & ((1 <= priority) & (priority <= 3)))
+    if byte == 0 { zero } else { other }
 }
 
-fn given_one(cbrlength: u8, cbrlimit: u8, vbrlimit: u8) -> bool
-    ensures { λ r. ⌜ r ≡ (eqb cbrlength 0 && eqb cbrlimit 0 && between 1 123 vbrlimit) ⌝ }
+// How much n is outside of these two.
+fn outside(low: u8, high: u8, n: u8) -> u8
+    ensures { λ r. ⌜ eqb r 0 ≡ between low high n ⌝ }
 {
-    (cbrlength == 0) & (cbrlimit == 0) & ((1 <= vbrlimit) & (vbrlimit <= Outlet::ONE))
+    worse(over(low, n), over(n, high))
 }
 
-fn given_four(cbrlength: u8, cbrlimit: u8, vbrlimit: u8) -> bool
-    ensures { λ r. ⌜ r ≡ (between 1 88 cbrlength && between 1 cbrlength cbrlimit && between 1 (89 - cbrlength) vbrlimit) ⌝ }
+// The ring in two columns, of this capacity; one of none has both at 0.
+fn ring_over(s: &[u8], i: usize, h: usize, c: usize, capacity: u8) -> u8
+    requires { ⌜ (length (now s) ≡ 2048) × (i < 32) × (h < 32) × (c < 32) ⌝ }
+    ensures { λ r. ⌜ eqb r 0 ≡ ringFits (ringBy (col (now (s .entry)) i) h c) capacity ⌝ }
 {
-    ((1 <= cbrlength) & (cbrlength <= Outlet::SHARED - 1))
-        & ((1 <= cbrlimit) & (cbrlimit <= cbrlength))
-        & ((1 <= vbrlimit) & (vbrlimit <= rest(cbrlength)))
+    worse(
+        over(state::at(s, h, i), over(capacity, 1)),
+        over(state::at(s, c, i), capacity),
+    )
 }
 
-fn rings_one(s: &[u8], i: usize) -> bool
+// The settings of a unit. A top VPI to 255 has 0 in its high byte, one to 4,095 at most 15.
+fn settings_over(s: &[u8], i: usize, links: u8, last: u8) -> u8
     requires { ⌜ (length (now s) ≡ 2048) × (i < 32) ⌝ }
-    ensures { λ r. ⌜ r ≡ ringsOne (col (now (s .entry)) i) ⌝ }
+    ensures { λ r. ⌜ eqb r 0 ≡ settingsAt links last (col (now (s .entry)) i) ⌝ }
 {
-    within(state::at(s, 16, i), state::at(s, 20, i), Outlet::ONE)
-        & nothing(state::at(s, 17, i), state::at(s, 21, i))
-        & nothing(state::at(s, 18, i), state::at(s, 22, i))
-        & nothing(state::at(s, 19, i), state::at(s, 23, i))
+    let link = state::at(s, 1, i);
+    worse(
+        worse(over(state::at(s, 0, i), last), over(link, links)),
+        worse(
+            over(state::at(s, 2, i), by(link, 0, 15)),
+            outside(1, 3, state::at(s, 4, i)),
+        ),
+    )
 }
 
-fn rings_four(s: &[u8], i: usize) -> bool
+// The limits: the mode is 1 exactly where there is a CBR length.
+fn limits_over(s: &[u8], i: usize) -> u8
     requires { ⌜ (length (now s) ≡ 2048) × (i < 32) ⌝ }
-    ensures { λ r. ⌜ r ≡ ringsFour (col (now (s .entry)) i) ⌝ }
-{
-    let cbrlength = state::at(s, 6, i);
-    within(state::at(s, 16, i), state::at(s, 20, i), Outlet::CONTROL)
-        & within(state::at(s, 17, i), state::at(s, 21, i), cbrlength)
-        & within(state::at(s, 18, i), state::at(s, 22, i), rest(cbrlength))
-        & within(state::at(s, 19, i), state::at(s, 23, i), Outlet::ABR)
-}
-
-// Whether the bytes of a unit's outlet are those of one that fits.
-fn outlet_good(s: &[u8], i: usize) -> bool
-    requires { ⌜ (length (now s) ≡ 2048) × (i < 32) ⌝ }
-    ensures { λ r. ⌜ r ≡ (leb (col (now (s .entry)) i 5) 1 && leb (col (now (s .entry)) i 9) 1 && outletFits (outletBy (col (now (s .entry)) i))) ⌝ }
+    ensures { λ r. ⌜ eqb r 0 ≡ limitsAt (col (now (s .entry)) i) ⌝ }
 {
     let mode = state::at(s, 5, i);
     let cbrlength = state::at(s, 6, i);
-    let cbrlimit = state::at(s, 7, i);
-    let vbrlimit = state::at(s, 8, i);
-    let one = (mode == 0) & (given_one(cbrlength, cbrlimit, vbrlimit) & rings_one(s, i));
-    let four = (mode == 1) & (given_four(cbrlength, cbrlimit, vbrlimit) & rings_four(s, i));
-    (state::at(s, 9, i) <= 1) & (one | four)
+    let some = least(cbrlength, 1);
+    let vbrmost = by(mode, Outlet::ONE, over(Outlet::SHARED, cbrlength));
+    worse(
+        worse(over(state::at(s, 9, i), 1), outside(some, some, mode)),
+        worse(
+            outside(mode, cbrlength, state::at(s, 7, i)),
+            outside(1, vbrmost, state::at(s, 8, i)),
+        ),
+    )
 }
 
-// Whether the bytes in a place are those of a unit that fits.
-fn lane(s: &[u8], i: usize, card: Card, bus: u8) -> bool
+// The rings: the inlet's and the four of the outlet, of which mode one has one.
+fn rings_over(s: &[u8], i: usize) -> u8
     requires { ⌜ (length (now s) ≡ 2048) × (i < 32) ⌝ }
-    ensures { λ r. ⌜ r ≡ laneGood card bus (now (s .entry)) i ⌝ }
+    ensures { λ r. ⌜ eqb r 0 ≡ ringsAt (col (now (s .entry)) i) ⌝ }
 {
-    settings_good(
-        wide(card),
-        state::at(s, 0, i),
-        state::at(s, 1, i),
-        state::at(s, 2, i),
-        state::at(s, 4, i),
-        bus,
+    let mode = state::at(s, 5, i);
+    let cbrlength = state::at(s, 6, i);
+    let vbrlength = by(mode, 0, over(Outlet::SHARED, cbrlength));
+    worse(
+        worse(
+            ring_over(s, i, 14, 15, Unit::INLET),
+            ring_over(s, i, 16, 20, by(mode, Outlet::ONE, Outlet::CONTROL)),
+        ),
+        worse(
+            ring_over(s, i, 17, 21, cbrlength),
+            worse(
+                ring_over(s, i, 18, 22, vbrlength),
+                ring_over(s, i, 19, 23, by(mode, 0, Outlet::ABR)),
+            ),
+        ),
     )
-        & (within(state::at(s, 14, i), state::at(s, 15, i), Unit::INLET) & outlet_good(s, i))
+}
+
+// A place's worst: 0 where its bytes are those of a unit that fits. All tests are made, and of bytes: many places are judged at once.
+fn lane(s: &[u8], i: usize, links: u8, last: u8) -> u8
+    requires { ⌜ (length (now s) ≡ 2048) × (i < 32) ⌝ }
+    ensures { λ r. ⌜ eqb r 0 ≡ laneAt links last (col (now (s .entry)) i) ⌝ }
+{
+    worse(
+        settings_over(s, i, links, last),
+        worse(limits_over(s, i), rings_over(s, i)),
+    )
 }
 
 // Whether each declared unit fits by itself. All 32 places are judged, and those past the count are not asked.
 fn units_good(s: &[u8], card: Card, bus: u8, count: u8) -> bool
-    requires { ⌜ length (now s) ≡ 2048 ⌝ }
+    requires { ⌜ (length (now s) ≡ 2048) × (0 < bus) ⌝ }
     ensures { λ r. ⌜ r ≡ lanes (laneGood card bus (now (s .entry))) count 0 32 ⌝ }
 {
-    let mut good = true;
+    let links = highest_link(card);
+    let last = over(bus, 1);
+    let mut worst: u8 = 0;
     let mut k: u8 = 0;
     let mut i: usize = 0;
     while i < 32 {
-        good = good & ((count <= k) | lane(s, i, card, bus));
+        worst = worse(worst, least(over(count, k), lane(s, i, links, last)));
         k += 1;
         i += 1;
     }
-    good
+    worst == 0
 }
 
-// Whether it is nobody or one with a priority.
-fn nobody_or(priorities: [u8; 32], number: u8) -> bool
-    ensures { λ r. ⌜ r ≡ nobodyOr (marks priorities) number ⌝ }
+// The cells of a unit that are granted.
+fn taken(number: u8, granted: u8) -> u8
+    ensures { λ r. ⌜ r ≡ cond (eqb number granted) 1 0 ⌝ }
+{
+    if number == granted { 1 } else { 0 }
+}
+
+// How a unit stands: its priority, or 4 without a cell besides a granted one, or 5 without any.
+fn standing(priority: u8, cells: u8, number: u8, granted: u8) -> u8
+    ensures { λ r. ⌜ r ≡ standingOf priority cells number granted ⌝ }
+{
+    let without = by(cells, 5, 4);
+    if taken(number, granted) < cells {
+        priority
+    } else {
+        without
+    }
+}
+
+fn standings(s: &[u8], granted: u8) -> [u8; 32]
+    requires { ⌜ length (now s) ≡ 2048 ⌝ }
+    ensures { λ r. ⌜ Standings granted (now (s .entry)) r ⌝ }
+{
+    let mut each = [0; 32];
+    let mut i: usize = 0;
+    while i < 32 {
+        each[i] = standing(
+            state::at(s, 4, i),
+            state::at(s, 15, i),
+            state::at(s, 0, i),
+            granted,
+        );
+        i += 1;
+    }
+    each
+}
+
+// Whether it is nobody or one that is declared.
+fn nobody_or(held: [u8; 32], number: u8) -> bool
+    ensures { λ r. ⌜ r ≡ nobodyOr (marks held) number ⌝ }
 {
     if number < 32 {
-        priorities[number as usize] != 0
+        held[number as usize] != 0
     } else {
         number == NOBODY
     }
 }
 
 // Whether nobody is granted, or one with a cell.
-fn grant_held(cells: [u8; 32], granted: u8) -> bool
-    ensures { λ r. ⌜ r ≡ grantIn cells granted ⌝ }
+fn grant_held(held: [u8; 32], granted: u8) -> bool
+    ensures { λ r. ⌜ r ≡ grantIn held granted ⌝ }
 {
     if granted < 32 {
-        1 <= cells[granted as usize]
+        (1 <= held[granted as usize]) & (held[granted as usize] <= 4)
     } else {
         granted == NOBODY
     }
 }
 
 // Whether each number that asks does so at its priority, with a cell besides a granted one.
-fn asks_held(priorities: [u8; 32], cells: [u8; 32], granted: u8, asks: [u8; 32]) -> bool
-    ensures { λ r. ⌜ r ≡ asksHeld priorities cells granted 0 asks ⌝ }
+fn asks_held(held: [u8; 32], asks: [u8; 32]) -> bool
+    ensures { λ r. ⌜ r ≡ asksHeld held 0 asks ⌝ }
 {
     let mut good = true;
-    let mut k: u8 = 0;
     let mut i: usize = 0;
     while i < 32 {
-        let left = (1 <= cells[i]) & ((k != granted) | (2 <= cells[i]));
-        good = good & ((asks[i] == 0) | ((asks[i] == priorities[i]) & left));
-        k += 1;
+        good = good & ((asks[i] == 0) | ((asks[i] == held[i]) & (asks[i] <= 3)));
         i += 1;
     }
     good
 }
 
 // Whether the units, by their numbers, could have the open grant, the last grants and the requests.
-fn arbiter_held(
-    priorities: [u8; 32],
-    cells: [u8; 32],
-    granted: u8,
-    last: [u8; 3],
-    asks: [u8; 32],
-) -> bool
-    ensures { λ r. ⌜ r ≡ arbiterHeld priorities cells granted last asks ⌝ }
+fn arbiter_held(held: [u8; 32], granted: u8, last: [u8; 3], asks: [u8; 32]) -> bool
+    ensures { λ r. ⌜ r ≡ arbiterHeld held granted last asks ⌝ }
 {
-    grant_held(cells, granted)
-        & (nobody_or(priorities, last[0])
-            & nobody_or(priorities, last[1])
-            & nobody_or(priorities, last[2]))
-        & asks_held(priorities, cells, granted, asks)
+    grant_held(held, granted)
+        & (nobody_or(held, last[0]) & nobody_or(held, last[1]) & nobody_or(held, last[2]))
+        & asks_held(held, asks)
 }
 
-// First each unit by itself, all places at once; then by number, 0 where none is declared: no number twice, and what the arbiter has.
+// First each unit by itself, all places at once; then how each stands by its number, 0 where none is declared: no number twice, and what
+// the arbiter has.
 pub fn sound(card: Card, s: &[u8], store: usize, rows: usize) -> bool
     requires { ⌜ length (now s) ≡ 2048 ⌝ }
     ensures { λ r. ⌜ r ≡ soundIn card (now (s .entry)) store rows ⌝ }
@@ -213,18 +258,18 @@ pub fn sound(card: Card, s: &[u8], store: usize, rows: usize) -> bool
     if !units_good(s, card, bus, count) {
         return false;
     }
+    let granted = s[803];
+    let each = standings(s, granted);
     let end = count as usize;
     let mut once = true;
-    let mut priorities = [0; 32];
-    let mut cells = [0; 32];
+    let mut held = [0; 32];
     let mut i: usize = 0;
     while i < end {
         let number = state::at(s, 0, i) as usize;
-        once = once & (priorities[number] == 0);
-        priorities[number] = state::at(s, 4, i);
-        cells[number] = state::at(s, 15, i);
+        once = once & (held[number] == 0);
+        held[number] = each[i];
         i += 1;
     }
     let last = [s[800], s[801], s[802]];
-    once & arbiter_held(priorities, cells, s[803], last, state::asks_at(s))
+    once & arbiter_held(held, granted, last, state::asks_at(s))
 }

@@ -13,25 +13,26 @@ use Rattle.soundness.specs.State.{roomy}
 use Rattle.soundness.specs.Lanes.{laneGood, lanes}
 use Rattle.soundness.specs.Numbered.{free, arbiterHeld}
 use Rattle.soundness.specs.Soundings.{soundIn}
-use Rattle.soundness.proofs.Sounding.{left, small, few, unfit, number-below, begins, goes-on, ends}
+use Rattle.soundness.proofs.Sounding.{left, small, some-bus, few, unfit, number-below, begins, goes-on, ends}
 use Rattle.soundness.proofs.sound.Statement.{statement}
 use Rattle.soundness.proofs.sound.Tie as tie
 use Rattle.soundness.proofs.sound.Reads as reads
 use Rattle.soundness.proofs.sound.Lts as lts
 use Rattle.soundness.proofs.arbiter_held.Reads as arbiter-held-reads
 use Rattle.soundness.proofs.roomy.Reads as roomy-reads
+use Rattle.soundness.proofs.standings.Reads as standings-reads
 use Rattle.soundness.proofs.units_good.Reads as units-good-reads
 use Rattle.state.proofs.asks_at.Reads as asks-at-reads
 use Rattle.state.proofs.at.Reads as at-reads
 
 abbrev Inv-loop : tie.InvT-loop
-Inv-loop s store rows bus count end once₀ priorities₀ cells₀ i₀ once priorities cells i =
+Inv-loop s store rows bus count granted each end once₀ held₀ i₀ once held i =
     (i ≤ end)
     × ((end ≤ 32) × ((j : ℕ) → j < end → col s j 0 < 32))
-    × ((card : Card) → roomy (getD s 804 0) (getD s 805 0) store rows ≡ true → lanes (laneGood card (getD s 804 0) s) (getD s 805 0) 0 32 ≡ true → soundIn card s store rows ≡ (once && left s priorities cells i))
+    × ((card : Card) → roomy (getD s 804 0) (getD s 805 0) store rows ≡ true → lanes (laneGood card (getD s 804 0) s) (getD s 805 0) 0 32 ≡ true → soundIn card s store rows ≡ (once && left s held i))
 
 abbrev μ-loop : tie.MeasureT-loop
-μ-loop s store rows bus count end once₀ priorities₀ cells₀ i₀ once priorities cells i = end - i
+μ-loop s store rows bus count granted each end once₀ held₀ i₀ once held i = end - i
 
 shared-slice-read-bus : tie.Need-shared-slice-read-bus Inv-loop μ-loop
 shared-slice-read-bus c = search needs
@@ -48,7 +49,10 @@ returns c =
     small (a .card) (a .s .now) (a .store) (a .rows) (sym (c .before .roomy .ensures) ∙ not-true _ (c .if1 .taken))
 
 units-good-requires : tie.Need-units-good-requires Inv-loop μ-loop
-units-good-requires c κs = search needs
+units-good-requires c κs =
+    let p = c .before .before .before .before .before in
+    let a = p .args in
+    (p .pre, some-bus (a .card) (a .s .now) (a .store) (a .rows) (sym (c .before .roomy .ensures) ∙ not-false _ (c .if1 .left)))
 
 returns-2 : tie.Need-returns-2 Inv-loop μ-loop
 returns-2 c =
@@ -56,42 +60,44 @@ returns-2 c =
     let t = sym (c .before .before .before .roomy .ensures) ∙ not-false _ (c .before .before .if1 .left) in
     unfit (a .card) (a .s .now) (a .store) (a .rows) t (sym (c .before .units-good .ensures) ∙ not-true _ (c .if2 .taken))
 
+shared-slice-read-granted : tie.Need-shared-slice-read-granted Inv-loop μ-loop
+shared-slice-read-granted c = search needs
+
+standings-requires : tie.Need-standings-requires Inv-loop μ-loop
+standings-requires c κs = search needs
+
 cast-end : tie.Need-cast-end Inv-loop μ-loop
 cast-end c =
-    let a = c .before .before .before .before .before .before .before .args in
-    let m = few (a .card) (a .s .now) (a .store) (a .rows) (sym (c .before .before .before .roomy .ensures) ∙ not-false _ (c .before .before .if1 .left)) in
+    let g = c .before .before in
+    let a = g .before .before .before .before .before .before .before .args in
+    let m = few (a .card) (a .s .now) (a .store) (a .rows) (sym (g .before .before .before .roomy .ensures) ∙ not-false _ (g .before .before .if1 .left)) in
     omega (arith, m)
 
 loop-holds : tie.Need-loop-holds Inv-loop μ-loop
 loop-holds c =
-    let a = c .before .before .before .before .before .before .before .args in
-    let t = sym (c .before .before .before .roomy .ensures) ∙ not-false _ (c .before .before .if1 .left) in
-    let g = sym (c .before .units-good .ensures) ∙ not-false _ (c .if2 .left) in (
+    let good = c .before .before in
+    let a = good .before .before .before .before .before .before .before .args in
+    let t = sym (good .before .before .before .roomy .ensures) ∙ not-false _ (good .before .before .if1 .left) in
+    let g = sym (good .before .units-good .ensures) ∙ not-false _ (good .if2 .left) in (
       omega arith,
       (few (a .card) (a .s .now) (a .store) (a .rows) t, number-below (a .card) (a .s .now) (a .store) (a .rows) t g),
       λ card t g. begins card (a .s .now) (a .store) (a .rows) t g,
     )
 
 at-requires : tie.Need-at-requires Inv-loop μ-loop
-at-requires c κs = (c .before .before .before .before .before .before .before .before .before .pre, omega arith, omega arith)
+at-requires c κs = (c .before .before .before .before .before .before .before .before .before .before .before .pre, omega arith, omega arith)
 
 cast-number : tie.Need-cast-number Inv-loop μ-loop
 cast-number c = search needs
 
 array-read-once : tie.Need-array-read-once Inv-loop μ-loop
-array-read-once c = subst (λ n. n < 32) (sym (c .at .ensures)) (c .before .before .loop .inv .1 .1 (c .before .before .loop .i) (omega arith))
+array-read-once c = let l = c .before .before .loop in subst (λ n. n < 32) (sym (c .at .ensures)) (l .inv .1 .1 (l .i) (omega arith))
 
-at-requires-2 : tie.Need-at-requires-2 Inv-loop μ-loop
-at-requires-2 c κs = (c .before .before .before .before .before .before .before .before .before .before .pre, omega arith, omega arith)
+array-read-held : tie.Need-array-read-held Inv-loop μ-loop
+array-read-held c = omega arith
 
-array-write-priorities : tie.Need-array-write-priorities Inv-loop μ-loop
-array-write-priorities c = subst (λ n. n < 32) (sym (c .before .at .ensures)) (c .before .before .before .loop .inv .1 .1 (c .before .before .before .loop .i) (omega arith))
-
-at-requires-3 : tie.Need-at-requires-3 Inv-loop μ-loop
-at-requires-3 c κs = (c .before .before .before .before .before .before .before .before .before .before .before .pre, omega arith, omega arith)
-
-array-write-cells : tie.Need-array-write-cells Inv-loop μ-loop
-array-write-cells c = subst (λ n. n < 32) (sym (c .before .before .at .ensures)) (c .before .before .before .before .loop .inv .1 .1 (c .before .before .before .before .loop .i) (omega arith))
+array-write-held : tie.Need-array-write-held Inv-loop μ-loop
+array-write-held c = let l = c .before .before .loop in subst (λ n. n < 32) (sym (c .at .ensures)) (l .inv .1 .1 (l .i) (omega arith))
 
 add-i : tie.Need-add-i Inv-loop μ-loop
 add-i c = omega arith
@@ -101,29 +107,25 @@ loop-less c = omega arith
 
 loop-again : tie.Need-loop-again Inv-loop μ-loop
 loop-again c =
-    let b = c .before .before .before .before .before .before .before .before .before .before .before .before .args .s .now in
-    let l = c .before .before .before .before .loop in
-    let n = sym (c .before .before .at .ensures) in
-    let p = sym (c .before .at2 .ensures) in
-    let q = sym (c .at3 .ensures) in (
+    let start = c .before .before in
+    let b = start .before .before .before .before .before .before .before .before .before .before .args .s .now in
+    let l = start .loop in
+    let n = sym (c .at .ensures) in
+    let p = sym (start .before .standings .ensures (l .i) (omega arith)) in (
       omega arith,
       l .inv .1,
       λ card t g.
-          l .inv .2 card t g ∙ goes-on b (l .inv .1 .0) (l .priorities) (l .cells) (l .i) (l .once) (omega arith)
-          ∙ (λ z. (l .once && free (l .priorities) (n z)) && left b (set (l .priorities) (n z) (p z)) (set (l .cells) (n z) (q z)) (l .i + 1)),
+          l .inv .2 card t g ∙ goes-on b (l .inv .1 .0) (l .held) (l .i) (l .once) (omega arith) ∙ (λ z. (l .once && free (l .held) (n z)) && left b (set (l .held) (n z) (p z)) (l .i + 1)),
     )
 
-shared-slice-read-t15 : tie.Need-shared-slice-read-t15 Inv-loop μ-loop
-shared-slice-read-t15 c = search needs
+shared-slice-read-t16 : tie.Need-shared-slice-read-t16 Inv-loop μ-loop
+shared-slice-read-t16 c = search needs
 
-shared-slice-read-t29 : tie.Need-shared-slice-read-t29 Inv-loop μ-loop
-shared-slice-read-t29 c = search needs
+shared-slice-read-t32 : tie.Need-shared-slice-read-t32 Inv-loop μ-loop
+shared-slice-read-t32 c = search needs
 
-shared-slice-read-arbiter-held : tie.Need-shared-slice-read-arbiter-held Inv-loop μ-loop
-shared-slice-read-arbiter-held c = search needs
-
-shared-slice-read-arbiter-held-2 : tie.Need-shared-slice-read-arbiter-held-2 Inv-loop μ-loop
-shared-slice-read-arbiter-held-2 c = search needs
+shared-slice-read-t34 : tie.Need-shared-slice-read-t34 Inv-loop μ-loop
+shared-slice-read-t34 c = search needs
 
 asks-at-requires : tie.Need-asks-at-requires Inv-loop μ-loop
 asks-at-requires c κs = search needs
@@ -133,13 +135,15 @@ arbiter-held-requires c κs = search needs
 
 returns-3 : tie.Need-returns-3 Inv-loop μ-loop
 returns-3 c =
-    let a = c .before .before .before .before .before .before .before .before .before .before .before .before .before .before .before .args in
+    let start = c .before .before .before .before .before .before in
+    let good = start .before .before .before in
+    let a = good .before .before .before .before .before .before .before .args in
     let b = a .s .now in
-    let l = c .before .before .before .before .before .before .before .loop in
-    let t = sym (c .before .before .before .before .before .before .before .before .before .before .before .roomy .ensures) ∙ not-false _ (c .before .before .before .before .before .before .before .before .before .before .if1 .left) in
-    let g = sym (c .before .before .before .before .before .before .before .before .before .units-good .ensures) ∙ not-false _ (c .before .before .before .before .before .before .before .before .if2 .left) in
-    let e = c .arbiter-held .ensures ∙ ap (arbiterHeld (l .priorities) (l .cells) (getD b 803 0) (getD b 800 0 ∷ getD b 801 0 ∷ getD b 802 0 ∷ [])) (c .before .asks-at .ensures) in
-    ap (λ x. l .once && x) (e ∙ sym (ends b (l .inv .1 .0) (l .priorities) (l .cells) (l .i) (omega arith))) ∙ sym (l .inv .2 (a .card) t g)
+    let l = start .loop in
+    let t = sym (good .before .before .before .roomy .ensures) ∙ not-false _ (good .before .before .if1 .left) in
+    let g = sym (good .before .units-good .ensures) ∙ not-false _ (good .if2 .left) in
+    let e = c .arbiter-held .ensures ∙ ap (arbiterHeld (l .held) (getD b 803 0) (getD b 800 0 ∷ getD b 801 0 ∷ getD b 802 0 ∷ [])) (c .before .asks-at .ensures) in
+    ap (λ x. l .once && x) (e ∙ sym (ends b (l .inv .1 .0) (l .held) (l .i) (omega arith))) ∙ sym (l .inv .2 (a .card) t g)
 
 pub sound-spec : {M : Type 1} → statement M
 sound-spec =
@@ -153,22 +157,21 @@ sound-spec =
     returns
     units-good-requires
     returns-2
+    shared-slice-read-granted
+    standings-requires
     cast-end
     loop-holds
     at-requires
     cast-number
     array-read-once
-    at-requires-2
-    array-write-priorities
-    at-requires-3
-    array-write-cells
+    array-read-held
+    array-write-held
     add-i
     loop-less
     loop-again
-    shared-slice-read-t15
-    shared-slice-read-t29
-    shared-slice-read-arbiter-held
-    shared-slice-read-arbiter-held-2
+    shared-slice-read-t16
+    shared-slice-read-t32
+    shared-slice-read-t34
     asks-at-requires
     arbiter-held-requires
     returns-3)

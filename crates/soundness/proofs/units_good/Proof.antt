@@ -1,29 +1,41 @@
 -- `soundness::units_good` meets its contract. Assumes nothing.
 use Prim.Native.Nat.{_≤_, _-_}
-use mathlib.Core.Path.{_≡_, refl, sym, ap, _∙_}
-use mathlib.Core.Bool.{_&&_, _||_}
+use mathlib.Core.Path.{_≡_, refl, sym, _∙_}
+use mathlib.Core.Bool.{_&&_}
 use native.Mathlib.Omega.{arith}
-use lib.Dec.{leb}
+use lib.Dec.{eqb}
 use borrow.Author.Needs.{needs}
-use Rattle.soundness.specs.Lanes.{laneGood, lanes}
-use Rattle.soundness.proofs.Judged.{lanes-step, lanes-end}
+use Rattle.soundness.proofs.Judged.{places, places-step, places-end}
 use Rattle.soundness.proofs.units_good.Statement.{statement}
 use Rattle.soundness.proofs.units_good.Tie as tie
-use Rattle.soundness.proofs.units_good.Reads as reads
-use Rattle.soundness.proofs.units_good.Lts as lts
-use Rattle.soundness.proofs.lane.Reads as lane-reads
 
 abbrev Inv-loop : tie.InvT-loop
-Inv-loop s card bus count good₀ k₀ i₀ good k i = (i ≤ 32) × (k ≡ i) × (lanes (laneGood card bus s) count 0 32 ≡ (good && lanes (laneGood card bus s) count i (32 - i)))
+Inv-loop s bus count links last worst₀ k₀ i₀ worst k i =
+    (i ≤ 32) × (k ≡ i) × (places links last s count 0 32 ≡ (eqb worst 0 && places links last s count i (32 - i)))
 
 abbrev μ-loop : tie.MeasureT-loop
-μ-loop s card bus count good₀ k₀ i₀ good k i = 32 - i
+μ-loop s bus count links last worst₀ k₀ i₀ worst k i = 32 - i
+
+highest-link-requires : tie.Need-highest-link-requires Inv-loop μ-loop
+highest-link-requires c κs = search needs
+
+over-requires : tie.Need-over-requires Inv-loop μ-loop
+over-requires c κs = search needs
 
 loop-holds : tie.Need-loop-holds Inv-loop μ-loop
 loop-holds c = (omega arith, refl, refl)
 
+over-requires-2 : tie.Need-over-requires-2 Inv-loop μ-loop
+over-requires-2 c κs = search needs
+
 lane-requires : tie.Need-lane-requires Inv-loop μ-loop
 lane-requires c κs = search needs
+
+least-requires : tie.Need-least-requires Inv-loop μ-loop
+least-requires c κs = search needs
+
+worse-requires : tie.Need-worse-requires Inv-loop μ-loop
+worse-requires c κs = search needs
 
 add-k : tie.Need-add-k Inv-loop μ-loop
 add-k c = search needs
@@ -36,18 +48,25 @@ loop-less c = search needs
 
 loop-again : tie.Need-loop-again Inv-loop μ-loop
 loop-again c =
-    let l = c .before .before in
-    let a = l .before .before .args in (
+    let lane = c .before .before in
+    let start = lane .before .before .before in
+    let over = start .before in
+    let a = over .before .before .before .args in
+    let l = start .loop in (
       omega arith,
       omega arith,
-      l .loop .inv .2 ∙ lanes-step (laneGood (a .card) (a .bus) (a .s .now)) (a .count) (l .loop .i) (l .loop .good) _ (omega arith) (λ t. leb (a .count) (l .loop .inv .1 t) || c .lane .ensures t),
+      l .inv .2
+          ∙ places-step (over .before .highest-link .result) (over .over .result) (a .s .now) (a .count) (l .i) (l .k) (l .worst) (lane .before .over2 .result) (lane .lane .result) (c .before .least .result) (c .worse .result)
+          (omega arith) (l .inv .1) (lane .before .over2 .ensures .1) (lane .lane .ensures) (c .before .least .ensures) (c .worse .ensures),
     )
 
 returns : tie.Need-returns Inv-loop μ-loop
 returns c =
-    let l = c .before in
-    let a = l .before .before .args in
-    sym (l .loop .inv .2 ∙ lanes-end (laneGood (a .card) (a .bus) (a .s .now)) (a .count) (l .loop .i) (l .loop .good) (omega arith))
+    let over = c .before .before in
+    let l = c .before .loop in
+    let known = over .before .before in
+    let a = known .before .args in
+    places-end (over .before .highest-link .result) (over .over .result) (a .s .now) (a .count) (a .card) (a .bus) (l .i) (l .worst) (known .before .pre .1) (λ j. let k = known .shared-slice-known .given j in omega (arith, k)) (over .before .highest-link .ensures) (over .over .ensures .0) (omega arith) (sym (l .inv .2))
 
 pub units-good-spec : {M : Type 1} → statement M
 units-good-spec =
@@ -55,8 +74,13 @@ units-good-spec =
     (tie.spec
     Inv-loop
     μ-loop
+    highest-link-requires
+    over-requires
     loop-holds
+    over-requires-2
     lane-requires
+    least-requires
+    worse-requires
     add-k
     add-i
     loop-less

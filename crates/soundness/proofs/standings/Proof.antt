@@ -1,0 +1,74 @@
+-- `soundness::standings` meets its contract. Assumes nothing.
+use Prim.Native.Nat.{ℕ, _≤_, _-_, _<_}
+use native.Mathlib.Omega.{arith}
+use mathlib.Core.Path.{_≡_, refl, _∙_}
+use lib.ListN.{length, length-set, getD}
+use borrow.Author.Needs.{needs}
+use Rattle.state.specs.Bytes.{col}
+use Rattle.soundness.specs.Numbered.{standing, standingIn}
+use Rattle.soundness.proofs.Sounding.{one-more}
+use Rattle.soundness.proofs.standings.Statement.{statement}
+use Rattle.soundness.proofs.standings.Tie as tie
+
+abbrev Inv-loop : tie.InvT-loop
+Inv-loop s granted each₀ i₀ each i = (i ≤ 32) × (length each ≡ 32) × ((j : ℕ) → j < i → getD each j 0 ≡ standingIn granted (col s j))
+
+abbrev μ-loop : tie.MeasureT-loop
+μ-loop s granted each₀ i₀ each i = 32 - i
+
+loop-holds : tie.Need-loop-holds Inv-loop μ-loop
+loop-holds c = (omega arith, refl, λ j h. absurd (omega arith))
+
+at-requires : tie.Need-at-requires Inv-loop μ-loop
+at-requires c κs = search needs
+
+at-requires-2 : tie.Need-at-requires-2 Inv-loop μ-loop
+at-requires-2 c κs = search needs
+
+at-requires-3 : tie.Need-at-requires-3 Inv-loop μ-loop
+at-requires-3 c κs = search needs
+
+standing-requires : tie.Need-standing-requires Inv-loop μ-loop
+standing-requires c κs = search needs
+
+array-write-each : tie.Need-array-write-each Inv-loop μ-loop
+array-write-each c = omega arith
+
+add-i : tie.Need-add-i Inv-loop μ-loop
+add-i c = omega arith
+
+loop-less : tie.Need-loop-less Inv-loop μ-loop
+loop-less c = omega arith
+
+loop-again : tie.Need-loop-again Inv-loop μ-loop
+loop-again c =
+    let read = c .before in
+    let start = read .before .before .before .before in
+    let l = start .loop in
+    let a = start .before .before .args in
+    let e = l .inv .1 in (
+      omega arith,
+      length-set (l .each) _ _ ∙ e,
+      one-more (a .s .now) (a .granted) (l .each) (l .i) _ (omega arith) (l .inv .2)
+          (c .standing .ensures ∙ (λ t. standing (read .before .before .at .ensures t) (read .before .at2 .ensures t) (read .at3 .ensures t) (a .granted))),
+    )
+
+returns : tie.Need-returns Inv-loop μ-loop
+returns c = λ j h. c .before .loop .inv .2 j (omega arith)
+
+pub standings-spec : {M : Type 1} → statement M
+standings-spec =
+    tie.close
+    (tie.spec
+    Inv-loop
+    μ-loop
+    loop-holds
+    at-requires
+    at-requires-2
+    at-requires-3
+    standing-requires
+    array-write-each
+    add-i
+    loop-less
+    loop-again
+    returns)
