@@ -33,7 +33,7 @@ free held n = eqb (getD held n 0) 0
 abbrev pub marks : List ℕ → ℕ → Bool
 marks held n = not (free held n)
 
--- a request is none, or the priority of a unit with a cell for it: of 4 and 8 nothing is left by 4
+-- a request is 0, or the priority of a unit with a cell for it: a standing of 4 or 8 is 0 by 4
 abbrev pub askIn : ℕ → ℕ → Bool
 askIn ask standing = eqb ask 0 || eqb ask (standing % 4)
 

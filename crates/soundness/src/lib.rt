@@ -222,7 +222,7 @@ fn grant_held(held: [u8; 32], granted: u8) -> bool
     }
 }
 
-// Whether each number that asks does so at its priority, with a cell besides a granted one: of the standings 4 and 8 nothing is left by 4.
+// Whether each number that asks does so at its priority, with a cell besides a granted one: a standing of 4 or 8 is 0 by 4, and 0 is no request.
 fn asks_held(held: [u8; 32], asks: [u8; 32]) -> bool
     ensures { λ r. ⌜ r ≡ asksHeld held 0 asks ⌝ }
 {
