@@ -3,8 +3,8 @@ use mathlib.Core.Path.{_≡_, refl, sym, ap, subst, _∙_}
 use mathlib.Core.Bool.{Bool, true, false, not, cond, _&&_, _||_, and-false, and-assoc, and-true, or-false, false≢true}
 use mathlib.Core.Logic.{_↔_, _⊎_, inl, inr, ⊎-elim, Iff·rfl}
 use mathlib.Core.List.{List, [], _∷_}
-use Prim.Native.Nat.{ℕ, zero, suc, _+_, _-_, _≤_, _<_}
-use native.Mathlib.Nat.{zero-add}
+use Prim.Native.Nat.{ℕ, zero, suc, _+_, _-_, _%_, _≤_, _<_}
+use native.Mathlib.Nat.{zero-add, mod-eq-of-lt}
 use native.Mathlib.Numerals.{add-one}
 use native.Mathlib.Omega.{arith}
 use lib.Dec.{eqb, leb}
@@ -17,9 +17,9 @@ use Rattle.arbiter.specs.Arbitration.{besides}
 use Rattle.shelf.specs.Shelves.{blank, numberOf, numbers}
 use Rattle.shelf.specs.declared.Unit as U
 use Rattle.soundness.specs.State.{every, among, noneRepeated, askHeld, grantHasCell, requestHasCell, nobodyOr, lastsKnown, asksKnown, arbiterKnown, DeclaredIn}
-use Rattle.soundness.specs.Numbered.{standing, marks, askIn, asksHeld, grantIn, arbiterHeld}
+use Rattle.soundness.specs.Numbered.{standing, stands, marks, askIn, asksHeld, grantIn, arbiterHeld, pass, none}
 use Rattle.soundness.proofs.Facts.{imp-iff, every-iff, among-iff, quiet-iff}
-use Rattle.soundness.proofs.Pass.{priorityOf, cellsOf, stands, put, none, fresh, Placed, put-none, put-at, fresh-from-none, marks-from-none, pass, pass-all}
+use Rattle.soundness.proofs.Pass.{priorityOf, cellsOf, put, fresh, Placed, put-none, put-at, fresh-from-none, marks-from-none, pass-all}
 
 -- the code's tests, of 32 numbers
 pub nobody-in : (held : List ℕ) (number : ℕ) → number < 32 → marks held number ≡ nobodyOr (marks held) number
@@ -69,7 +69,7 @@ module _ (p c n granted : ℕ) (least : 1 ≤ p) (most : p ≤ 3) where
   pub stands-some : 1 ≤ standing p c n granted
   stands-some = at (leb 1 left) (eqb c 0)
     where
-      at : (x y : Bool) → 1 ≤ cond x p (cond y 5 4)
+      at : (x y : Bool) → 1 ≤ cond x p (cond y 8 4)
       at true y = least
       at false true = omega arith
       at false false = omega arith
@@ -81,31 +81,29 @@ module _ (p c n granted : ℕ) (least : 1 ≤ p) (most : p ≤ 3) where
       some zero h = absurd (h refl)
       some (suc m) h = le-leb 1 (suc m) (omega arith)
 
-      at : (x y : Bool) → leb 1 left ≡ x → eqb c 0 ≡ y → between 1 4 (cond x p (cond y 5 4)) ≡ leb 1 c
+      at : (x y : Bool) → leb 1 left ≡ x → eqb c 0 ≡ y → between 1 4 (cond x p (cond y 8 4)) ≡ leb 1 c
       at true y e f = let a = le-iff 1 left .0 e in and-iff (le-iff 1 p) (le-iff p 4) .1 (least, omega arith) ∙ sym (le-leb 1 c (omega arith))
       at false true e f = let a = eqb-true c 0 f in sym (lt-leb 1 c (omega arith))
       at false false e f = sym (some c (eqb-false c 0 f))
 
   pub stands-ask : (ask : ℕ) → askIn ask (standing p c n granted) ≡ askHeld granted ask n p c
-  stands-ask ask = ap (λ x. eqb ask 0 || x) (at (leb 1 left) (eqb c 0))
+  stands-ask ask = at (leb 1 left) (eqb c 0)
     where
-      never : (m : ℕ) → 4 ≤ m → (eqb ask m && leb ask 3) ≡ (eqb ask p && false)
-      never m h = same (eqb ask m && leb ask 3) (eqb ask p && false) (λ t. let w = and-iff (eq-iff ask m) (le-iff ask 3) .0 t in absurd (omega arith)) (λ t. absurd (false≢true (sym (and-false (eqb ask p)) ∙ t)))
+      twice : (z w : Bool) → (z || z) ≡ (z || (w && false))
+      twice true w = refl
+      twice false w = sym (and-false w)
 
-      at : (x y : Bool) → (eqb ask (cond x p (cond y 5 4)) && leb ask 3) ≡ (eqb ask p && x)
-      at true y =
-          let e = eq-iff ask p in
-          same (eqb ask p && leb ask 3) (eqb ask p && true) (λ t. and-true (eqb ask p) ∙ e .1 (and-iff e (le-iff ask 3) .0 t .0))
-          (λ t. let w = e .0 (sym (and-true (eqb ask p)) ∙ t) in and-iff e (le-iff ask 3) .1 (w, omega arith))
-      at false true = never 5 (omega arith)
-      at false false = never 4 (omega arith)
+      at : (x y : Bool) → (eqb ask 0 || eqb ask (cond x p (cond y 8 4) % 4)) ≡ (eqb ask 0 || (eqb ask p && x))
+      at true y = let m : p % 4 ≡ p = mod-eq-of-lt (omega arith) in (λ t. eqb ask 0 || eqb ask (m t)) ∙ ap (λ x. eqb ask 0 || x) (sym (and-true (eqb ask p)))
+      at false true = twice (eqb ask 0) (eqb ask p)
+      at false false = twice (eqb ask 0) (eqb ask p)
 
 -- the code's test, of the cells beside those taken
 pub stands-left : (p c n granted t : ℕ) → t ≡ cond (eqb n granted) 1 0 → t < c → p ≡ standing p c n granted
-stands-left p c n granted t e h = ap (λ x. cond x p (cond (eqb c 0) 5 4)) (sym (le-leb 1 (besides c (eqb n granted)) (omega arith)))
+stands-left p c n granted t e h = ap (λ x. cond x p (cond (eqb c 0) 8 4)) (sym (le-leb 1 (besides c (eqb n granted)) (omega arith)))
 
-pub stands-without : (p c n granted t w : ℕ) → t ≡ cond (eqb n granted) 1 0 → c ≤ t → w ≡ cond (eqb c 0) 5 4 → w ≡ standing p c n granted
-stands-without p c n granted t w e h f = f ∙ ap (λ x. cond x p (cond (eqb c 0) 5 4)) (sym (lt-leb 1 (besides c (eqb n granted)) (omega arith)))
+pub stands-without : (p c n granted t w : ℕ) → t ≡ cond (eqb n granted) 1 0 → c ≤ t → w ≡ cond (eqb c 0) 8 4 → w ≡ standing p c n granted
+stands-without p c n granted t w e h f = f ∙ ap (λ x. cond x p (cond (eqb c 0) 8 4)) (sym (lt-leb 1 (besides c (eqb n granted)) (omega arith)))
 
 abbrev pub Ranged : List U.Unit → Type 0
 Ranged us = (i : ℕ) → i < length us → (numberOf (getD us i blank) < 32) × (1 ≤ priorityOf (getD us i blank)) × (priorityOf (getD us i blank) ≤ 3)
@@ -165,7 +163,7 @@ module _ (granted : ℕ) (last asks : List ℕ) (us : List U.Unit) (placed : Pla
     silent : (k : ℕ) → known k ≡ false → held k → getD asks k 0 ≡ 0
     silent k e t =
         let z = put-none (stands granted) us k e in
-        ⊎-elim (λ x. x) (λ w. w .0 ∙ z) (or-iff (eq-iff (getD asks k 0) 0) (and-iff (eq-iff (getD asks k 0) (getD hs k 0)) (le-iff (getD asks k 0) 3)) .0 t)
+        ⊎-elim (λ x. x) (λ w. w ∙ ap (λ n. n % 4) z) (or-iff (eq-iff (getD asks k 0) 0) (eq-iff (getD asks k 0) (getD hs k 0 % 4)) .0 t)
 
     requests : (every (requestHasCell granted asks) us && asksKnown known 0 asks) ≡ asksHeld hs 0 asks
     requests =
@@ -179,7 +177,7 @@ module _ (granted : ℕ) (last asks : List ℕ) (us : List U.Unit) (placed : Pla
       where
         each : ((i : ℕ) → i < length us → requestHasCell granted asks (unit i) ≡ true) → ((n : ℕ) → (DeclaredIn us n → ⊥) → getD asks n 0 ≡ 0) → (k : ℕ) (b : Bool) → known k ≡ b → held k
         each f g k true e = let d = among-iff us k .0 e in subst held (d .2) (at-unit (d .0) (d .1) ∙ f (d .0) (d .1))
-        each f g k false e = or-iff (eq-iff (getD asks k 0) 0) (Iff·rfl {A = (eqb (getD asks k 0) (getD hs k 0) && leb (getD asks k 0) 3) ≡ true}) .1 (inl (g k (λ d. false≢true (sym e ∙ among-iff us k .1 d))))
+        each f g k false e = or-iff (eq-iff (getD asks k 0) 0) (Iff·rfl {A = eqb (getD asks k 0) (getD hs k 0 % 4) ≡ true}) .1 (inl (g k (λ d. false≢true (sym e ∙ among-iff us k .1 d))))
 
         undeclared : (n : ℕ) → (DeclaredIn us n → ⊥) → (b : Bool) → known n ≡ b → known n ≡ false
         undeclared n d true e = absurd (d (among-iff us n .0 e))

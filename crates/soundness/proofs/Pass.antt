@@ -13,7 +13,7 @@ use Rattle.outlet.proofs.Truth.{same, and-iff, or-iff, eq-iff, le-iff}
 use Rattle.shelf.specs.Shelves.{blank, numberOf, numbers}
 use Rattle.shelf.specs.declared.Unit as U
 use Rattle.soundness.specs.State.{among, noneRepeated, roomy}
-use Rattle.soundness.specs.Numbered.{standing, free, marks, arbiterHeld}
+use Rattle.soundness.specs.Numbered.{stands, free, marks, arbiterHeld, pass, none}
 
 -- what is put for a unit
 abbrev pub priorityOf : U.Unit → ℕ
@@ -21,9 +21,6 @@ priorityOf u = u .settings .priority
 
 abbrev pub cellsOf : U.Unit → ℕ
 cellsOf u = u .inlet .count
-
-abbrev pub stands : ℕ → U.Unit → ℕ
-stands granted u = standing (priorityOf u) (cellsOf u) (numberOf u) granted
 
 -- it is put for each, in the place of its number
 abbrev pub put : (U.Unit → ℕ) → List ℕ → List U.Unit → List ℕ
@@ -97,9 +94,6 @@ fresh-none f xs (u ∷ us) b =
     ∙ cross (free xs (numberOf u)) (not (among (numbers us) (numberOf u))) (unmarked xs us) (noneRepeated (numbers us))
 
 -- from no place taken at all
-abbrev pub none : List ℕ
-none = replicate 32 0
-
 none-at : (k n : ℕ) → _≡_ {A = ℕ} (getD (replicate k 0) n 0) 0
 none-at zero n = refl
 none-at (suc k) zero = refl
@@ -151,19 +145,14 @@ put-none f us n e = put-other f none us n e ∙ none-at 32 n
 pub put-at : (f : U.Unit → ℕ) (us : List U.Unit) (i : ℕ) → Placed f 32 us → noneRepeated (numbers us) ≡ true → i < length us → getD (put f none us) (numberOf (getD us i blank)) 0 ≡ f (getD us i blank)
 put-at f us i b t h = put-here f none us i b t h
 
--- the pass; in the end the arbiter
-module _ (granted : ℕ) (last asks : List ℕ) where
-  unfoldable pub pass : List ℕ → List U.Unit → Bool
-  pass held [] = arbiterHeld held granted last asks
-  pass held (u ∷ us) = free held (numberOf u) && pass (set held (numberOf u) (stands granted u)) us
-
-  pub pass-all : (held : List ℕ) (us : List U.Unit) → pass held us ≡ (fresh (stands granted) held us && arbiterHeld (put (stands granted) held us) granted last asks)
-  unfolding pass
-  pass-all held [] = refl
-  pass-all held (u ∷ us) =
-      let next = set held (numberOf u) (stands granted u) in
-      ap (λ x. free held (numberOf u) && x) (pass-all next us)
-      ∙ sym (and-assoc (free held (numberOf u)) (fresh (stands granted) next us) (arbiterHeld (put (stands granted) next us) granted last asks))
+-- the pass
+pub pass-all : (granted : ℕ) (last asks held : List ℕ) (us : List U.Unit) → pass granted last asks held us ≡ (fresh (stands granted) held us && arbiterHeld (put (stands granted) held us) granted last asks)
+unfolding pass
+pass-all granted last asks held [] = refl
+pass-all granted last asks held (u ∷ us) =
+    let next = set held (numberOf u) (stands granted u) in
+    ap (λ x. free held (numberOf u) && x) (pass-all granted last asks next us)
+    ∙ sym (and-assoc (free held (numberOf u)) (fresh (stands granted) next us) (arbiterHeld (put (stands granted) next us) granted last asks))
 
 pub roomy-iff : (bus count store rows : ℕ) → (roomy bus count store rows ≡ true) ↔ (((((bus ≡ 16) ⊎ (bus ≡ 32)) × (count ≤ 32)) × (8192 * count ≤ store)) × (count ≤ rows))
 unfolding roomy

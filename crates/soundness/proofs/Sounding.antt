@@ -21,9 +21,9 @@ use Rattle.state.specs.Bytes.{col, unitBy, unitIn, shelfIn}
 use Rattle.state.proofs.Laws.{units-length, unit-at}
 use Rattle.soundness.specs.State.{every, among, noneRepeated, roomy, belowBus, settingsGiven, couldBeGiven, withinCapacity, grantHasCell, requestHasCell, arbiterKnown, unitFits, soundOf}
 use Rattle.soundness.specs.Lanes.{formed, laneGood, lanes}
-use Rattle.soundness.specs.Numbered.{standingIn, free, arbiterHeld}
+use Rattle.soundness.specs.Numbered.{standingIn, stands, free, arbiterHeld, pass, none, Places, numbersHeld}
 use Rattle.soundness.specs.Soundings.{formedAll, soundIn}
-use Rattle.soundness.proofs.Pass.{none, priorityOf, cellsOf, stands, Placed, all-placed, pass, roomy-iff, bus-most}
+use Rattle.soundness.proofs.Pass.{priorityOf, cellsOf, Placed, all-placed, roomy-iff, bus-most}
 use Rattle.soundness.proofs.Facts.{every-iff}
 use Rattle.soundness.proofs.Numbered.{Ranged, stands-some, pass-document}
 
@@ -195,14 +195,17 @@ module _ (card : Card) (b : List ℕ) (store rows : ℕ) where
           let r = ranged i h in
           (r .0, stands-some (priorityOf u) (cellsOf u) (numberOf u) (getD b 803 0) (r .1) (r .2)))
 
-      pub number-below : (i : ℕ) → i < count b → col b i 0 < 32
+      pub places : Places b
       unfolding unitBy unitFits
-      number-below i h =
-          let m = bus-most bus (count b) store rows t in
-          let n = lt-iff (col b i 0) bus .0 (first (belowBus bus (unitIn b i)) (couldBeGiven card (unitIn b i)) (first (belowBus bus (unitIn b i) && couldBeGiven card (unitIn b i)) (withinCapacity (unitIn b i)) (parts i h .1))) in
-          omega (arith, n, m)
+      places = (
+        few,
+        λ i h.
+            let m = bus-most bus (count b) store rows t in
+            let n = lt-iff (col b i 0) bus .0 (first (belowBus bus (unitIn b i)) (couldBeGiven card (unitIn b i)) (first (belowBus bus (unitIn b i) && couldBeGiven card (unitIn b i)) (withinCapacity (unitIn b i)) (parts i h .1))) in
+            omega (arith, n, m),
+      )
 
-      pub begins : soundIn card b store rows ≡ left b none 0
+      pub begins : soundIn card b store rows ≡ numbersHeld b
       unfolding soundIn soundOf
       begins =
           let a = shelfIn b .arbiter in

@@ -12,7 +12,7 @@ ghost use Rattle.outlet.specs.Outlets.{between, ringFits};
 ghost use Rattle.state.specs.Bytes.{col, ringBy};
 ghost use Rattle.soundness.specs.State.{roomy as roomyIn, nobodyOr};
 ghost use Rattle.soundness.specs.Lanes.{highestLink, lesser, settingsAt, limitsAt, ringsAt, laneAt, laneGood, lanes};
-ghost use Rattle.soundness.specs.Numbered.{marks, standing as standingOf, Standings, asksHeld, grantIn, arbiterHeld};
+ghost use Rattle.soundness.specs.Numbered.{marks, standing as standingOf, Standings, asksHeld, grantIn, Places, numbersHeld};
 ghost use Rattle.soundness.specs.Soundings.{soundIn};
 
 // Whether the bus has a size, and there is room for its units.
@@ -170,11 +170,11 @@ fn taken(number: u8, granted: u8) -> u8
     if number == granted { 1 } else { 0 }
 }
 
-// How a unit stands: its priority, or 4 without a cell besides a granted one, or 5 without any.
+// How a unit stands: its priority, or 4 without a cell besides a granted one, or 8 without any.
 fn standing(priority: u8, cells: u8, number: u8, granted: u8) -> u8
     ensures { λ r. ⌜ r ≡ standingOf priority cells number granted ⌝ }
 {
-    let without = by(cells, 5, 4);
+    let without = by(cells, 8, 4);
     if taken(number, granted) < cells {
         priority
     } else {
@@ -222,30 +222,44 @@ fn grant_held(held: [u8; 32], granted: u8) -> bool
     }
 }
 
-// Whether each number that asks does so at its priority, with a cell besides a granted one.
+// Whether each number that asks does so at its priority, with a cell besides a granted one: a standing of 4 or 8 is 0 by 4, and 0 is no request.
 fn asks_held(held: [u8; 32], asks: [u8; 32]) -> bool
     ensures { λ r. ⌜ r ≡ asksHeld held 0 asks ⌝ }
 {
     let mut good = true;
     let mut i: usize = 0;
     while i < 32 {
-        good = good & ((asks[i] == 0) | ((asks[i] == held[i]) & (asks[i] <= 3)));
+        good = good & ((asks[i] == 0) | (asks[i] == held[i] % 4));
         i += 1;
     }
     good
 }
 
-// Whether the units, by their numbers, could have the open grant, the last grants and the requests.
-fn arbiter_held(held: [u8; 32], granted: u8, last: [u8; 3], asks: [u8; 32]) -> bool
-    ensures { λ r. ⌜ r ≡ arbiterHeld held granted last asks ⌝ }
+// By number, how each declared unit stands, and 0 where none is declared: no number twice, and the open grant, the last grants and the
+// requests are such as the units could have.
+fn numbers_good(s: &[u8]) -> bool
+    requires { ⌜ (length (now s) ≡ 2048) × Places (now s) ⌝ }
+    ensures { λ r. ⌜ r ≡ numbersHeld (now (s .entry)) ⌝ }
 {
-    grant_held(held, granted)
-        & (nobody_or(held, last[0]) & nobody_or(held, last[1]) & nobody_or(held, last[2]))
-        & asks_held(held, asks)
+    let granted = s[803];
+    let each = standings(s, granted);
+    let end = s[805] as usize;
+    let mut once = true;
+    let mut held = [0; 32];
+    let mut i: usize = 0;
+    while i < end {
+        let number = state::at(s, 0, i) as usize;
+        once = once & (held[number] == 0);
+        held[number] = each[i];
+        i += 1;
+    }
+    once
+        & (grant_held(held, granted)
+            & (nobody_or(held, s[800]) & nobody_or(held, s[801]) & nobody_or(held, s[802]))
+            & asks_held(held, state::asks_at(s)))
 }
 
-// First each unit by itself, all places at once; then how each stands by its number, 0 where none is declared: no number twice, and what
-// the arbiter has.
+// First each unit by itself, all places at once; then by number.
 pub fn sound(card: Card, s: &[u8], store: usize, rows: usize) -> bool
     requires { ⌜ length (now s) ≡ 2048 ⌝ }
     ensures { λ r. ⌜ r ≡ soundIn card (now (s .entry)) store rows ⌝ }
@@ -258,18 +272,5 @@ pub fn sound(card: Card, s: &[u8], store: usize, rows: usize) -> bool
     if !units_good(s, card, bus, count) {
         return false;
     }
-    let granted = s[803];
-    let each = standings(s, granted);
-    let end = count as usize;
-    let mut once = true;
-    let mut held = [0; 32];
-    let mut i: usize = 0;
-    while i < end {
-        let number = state::at(s, 0, i) as usize;
-        once = once & (held[number] == 0);
-        held[number] = each[i];
-        i += 1;
-    }
-    let last = [s[800], s[801], s[802]];
-    once & arbiter_held(held, granted, last, state::asks_at(s))
+    numbers_good(s)
 }

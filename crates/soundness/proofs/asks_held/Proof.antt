@@ -28,9 +28,6 @@ array-read-good-2 c = omega arith
 array-read-good-3 : tie.Need-array-read-good-3 Inv-loop μ-loop
 array-read-good-3 c = omega arith
 
-array-read-good-4 : tie.Need-array-read-good-4 Inv-loop μ-loop
-array-read-good-4 c = omega arith
-
 add-i : tie.Need-add-i Inv-loop μ-loop
 add-i c = omega arith
 
@@ -61,7 +58,6 @@ asks-held-spec =
     array-read-good
     array-read-good-2
     array-read-good-3
-    array-read-good-4
     add-i
     loop-less
     loop-again

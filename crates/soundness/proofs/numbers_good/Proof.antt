@@ -1,0 +1,136 @@
+-- `soundness::numbers_good` meets its contract. Assumes nothing.
+use Prim.Native.Nat.{_+_, _≤_, _-_, _<_}
+use native.Mathlib.Omega.{arith}
+use mathlib.Core.Path.{_≡_, refl, sym, ap, subst, _∙_}
+use mathlib.Core.Bool.{_&&_}
+use lib.ListN.{set}
+use borrow.Author.Needs.{needs}
+use Rattle.soundness.specs.Numbered.{free, asksHeld, arbiterHeld, numbersHeld}
+use Rattle.soundness.proofs.Sounding.{left, goes-on, ends}
+use Rattle.soundness.proofs.numbers_good.Statement.{statement}
+use Rattle.soundness.proofs.numbers_good.Tie as tie
+
+abbrev Inv-loop : tie.InvT-loop
+Inv-loop s granted each end once₀ held₀ i₀ once held i = (i ≤ end) × (numbersHeld s ≡ (once && left s held i))
+
+abbrev μ-loop : tie.MeasureT-loop
+μ-loop s granted each end once₀ held₀ i₀ once held i = end - i
+
+shared-slice-read-granted : tie.Need-shared-slice-read-granted Inv-loop μ-loop
+shared-slice-read-granted c = search needs
+
+standings-requires : tie.Need-standings-requires Inv-loop μ-loop
+standings-requires c κs = search needs
+
+shared-slice-read-end : tie.Need-shared-slice-read-end Inv-loop μ-loop
+shared-slice-read-end c = search needs
+
+cast-end : tie.Need-cast-end Inv-loop μ-loop
+cast-end c = search needs
+
+loop-holds : tie.Need-loop-holds Inv-loop μ-loop
+loop-holds c = (omega arith, refl)
+
+at-requires : tie.Need-at-requires Inv-loop μ-loop
+at-requires c κs = let p = c .before .before .before .before .before .before .pre in (p .0, omega arith, omega (arith, p .1 .0))
+
+cast-number : tie.Need-cast-number Inv-loop μ-loop
+cast-number c = search needs
+
+array-read-once : tie.Need-array-read-once Inv-loop μ-loop
+array-read-once c = let start = c .before .before in subst (λ n. n < 32) (sym (c .at .ensures)) (start .before .before .before .before .before .pre .1 .1 (start .loop .i) (omega arith))
+
+array-read-held : tie.Need-array-read-held Inv-loop μ-loop
+array-read-held c = let most = c .before .before .before .before .before .before .before .pre .1 .0 in omega (arith, most)
+
+array-write-held : tie.Need-array-write-held Inv-loop μ-loop
+array-write-held c = let start = c .before .before in subst (λ n. n < 32) (sym (c .at .ensures)) (start .before .before .before .before .before .pre .1 .1 (start .loop .i) (omega arith))
+
+add-i : tie.Need-add-i Inv-loop μ-loop
+add-i c = omega arith
+
+loop-less : tie.Need-loop-less Inv-loop μ-loop
+loop-less c = omega arith
+
+loop-again : tie.Need-loop-again Inv-loop μ-loop
+loop-again c =
+    let start = c .before .before in
+    let p = start .before .before .before .before .before in
+    let most = p .pre .1 .0 in
+    let b = p .args .s .now in
+    let l = start .loop in
+    let n = sym (c .at .ensures) in
+    let stands = sym (start .before .before .standings .ensures (l .i) (omega (arith, most))) in
+    (omega arith, l .inv .1 ∙ goes-on b most (l .held) (l .i) (l .once) (omega arith) ∙ (λ t. (l .once && free (l .held) (n t)) && left b (set (l .held) (n t) (stands t)) (l .i + 1)))
+
+grant-held-requires : tie.Need-grant-held-requires Inv-loop μ-loop
+grant-held-requires c κs = search needs
+
+shared-slice-read-nobody-or : tie.Need-shared-slice-read-nobody-or Inv-loop μ-loop
+shared-slice-read-nobody-or c = search needs
+
+nobody-or-requires : tie.Need-nobody-or-requires Inv-loop μ-loop
+nobody-or-requires c κs = search needs
+
+shared-slice-read-nobody-or-2 : tie.Need-shared-slice-read-nobody-or-2 Inv-loop μ-loop
+shared-slice-read-nobody-or-2 c = search needs
+
+nobody-or-requires-2 : tie.Need-nobody-or-requires-2 Inv-loop μ-loop
+nobody-or-requires-2 c κs = search needs
+
+shared-slice-read-nobody-or-3 : tie.Need-shared-slice-read-nobody-or-3 Inv-loop μ-loop
+shared-slice-read-nobody-or-3 c = search needs
+
+nobody-or-requires-3 : tie.Need-nobody-or-requires-3 Inv-loop μ-loop
+nobody-or-requires-3 c κs = search needs
+
+asks-at-requires : tie.Need-asks-at-requires Inv-loop μ-loop
+asks-at-requires c κs = search needs
+
+asks-held-requires : tie.Need-asks-held-requires Inv-loop μ-loop
+asks-held-requires c κs = search needs
+
+returns : tie.Need-returns Inv-loop μ-loop
+unfolding arbiterHeld
+returns c =
+    let third = c .before .before in
+    let second = third .before .before in
+    let first = second .before .before in
+    let granted = first .before .before in
+    let start = granted .before .before in
+    let p = start .before .before .before .before .before in
+    let b = p .args .s .now in
+    let l = start .loop in
+    let asks = c .asks-held .ensures ∙ ap (asksHeld (l .held) 0) (c .before .asks-at .ensures) in
+    (λ t. l .once && (granted .grant-held .ensures t && (first .nobody-or .ensures t && second .nobody-or2 .ensures t && third .nobody-or3 .ensures t) && asks t))
+    ∙ sym (l .inv .1 ∙ ap (λ x. l .once && x) (ends b (p .pre .1 .0) (l .held) (l .i) (omega arith)))
+
+pub numbers-good-spec : {M : Type 1} → statement M
+numbers-good-spec =
+    tie.close
+    (tie.spec
+    Inv-loop
+    μ-loop
+    shared-slice-read-granted
+    standings-requires
+    shared-slice-read-end
+    cast-end
+    loop-holds
+    at-requires
+    cast-number
+    array-read-once
+    array-read-held
+    array-write-held
+    add-i
+    loop-less
+    loop-again
+    grant-held-requires
+    shared-slice-read-nobody-or
+    nobody-or-requires
+    shared-slice-read-nobody-or-2
+    nobody-or-requires-2
+    shared-slice-read-nobody-or-3
+    nobody-or-requires-3
+    asks-at-requires
+    asks-held-requires
+    returns)
