@@ -1,7 +1,7 @@
 -- Hearing, of a state in lent bytes: what is written at the unit's place, and that it is the shelf after the hearing. Assumes nothing.
 use Prim.Native.Nat.{ℕ, zero, suc, _+_, _*_, _%_, _≤_, _<_}
 use native.Mathlib.Omega.{arith}
-use mathlib.Core.Path.{_≡_, refl, sym, ap, _∙_}
+use mathlib.Core.Path.{_≡_, refl, sym, ap, subst, _∙_}
 use mathlib.Core.Bool.{Bool, true, false, cond}
 use mathlib.Core.List.{List}
 use lib.Dec.{eqb}
@@ -9,16 +9,25 @@ use lib.ListN.{length, getD, take, length-take}
 use lib.Seq.{set-getD}
 use Rattle.bus.specs.Frame.{heard}
 use Rattle.card.specs.declared.Card.{Card}
-use Rattle.outlet.specs.Outlets.{queue}
-use Rattle.store.specs.Rings.{pushed}
+use Rattle.header.specs.declared.Link.{Link}
+use Rattle.octets.specs.Octets.{splice}
+use Rattle.outlet.specs.Outlets.{capacity, queue}
+use Rattle.outlet.specs.declared.Limits.{Limits}
+use Rattle.outlet.specs.declared.Ring.{Ring}
+use Rattle.queueing.specs.Hearing.{queueOf, limit, held, fateIn}
+use Rattle.queueing.specs.declared.Fate as F
+use Rattle.queueing.proofs.Fates.{queue-lt, fate-in}
+use Rattle.store.specs.Rings.{tail, pushed}
+use Rattle.store.specs.Places.{Cell, slotAt, outletSlot, putAt}
 use Rattle.shelf.specs.Shelves.{declared, blank}
 use Rattle.shelf.specs.Shelf.{Shelf}
 use Rattle.shelf.specs.declared.Unit as U
 use Rattle.shelf.proofs.Finding.{find-at}
 use Rattle.answer.specs.declared.Hearing as A
+use Rattle.answer.specs.declared.Hearing.the-variants.{Queued}
 use Rattle.answer.specs.Done.{Done, outcomeOf}
 use Rattle.answer.specs.Answers.{refused, refusedWith}
-use Rattle.state.specs.Bytes.{col, limitsBy, ringBy, unitBy, unitIn, shelfIn, withRing}
+use Rattle.state.specs.Bytes.{col, linkOf, limitsBy, ringBy, unitBy, unitIn, shelfIn, withRing}
 use Rattle.state.proofs.Laws.{unit-at, queue-put, ring-there}
 use Rattle.state.proofs.Kept.{ring-long, ring-other}
 use Rattle.soundness.specs.Soundings.{formedAll}
@@ -28,18 +37,18 @@ use Rattle.admit.specs.declared.Admitted as D
 use Rattle.admit.specs.declared.Admitted.the-variants.{At, Refused}
 use Rattle.admit.proofs.Laws.{decided-at, decided-refused}
 use Rattle.admit.proofs.InPlace.{in-place, refused-place}
-use Rattle.hearing.specs.Hearings.{planOf, fateBy, copyBy, copyOf, storeOf, doneAt, storeAt, hearDone}
+use Rattle.hearing.specs.Hearings.{planFor, planTo, planOf, fateBy, copyBy, slotOf, storeBy, copyOf, storeOf, doneAt, storeAt, hearDone}
 use Rattle.hearing.specs.InPlace.{stateBy, stateAt, outcomeAt, letInPlace, hearOut, hearState, hearStoreIn}
 use Rattle.hearing.specs.declared.Plan.{Plan}
 use Rattle.hearing.specs.declared.Plan.the-variants.{Queue, Lost}
 use Rattle.hearing.proofs.Plans.{plan-queue}
 
 -- the limits and a ring of a unit, read by themselves
-pub limits-in : (b : List ℕ) (i : ℕ) → limitsBy (col b i) ≡ unitIn b i .outlet .limits
+limits-in : (b : List ℕ) (i : ℕ) → limitsBy (col b i) ≡ unitIn b i .outlet .limits
 unfolding unitBy
 limits-in b i = refl
 
-pub ring-in : (b : List ℕ) (i q : ℕ) → q < 4 → ringBy (col b i) (16 + q) (20 + q) ≡ queue (unitIn b i .outlet) q
+ring-in : (b : List ℕ) (i q : ℕ) → q < 4 → ringBy (col b i) (16 + q) (20 + q) ≡ queue (unitIn b i .outlet) q
 unfolding unitBy
 ring-in b i zero h = refl
 ring-in b i (suc zero) h = refl
@@ -47,15 +56,59 @@ ring-in b i (suc (suc zero)) h = refl
 ring-in b i (suc (suc (suc zero))) h = refl
 ring-in b i (suc (suc (suc (suc q)))) h = absurd (omega arith)
 
--- the two ways a copy ends
-module _ (p : Plan) (b : List ℕ) (i : ℕ) where
-  pub lost-state : (fate : A.Hearing) → p ≡ Lost fate → b ≡ stateBy p b i
-  unfolding stateBy
-  lost-state fate e = sym (ap (λ x. stateBy x b i) e)
+-- a copy that is lost: its fate, and nothing is written
+pub lost-all : (u : U.Unit) (b : List ℕ) (i : ℕ) (store : List ℕ) (cell : Cell) (p : Plan) (fate : A.Hearing) → p ≡ Lost fate →
+    (fate ≡ fateBy p) × ((b ≡ stateBy p b i) × (store ≡ storeBy p u i store cell))
+unfolding fateBy stateBy storeBy
+lost-all u b i store cell p fate e = (sym (ap fateBy e), (sym (ap (λ x. stateBy x b i) e), sym (ap (λ x. storeBy x u i store cell) e)))
 
-  pub queued-state : (q : ℕ) → p ≡ Queue q → withRing b (16 + q) (20 + q) i (pushed (queue (unitIn b i .outlet) q)) ≡ stateBy p b i
+-- a copy that is addressed to the unit, by what is read of the unit's bytes: its queue, and the ring of that
+module _ (b : List ℕ) (i class : ℕ) (limits : Limits) (q : ℕ) (limits-is : limits ≡ limitsBy (col b i)) (queue-is : q ≡ queueOf limits class) where
+  own-queue : q ≡ queueOf (unitIn b i .outlet .limits) class
+  own-queue = queue-is ∙ ap (λ x. queueOf x class) (limits-is ∙ limits-in b i)
+
+  pub few : q < 4
+  few = subst (λ n. n < 4) (sym queue-is) (queue-lt limits class)
+
+  module _ (ring : Ring) (ring-is : ring ≡ ringBy (col b i) (16 + q) (20 + q)) (cap : ℕ) (capacity-is : cap ≡ capacity limits q) where
+    pub own-ring : ring ≡ queue (unitIn b i .outlet) q
+    own-ring = ring-is ∙ ring-in b i q few
+
+    own-capacity : cap ≡ capacity (unitIn b i .outlet .limits) q
+    own-capacity = capacity-is ∙ ap (λ x. capacity x q) (limits-is ∙ limits-in b i)
+
+    -- what becomes of it
+    pub own-plan : (header : ℕ) (link : Link) (lim : ℕ) (f : F.Fate) → link ≡ linkOf (col b i 1) → lim ≡ limit limits q → f ≡ fateIn cap lim (ring .count) link header →
+        planTo (unitIn b i) class header ≡ planFor f q
+    unfolding unitBy
+    own-plan header link lim f link-is limit-is fate-is =
+        let o = unitIn b i .outlet in
+        let l = limit-is ∙ ap (λ x. limit x q) (limits-is ∙ limits-in b i) in
+        let e : f ≡ fateIn (capacity (o .limits) q) (limit (o .limits) q) (held o q) (unitIn b i .settings .link) header =
+        fate-is ∙ (λ t. fateIn (own-capacity t) (l t) (own-ring t .count) (link-is t) header) in
+        ap (λ x. planFor x (queueOf (o .limits) class)) (fate-in o (unitIn b i .settings .link) class header)
+        ∙ ap (λ n. planFor (fateIn (capacity (o .limits) n) (limit (o .limits) n) (held o n) (unitIn b i .settings .link) header) n) (sym own-queue)
+        ∙ ap (λ x. planFor x q) (sym e)
+
+    -- where a queued one goes
+    pub own-slot : (p at : ℕ) → p ≡ tail ring cap → at ≡ slotAt i (outletSlot limits q p) → at ≡ slotOf (unitIn b i .outlet) i q
+    own-slot p at tail-is at-is =
+        let t : p ≡ tail (queue (unitIn b i .outlet) q) (capacity (unitIn b i .outlet .limits) q) = tail-is ∙ (λ j. tail (own-ring j) (own-capacity j)) in
+        at-is ∙ (λ j. slotAt i (outletSlot ((limits-is ∙ limits-in b i) j) q (t j)))
+
+-- a copy that is queued
+module _ (u : U.Unit) (b : List ℕ) (i : ℕ) (p : Plan) (q : ℕ) (e : p ≡ Queue q) where
+  pub queued-fate : Queued ≡ fateBy p
+  unfolding fateBy
+  queued-fate = sym (ap fateBy e)
+
+  pub queued-state : withRing b (16 + q) (20 + q) i (pushed (queue (unitIn b i .outlet) q)) ≡ stateBy p b i
   unfolding stateBy
-  queued-state q e = sym (ap (λ x. stateBy x b i) e)
+  queued-state = sym (ap (λ x. stateBy x b i) e)
+
+  pub queued-store : (store : List ℕ) (cell : Cell) → splice store (slotOf (u .outlet) i q) cell ≡ storeBy p u i store cell
+  unfolding storeBy putAt
+  queued-store store cell = sym (ap (λ x. storeBy x u i store cell) e)
 
 -- the fate is that of the copy
 pub fate-copy : (p : Plan) (u : U.Unit) → fateBy p ≡ copyBy p u .fate

@@ -1,11 +1,12 @@
--- The two ways a copy ends, and what a queued one may count on. Assumes nothing.
+-- Which copies are lost unheard, and what a queued one may count on. Assumes nothing.
 use Prim.Native.Nat.{ℕ, _+_, _-_, _≤_, _<_}
 use native.Mathlib.Omega.{arith}
-use mathlib.Core.Path.{_≡_, subst}
+use mathlib.Core.Path.{_≡_, refl, subst}
 use mathlib.Core.Bool.{Bool, true, false, cond}
 use mathlib.Core.List.{List}
 use lib.Dec.{ltb}
 use lib.ListN.{length, take, length-take}
+use borrow.Author.Tests.{not-true}
 use Rattle.outlet.specs.Outlets.{capacity, queue}
 use Rattle.bus.specs.declared.Heard as H
 use Rattle.bus.specs.declared.Heard.the-variants as frame
@@ -14,15 +15,13 @@ use Rattle.queueing.specs.declared.Fate as F
 use Rattle.queueing.specs.declared.Fate.the-variants as fates
 use Rattle.queueing.proofs.Fates.{queue-lt}
 use Rattle.store.specs.Rings.{back, tail}
-use Rattle.store.specs.Places.{Cell, slotAt, outletSlot, putAt}
+use Rattle.store.specs.Places.{slotAt, outletSlot}
 use Rattle.store.proofs.Rounds.{back-lt}
 use Rattle.store.proofs.Slots.{by-lt, start-inside, slot-inside}
 use Rattle.shelf.specs.declared.Unit as U
-use Rattle.answer.specs.declared.Hearing as A
 use Rattle.answer.specs.declared.Hearing.the-variants.{Other}
 use Rattle.admit.specs.Admission.{Housed}
-use Rattle.hearing.specs.Hearings.{addressed, planFor, planOf, storeBy}
-use Rattle.hearing.specs.declared.Plan.{Plan}
+use Rattle.hearing.specs.Hearings.{addressed, passesBy, asideOf, planFor, planTo, planOf}
 use Rattle.hearing.specs.declared.Plan.the-variants.{Queue, Lost}
 
 -- a copy is queued in one of the four queues
@@ -39,9 +38,16 @@ plan-queue u frame.Length q e = let z : _≡_ {A = ℕ} 0 1 = cc in absurd (omeg
 plan-queue u frame.Damaged q e = let z : _≡_ {A = ℕ} 0 1 = cc in absurd (omega arith)
 plan-queue u (frame.Cell target class header) q e = pick (addressed u target) e
   where
-    pick : (b : Bool) → cond b (planFor (fate (u .outlet) (u .settings .link) class header) (queueOf (u .outlet .limits) class)) (Lost Other) ≡ Queue q → q < 4
+    pick : (b : Bool) → cond b (planTo u class header) (Lost Other) ≡ Queue q → q < 4
     pick true e = subst (λ n. n < 4) (plan-for-queue (fate (u .outlet) (u .settings .link) class header) _ q e) (queue-lt (u .outlet .limits) class)
     pick false e = let z : _≡_ {A = ℕ} 0 1 = cc in absurd (omega arith)
+
+-- a frame that passes the unit by is lost there
+pub passes-lost : (u : U.Unit) (h : H.Heard) → passesBy u h ≡ true → planOf u h ≡ Lost (asideOf h)
+unfolding passesBy asideOf planOf
+passes-lost u frame.Length e = refl
+passes-lost u frame.Damaged e = refl
+passes-lost u (frame.Cell target class header) e = rw (not-true (addressed u target) e)
 
 -- the next place of a queue lies in the store
 back-le : (cap p : ℕ) → back cap p ≤ p
@@ -68,17 +74,6 @@ pub outlet-inside : (place bytes : ℕ) (u : U.Unit) (q : ℕ) → Housed place 
     slotAt place (outletSlot (u .outlet .limits) q (tail (queue (u .outlet) q) (capacity (u .outlet .limits) q))) + 56 ≤ bytes
 outlet-inside place bytes u q h few =
     omega (arith, slot-inside place (outletSlot (u .outlet .limits) q (tail (queue (u .outlet) q) (capacity (u .outlet .limits) q))) (slot-below place bytes u q h few) .1, h .inside)
-
--- what a copy makes of the store
-module _ (u : U.Unit) (p : Plan) (place : ℕ) (store : List ℕ) (cell : Cell) where
-  pub lost-store : (fate : A.Hearing) → p ≡ Lost fate → store ≡ storeBy p u place store cell
-  unfolding storeBy
-  lost-store fate e = rw e
-
-  pub queued-store : (q : ℕ) → p ≡ Queue q →
-      putAt store place (outletSlot (u .outlet .limits) q (tail (queue (u .outlet) q) (capacity (u .outlet .limits) q))) cell ≡ storeBy p u place store cell
-  unfolding storeBy
-  queued-store q e = rw e
 
 -- the 56 bytes before parity
 pub before-parity : (f : List ℕ) → length f ≡ 57 → length (take 56 f) ≡ 56

@@ -1,6 +1,6 @@
 -- What becomes of a heard frame at a unit. Assumes nothing.
 use Prim.Native.Nat.{ℕ}
-use mathlib.Core.Bool.{Bool, true, cond}
+use mathlib.Core.Bool.{Bool, true, not, cond}
 use mathlib.Core.List.{List}
 use lib.Dec.{eqb}
 use lib.ListN.{length, take}
@@ -50,13 +50,27 @@ planFor fates.Full q = Lost Full
 planFor fates.Clp q = Lost Clp
 planFor fates.Queued q = Queue q
 
+-- what becomes of a copy of this class with this header that is addressed to the unit
+abbrev pub planTo : U.Unit → ℕ → ℕ → Plan
+planTo u class header = planFor (fate (u .outlet) (u .settings .link) class header) (queueOf (u .outlet .limits) class)
+
 -- "Bad parity .. is `damaged`. Not addressed: `other` .. Then: VPI above 255 at a UNI unit, `wide`; queue at capacity, `full`; CLP 1 and the
 -- queue at its limit or above, `clp`; else `queued`."
 unfoldable pub planOf : U.Unit → H.Heard → Plan
 planOf u frame.Length = Lost Damaged
 planOf u frame.Damaged = Lost Damaged
-planOf u (frame.Cell target class header) =
-    cond (addressed u target) (planFor (fate (u .outlet) (u .settings .link) class header) (queueOf (u .outlet .limits) class)) (Lost Other)
+planOf u (frame.Cell target class header) = cond (addressed u target) (planTo u class header) (Lost Other)
+
+-- whether a frame passes the unit by, and its fate there if it does
+unfoldable pub passesBy : U.Unit → H.Heard → Bool
+passesBy u frame.Length = true
+passesBy u frame.Damaged = true
+passesBy u (frame.Cell target class header) = not (addressed u target)
+
+unfoldable pub asideOf : H.Heard → A.Hearing
+asideOf frame.Length = Damaged
+asideOf frame.Damaged = Damaged
+asideOf (frame.Cell target class header) = Other
 
 -- the fate that a plan comes to
 unfoldable pub fateBy : Plan → A.Hearing

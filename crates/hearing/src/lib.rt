@@ -14,10 +14,10 @@ ghost use Rattle.answer.specs.Answers.{outcomeBy};
 ghost use Rattle.bus.specs.Frame.{heard as heardOf};
 ghost use Rattle.state.specs.Bytes.{unitIn};
 ghost use Rattle.admit.specs.Admission.{Housed};
-ghost use Rattle.hearing.specs.Hearings.{addressed as addressedTo, planFor, planOf, fateBy, storeOf};
+ghost use Rattle.hearing.specs.Hearings.{addressed as addressedTo, passesBy, asideOf, planTo, planOf, fateBy, storeBy, storeOf};
 ghost use Rattle.hearing.specs.InPlace.{stateBy, stateAt, outcomeAt, hearOut, hearState, hearStoreIn};
 
-// A copy is queued in this queue, or lost with this fate.
+// A copy is queued in this queue, or lost with this fate. The definitions say so by it; no code makes one.
 pub enum Plan {
     Queue(u8),
     Lost(Hearing),
@@ -38,73 +38,93 @@ fn addressed_at(s: &[u8], place: usize, target: Target) -> bool
     }
 }
 
-// What becomes of a copy with this fate, which belongs into this queue.
-fn plan_for(fate: Fate, queue: u8) -> Plan
-    ensures { λ r. ⌜ r ≡ planFor fate queue ⌝ }
+// Whether a heard frame passes the unit in a place by: it is damaged, or not addressed to it.
+pub fn passes(s: &[u8], place: usize, heard: Heard) -> bool
+    requires { ⌜ (length (now s) ≡ 2048) × (place < 32) ⌝ }
+    ensures { λ r. ⌜ r ≡ passesBy (unitIn (now (s .entry)) place) heard ⌝ }
 {
-    match fate {
-        Fate::Wide => Plan::Lost(Hearing::Wide),
-        Fate::Full => Plan::Lost(Hearing::Full),
-        Fate::Clp => Plan::Lost(Hearing::Clp),
-        Fate::Queued => Plan::Queue(queue),
+    match heard {
+        Heard::Length => true,
+        Heard::Damaged => true,
+        Heard::Cell {
+            target,
+            class: _,
+            header: _,
+        } => !addressed_at(s, place, target),
     }
 }
 
-// What becomes of a heard frame at the unit in a place. What is no frame is damaged.
-fn plan_at(s: &[u8], place: usize, heard: Heard) -> Plan
-    requires { ⌜ (length (now s) ≡ 2048) × (place < 32) ⌝ }
-    ensures { λ r. ⌜ r ≡ planOf (unitIn (now (s .entry)) place) heard ⌝ }
+// The fate of a heard frame at a unit that it passes by.
+pub fn aside(heard: Heard) -> Hearing
+    ensures { λ r. ⌜ r ≡ asideOf heard ⌝ }
 {
     match heard {
-        Heard::Length => Plan::Lost(Hearing::Damaged),
-        Heard::Damaged => Plan::Lost(Hearing::Damaged),
+        Heard::Length => Hearing::Damaged,
+        Heard::Damaged => Hearing::Damaged,
         Heard::Cell {
-            target,
-            class,
-            header,
-        } => {
-            if !addressed_at(s, place, target) {
-                return Plan::Lost(Hearing::Other);
-            }
-            let link = state::link_of(state::at(s, 1, place));
-            let outlet = state::outlet_at(s, place);
-            let limits = outlet.limits;
-            plan_for(
-                queueing::fate_of(outlet, link, class, header),
-                queueing::queue_of(limits, class),
-            )
+            target: _,
+            class: _,
+            header: _,
+        } => Hearing::Other,
+    }
+}
+
+// What becomes of a copy of this class with this header that is addressed to the unit in a place. A queued copy goes
+// behind the others in its queue. Of the outlet only the limits and that queue's ring are read.
+fn accept(
+    s: &mut [u8],
+    place: usize,
+    class: u8,
+    header: u32,
+    cell: &[u8],
+    store: &mut [u8],
+) -> Hearing
+    requires { ⌜ (length (now s) ≡ 2048) × (length (now cell) ≡ 56) × Housed place (unitIn (now s) place) (length (now store)) ⌝ }
+    ensures { λ r. ⌜ r ≡ fateBy (planTo (unitIn (now (s .entry)) place) class header) ⌝ }
+    ensures kept { λ _. ⌜ (now (s .exit) ≡ stateBy (planTo (unitIn (now (s .entry)) place) class header) (now (s .entry)) place)
+        × (now (store .exit) ≡ storeBy (planTo (unitIn (now (s .entry)) place) class header) (unitIn (now (s .entry)) place) place (now (store .entry)) (now (cell .entry))) ⌝ }
+{
+    let link = state::link_of(state::at(s, 1, place));
+    let limits = state::limits_at(s, place);
+    let queue = queueing::queue_of(limits, class);
+    let capacity = outlet::capacity(limits, queue);
+    let q = queue as usize;
+    let ring = state::ring_at(s, 16 + q, 20 + q, place);
+    let limit = queueing::limit(limits, queue);
+    match queueing::fate_in(capacity, limit, ring.count, link, header) {
+        Fate::Wide => Hearing::Wide,
+        Fate::Full => Hearing::Full,
+        Fate::Clp => Hearing::Clp,
+        Fate::Queued => {
+            let tail = store::tail(ring, capacity);
+            state::put_ring(s, 16 + q, 20 + q, place, store::pushed(ring));
+            store::put_cell(store, store::outlet_at(place, limits, queue, tail), cell);
+            Hearing::Queued
         }
     }
 }
 
-// The fate that a plan comes to.
-fn fate_by(plan: Plan) -> Hearing
-    ensures { λ r. ⌜ r ≡ fateBy plan ⌝ }
-{
-    match plan {
-        Plan::Queue(_) => Hearing::Queued,
-        Plan::Lost(fate) => fate,
-    }
-}
-
-// The unit in a place hears a frame of this cell. A queued copy goes behind the others in its queue.
+// The unit in a place hears a frame of this cell. What is no frame is damaged.
 pub fn hear_one(s: &mut [u8], place: usize, heard: Heard, cell: &[u8], store: &mut [u8]) -> Hearing
     requires { ⌜ (length (now s) ≡ 2048) × (length (now cell) ≡ 56) × Housed place (unitIn (now s) place) (length (now store)) ⌝ }
     ensures { λ r. ⌜ r ≡ fateBy (planOf (unitIn (now (s .entry)) place) heard) ⌝ }
     ensures kept { λ _. ⌜ (now (s .exit) ≡ stateBy (planOf (unitIn (now (s .entry)) place) heard) (now (s .entry)) place)
         × (now (store .exit) ≡ storeOf (unitIn (now (s .entry)) place) heard place (now (store .entry)) (now (cell .entry))) ⌝ }
 {
-    let plan = plan_at(s, place, heard);
-    let Plan::Queue(queue) = plan else {
-        return fate_by(plan);
-    };
-    let q = queue as usize;
-    let limits = state::limits_at(s, place);
-    let ring = state::ring_at(s, 16 + q, 20 + q, place);
-    let tail = store::tail(ring, outlet::capacity(limits, queue));
-    state::put_ring(s, 16 + q, 20 + q, place, store::pushed(ring));
-    store::put_cell(store, store::outlet_at(place, limits, queue, tail), cell);
-    Hearing::Queued
+    match heard {
+        Heard::Length => Hearing::Damaged,
+        Heard::Damaged => Hearing::Damaged,
+        Heard::Cell {
+            target,
+            class,
+            header,
+        } => {
+            if !addressed_at(s, place, target) {
+                return Hearing::Other;
+            }
+            accept(s, place, class, header, cell, store)
+        }
+    }
 }
 
 // The unit in a place hears a frame handed in.

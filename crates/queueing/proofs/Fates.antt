@@ -14,7 +14,7 @@ use Rattle.outlet.specs.declared.Mode.{Mode}
 use Rattle.outlet.specs.declared.Mode.the-variants.{One, Four}
 use Rattle.outlet.specs.declared.Limits.{Limits}
 use Rattle.outlet.specs.declared.Outlet.{Outlet}
-use Rattle.queueing.specs.Hearing.{queueIn, queueOf, limitOf, limit, held, busVpi, busClp, tooWide, fateAt, fate, TooWide, FateAt, FateIn, FateOf}
+use Rattle.queueing.specs.Hearing.{queueIn, queueOf, limitOf, limit, held, busVpi, busClp, tooWide, fateAt, fateIn, fate, TooWide, FateAt, FateIn, FateOf}
 use Rattle.queueing.specs.declared.Fate.{Fate}
 use Rattle.queueing.specs.declared.Fate.the-variants.{Wide, Full, Clp, Queued}
 
@@ -43,6 +43,12 @@ own-queue limits class e h = ap (λ m. queueIn m class) e ∙ mod-eq-of-lt h
 pub unlimited : (limits : Limits) (q : ℕ) → limits .mode ≡ Four → (q ≡ 0) ⊎ (q ≡ 3) → limit limits q ≡ capacity limits q
 unlimited limits q e w =
     limit-in limits q Four e ∙ ⊎-elim (λ z. rw (ne-eqb q 1 (λ p. omega arith), ne-eqb q 2 (λ p. omega arith))) (λ z. rw (ne-eqb q 1 (λ p. omega arith), ne-eqb q 2 (λ p. omega arith))) w
+
+-- the fate goes by the numbers of the queue alone
+pub fate-in : (outlet : Outlet) (link : Link) (class header : ℕ) →
+    fate outlet link class header ≡ fateIn (capacity (outlet .limits) (queueOf (outlet .limits) class)) (limit (outlet .limits) (queueOf (outlet .limits) class)) (held outlet (queueOf (outlet .limits) class)) link header
+unfolding fate
+fate-in outlet link class header = refl
 
 -- a copy that is not too wide goes by its queue
 pub fate-narrow : (outlet : Outlet) (link : Link) (class header : ℕ) → tooWide link header ≡ false →

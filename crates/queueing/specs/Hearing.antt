@@ -54,11 +54,14 @@ tooWide Nni header = false
 unfoldable pub fateAt : ℕ → ℕ → ℕ → ℕ → Fate
 fateAt held capacity limit clp = cond (leb capacity held) Full (cond (eqb clp 1 && leb limit held) Clp Queued)
 
--- "Then: VPI above 255 at a UNI unit, `wide`;" and the rest at the queue of the cell's class
+-- "Then: VPI above 255 at a UNI unit, `wide`;" and the rest at a queue; the queue is that of the cell's class
+abbrev pub fateIn : ℕ → ℕ → ℕ → Link → ℕ → Fate
+fateIn capacity limit held link header = cond (tooWide link header) Wide (fateAt held capacity limit (busClp header))
+
 unfoldable pub fate : Outlet → Link → ℕ → ℕ → Fate
 fate outlet link class header =
     let q = queueOf (outlet .limits) class in
-    cond (tooWide link header) Wide (fateAt (held outlet q) (capacity (outlet .limits) q) (limit (outlet .limits) q) (busClp header))
+    fateIn (capacity (outlet .limits) q) (limit (outlet .limits) q) (held outlet q) link header
 
 -- The same as facts: what each fate says
 abbrev pub TooWide : Link → ℕ → Type 0

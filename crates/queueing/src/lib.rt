@@ -5,7 +5,7 @@ use outlet::Limits;
 use outlet::Mode;
 use outlet::Outlet;
 ghost use mathlib.Core.Path.{_≡_};
-ghost use Rattle.queueing.specs.Hearing.{queueOf, limit as limitIn, held as heldIn, atLimit, tooWide, fateAt, fate};
+ghost use Rattle.queueing.specs.Hearing.{queueOf, limit as limitIn, held as heldIn, atLimit, tooWide, fateAt, fateIn};
 ghost use Rattle.queueing.specs.Taking.{leaving, marks as marksIt, marked as markedOf, outgoing as outgoingOf};
 
 // What befalls a copy that is addressed to a unit.
@@ -89,22 +89,15 @@ pub fn fate_at(held: u8, capacity: u8, limit: u8, clp: u8) -> Fate
     Fate::Queued
 }
 
-// What befalls a copy of this class with this bus header.
-pub fn fate_of(outlet: Outlet, link: Link, class: u8, header: u32) -> Fate
-    ensures { λ r. ⌜ r ≡ fate outlet link class header ⌝ }
+// What befalls a copy with this bus header at a unit with this link, at a queue that holds so many cells.
+pub fn fate_in(capacity: u8, limit: u8, held: u8, link: Link, header: u32) -> Fate
+    ensures { λ r. ⌜ r ≡ fateIn capacity limit held link header ⌝ }
 {
     if too_wide(link, header) {
         return Fate::Wide;
     }
-    let limits = outlet.limits;
-    let q = queue_of(limits, class);
     let clp = (header % 2) as u8;
-    fate_at(
-        held(outlet, q),
-        outlet::capacity(limits, q),
-        limit(limits, q),
-        clp,
-    )
+    fate_at(held, capacity, limit, clp)
 }
 
 // Which cell leaves next.
