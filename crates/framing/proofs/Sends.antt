@@ -29,9 +29,8 @@ use Rattle.state.proofs.Kept.{ring-long}
 use Rattle.admit.specs.Admission.{unitAt, withUnit, withInlet, Housed}
 use Rattle.framing.specs.Sending.{sentRises, heardByAll, heardStore, sentFrame, cellOut, sentBy, sentStore, AllHoused}
 use Rattle.framing.specs.Frames.{checked}
-use Rattle.framing.specs.Scenes.{heededOf, heededBy, AllHousedIn}
+use Rattle.framing.specs.Scenes.{Tally, heededOf, heededBy, AllHousedIn}
 use Rattle.framing.specs.InPlace.{outState, sentState}
-use Rattle.framing.specs.declared.Heeded.{Heeded}
 use Rattle.framing.proofs.Decoded.{shelf-heard, tally-heard, store-heard}
 
 -- the oldest cell of an inlet lies in the store
@@ -115,7 +114,7 @@ module _ (b : List ℕ) (place : ℕ) (store : List ℕ) (long : length b ≡ 20
     unfolding sealed
     is-cell = sym (take-at cell (parity cell ∷ []) 56 full) ∙ ap (take 56) ef
 
-    abbrev counted : Heeded → ℕ → Heeded
+    abbrev counted : Tally → ℕ → Tally
     counted t r = record { each = set (t .each) place (bitOr (getD (t .each) place 0) r); copies = t .copies; addressed = t .addressed }
 
     sent-heard : heardByAll (shelfIn s) h ≡ heardByAll (cellOut (shelfIn b) place) (heard (sentFrame (shelfIn b) place store))
@@ -124,9 +123,9 @@ module _ (b : List ℕ) (place : ℕ) (store : List ℕ) (long : length b ≡ 20
     s-long : length s ≡ 2048
     s-long = ap length es ∙ out-long
 
-    pub sent-tally : (t : Heeded) (r : ℕ) → t ≡ heededBy h cell s store .tally → r ≡ sentRises (t .addressed) → counted t r ≡ heededOf (sentBy (shelfIn b) place store)
+    pub sent-tally : (t : Tally) (r : ℕ) → t ≡ heededBy h cell s store .tally → r ≡ sentRises (t .addressed) → counted t r ≡ heededOf (sentBy (shelfIn b) place store)
     unfolding sentBy
-    sent-tally t r et er = ap (counted t) er ∙ ap (λ (x : Heeded). counted x (sentRises (x .addressed))) (et ∙ tally-heard h cell s store s-long ∙ ap heededOf sent-heard)
+    sent-tally t r et er = ap (counted t) er ∙ ap (λ (x : Tally). counted x (sentRises (x .addressed))) (et ∙ tally-heard h cell s store s-long ∙ ap heededOf sent-heard)
 
     pub sent-bytes : (now : List ℕ) → now ≡ heededBy h cell s store .bytes → now ≡ sentState b place store
     unfolding sentState
