@@ -1,70 +1,69 @@
+-- `framing::frame_on` meets its contract. Assumes nothing.
+use Prim.Native.Nat.{_+_, _%_, _^_}
+use native.Mathlib.Omega.{arith}
+use mathlib.Core.Path.{_≡_, ap, _∙_}
+use mathlib.Core.Bool.{false}
+use lib.ListN.{length, getD}
+use Rattle.arbiter.specs.Arbitration.{grantedBy}
+use Rattle.state.specs.Bytes.{withTurn}
+use Rattle.answer.specs.declared.Answer.the-variants.{Framed}
 use borrow.Author.Needs.{needs}
 use Rattle.framing.proofs.frame_on.Statement.{statement}
 use Rattle.framing.proofs.frame_on.Tie as tie
-use Rattle.framing.proofs.frame_on.Reads as reads
-use Rattle.framing.proofs.frame_on.Lts as lts
-use Rattle.arbiter.proofs.Arbiter.grant.Reads as grant-reads
-use Rattle.framing.proofs.renew_all.Reads as renew-all-reads
-use Rattle.framing.proofs.send_granted.Reads as send-granted-reads
-use Rattle.state.proofs.frame_at.Reads as frame-at-reads
-use Rattle.state.proofs.put_turn.Reads as put-turn-reads
-use Rattle.std.proofs.num.wrapping_add_u16.Reads as wrapping-add-u16-reads
 
--- src/lib.rt:211:9
 frame-at-requires : tie.Need-frame-at-requires
 frame-at-requires c κs = search needs
 
--- src/lib.rt:212:18
 slice-read-sender : tie.Need-slice-read-sender
 slice-read-sender c = search needs
 
--- src/lib.rt:213:17
 slice-read-count : tie.Need-slice-read-count
 slice-read-count c = search needs
 
--- src/lib.rt:214:9
 renew-all-requires : tie.Need-renew-all-requires
 renew-all-requires c κs = search needs
 
--- src/lib.rt:215:9
 send-granted-requires : tie.Need-send-granted-requires
-send-granted-requires c κs = search needs
+send-granted-requires c κs = c .before .before .before .before .before .before .before .before .before .before .before .before .before .before .pre
 
--- src/lib.rt:216:9
 grant-requires : tie.Need-grant-requires
 grant-requires c κs = search needs
 
--- src/lib.rt:222:9
 wrapping-add-u16-requires : tie.Need-wrapping-add-u16-requires
 wrapping-add-u16-requires c κs = search needs
 
--- src/lib.rt:218:5
 put-turn-requires : tie.Need-put-turn-requires
-put-turn-requires c κs = ?
+put-turn-requires c κs = let e : length (c .before .before .before .before .before .before .before .before .before .before .before .before .send-granted .last .0) ≡ length (c .before .before .before .before .before .before .before .before .before .before .before .before .before .before .before .before .before .before .before .before .before .before .before .before .before .before .before .args .s .now) = search needs in e ∙ c .before .before .before .before .before .before .before .before .before .before .before .before .before .before .before .before .before .before .before .before .before .before .before .before .before .before .before .pre .0
 
--- src/lib.rt:232:13
 cast-t32 : tie.Need-cast-t32
-cast-t32 c = ?
+cast-t32 c = omega (arith, c .before .before .before .before .before .before .before .before .before .before .before .before .before .before .before .before .before .before .before .before .before .before .slice-known6 .given 805)
 
--- src/lib.rt:204:1
 same-length : tie.Need-same-length
 same-length c = search needs
 
--- src/lib.rt:204:1
 same-length-2 : tie.Need-same-length-2
 same-length-2 c = search needs
 
--- src/lib.rt:204:1
 same-length-3 : tie.Need-same-length-3
 same-length-3 c = search needs
 
--- src/lib.rt:204:1
 same-length-4 : tie.Need-same-length-4
 same-length-4 c = search needs
 
--- src/lib.rt:204:1
 returns : tie.Need-returns
-returns c = ?
+returns c =
+    let b = c .before .before .before .before .before .before .before .before .before .before .before .before .before .before .before .before .before .before .before .before .before .before .before .before .before .before .before .before .before .before .args .s .now in
+    let n = c .before .before .before .before .before .before .before .before .before .before .before .before .before .before .before .before .before .before .before .before .before .before .before .before .frame-at .ensures in
+    let g = c .before .before .before .before .before .before .grant .ensures ∙ ap grantedBy (c .before .before .before .before .before .before .before .before .before .before .before .before .before .before .before .before .before .before .before .before .renew-all .ensures) in
+    let w = c .before .before .before .before .before .before .before .before .before .before .before .before .before .before .before .send-granted .ensures in
+    let next = c .before .before .before .wrapping-add-u16 .ensures ∙ ap (λ k. (k + 1) % 2 ^ 16) n in (
+      (λ i.
+          record {
+            answer = Framed (n i) (getD b 803 0) (g i .unit) (w .0 i .copies);
+            rises = record { from = 0; to = getD b 805 0; anew = false; each = w .0 i .each };
+          }),
+      (c .before .before .put-turn .ensures ∙ (λ i. withTurn (w .1 .0 i) (g i .arbiter) (g i .unit) (next i)), w .1 .1),
+    )
 
 pub frame-on-spec : {M : Type 1} → statement M
 frame-on-spec =

@@ -1,63 +1,83 @@
+-- `framing::send_granted` meets its contract. Assumes nothing.
+use native.Mathlib.Omega.{arith}
+use mathlib.Core.Path.{sym, ap, _∙_}
+use lib.ListN.{getD}
+use Rattle.shelf.specs.Shelves.{declared}
+use Rattle.shelf.proofs.Finding.{find-at, declared-length}
+use Rattle.state.specs.Bytes.{shelfIn}
+use Rattle.state.proofs.Laws.{units-length}
+use Rattle.framing.specs.Frames.{listenedBy, storeBy, bufferBy}
+use Rattle.framing.specs.Scenes.{talliedBy, heededOf}
+use Rattle.framing.specs.InPlace.{stateBy}
 use borrow.Author.Needs.{needs}
 use Rattle.framing.proofs.send_granted.Statement.{statement}
 use Rattle.framing.proofs.send_granted.Tie as tie
-use Rattle.framing.proofs.send_granted.Reads as reads
-use Rattle.framing.proofs.send_granted.Lts as lts
-use Rattle.framing.proofs.send.Reads as send-reads
-use Rattle.framing.proofs.silence.Reads as silence-reads
-use Rattle.state.proofs.find.Reads as find-reads
 
--- src/lib.rt:197:26
 slice-reshared-read-find : tie.Need-slice-reshared-read-find
 slice-reshared-read-find c = search needs
 
--- src/lib.rt:197:11
 find-requires : tie.Need-find-requires
 find-requires c κs = search needs
 
--- src/lib.rt:198:19
 enum-known-place : tie.Need-enum-known-place
 enum-known-place c = search needs
 
--- src/lib.rt:198:29
 send-requires : tie.Need-send-requires
-send-requires c κs = ?
+send-requires c κs =
+    let s = c .before .before .before .before .before .before .before .before .before .before .before .before .before in
+    let b = s .args .s .now in
+    let e = sym (c .before .before .before .before .before .before .before .find .ensures) ∙ c .before .before .before .before .before .place .given .1 in
+    let w = find-at (getD b 803 0) (declared (shelfIn b)) _ .0 e .inside in
+    (s .pre .0, s .pre .1, omega (arith, w, declared-length (shelfIn b) (units-length b 0 32)), s .pre .2, s .pre .3)
 
--- src/lib.rt:199:27
 enum-told : tie.Need-enum-told
 enum-told c = search needs
 
--- src/lib.rt:199:27
 silence-requires : tie.Need-silence-requires
 silence-requires c κs = search needs
 
--- src/lib.rt:190:1
 same-length : tie.Need-same-length
 same-length c = search needs
 
--- src/lib.rt:190:1
 same-length-2 : tie.Need-same-length-2
 same-length-2 c = search needs
 
--- src/lib.rt:190:1
 same-length-3 : tie.Need-same-length-3
 same-length-3 c = search needs
 
--- src/lib.rt:190:1
 same-length-4 : tie.Need-same-length-4
 same-length-4 c = search needs
 
--- src/lib.rt:190:1
 returns : tie.Need-returns
-returns c = ?
+unfolding listenedBy storeBy bufferBy stateBy
+returns c =
+    let a = c .before .before .before .before .before .before .before .before .before .before .before .before .before .before .before .before .before .before .before .before .before .before .args in
+    let b = a .s .now in
+    let e = sym (sym (c .before .before .before .before .before .before .before .before .before .before .before .before .before .before .before .before .find .ensures) ∙ c .before .before .before .before .before .before .before .before .before .before .before .before .before .before .place .given .1) in
+    let w = c .before .before .before .before .before .before .before .before .send .ensures in (
+      w .0 ∙ ap (λ x. heededOf (listenedBy x (shelfIn b) (a .store .now))) e,
+      (
+        w .1 .0 ∙ ap (λ x. stateBy x b (a .store .now)) e,
+        (w .1 .1 .0 ∙ ap (λ x. storeBy x (shelfIn b) (a .store .now)) e, w .1 .1 .1 ∙ ap (λ x. bufferBy x (shelfIn b) (a .store .now) (a .buffer .now)) e),
+      ),
+    )
 
--- src/lib.rt:190:1
 same-length-5 : tie.Need-same-length-5
 same-length-5 c = search needs
 
--- src/lib.rt:190:1
 returns-2 : tie.Need-returns-2
-returns-2 c = ?
+unfolding listenedBy storeBy bufferBy stateBy
+returns-2 c =
+    let s = c .before .before .before .before .before .before .before .before .before in
+    let a = s .args in
+    let b = a .s .now in
+    let e = sym (sym (c .before .before .before .find .ensures) ∙ c .before .enum-told .given .1) in (
+      ap (talliedBy (c .silence .result)) (s .pre .3) ∙ c .silence .ensures ∙ ap (λ x. heededOf (listenedBy x (shelfIn b) (a .store .now))) e,
+      (
+        ap (λ x. stateBy x b (a .store .now)) e,
+        (ap (λ x. storeBy x (shelfIn b) (a .store .now)) e, ap (λ x. bufferBy x (shelfIn b) (a .store .now) (a .buffer .now)) e),
+      ),
+    )
 
 pub send-granted-spec : {M : Type 1} → statement M
 send-granted-spec =
