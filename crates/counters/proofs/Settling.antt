@@ -8,12 +8,14 @@ use mathlib.Core.Logic.{_⊎_, ⊎-elim}
 use mathlib.Core.Bool.{Bool, true, false, cond}
 use mathlib.Core.List.{List}
 use lib.Dec.{leb}
-use lib.ListN.{length, getD, set, length-set}
+use lib.ListN.{length, getD, set, length-set, replicate, length-replicate}
 use lib.Seq.{getD-set-same, getD-set-other}
 use borrow.Author.Tests.{le-leb, lt-leb, leb-true, ne-eqb}
 use Rattle.answer.specs.declared.Rises.{Rises}
+use Rattle.answer.specs.declared.Single.{Single}
+use Rattle.answer.specs.Answers.{row, spread, outcomeBy}
 use Rattle.counters.specs.declared.Counters.{Counters}
-use Rattle.counters.specs.Counting.{value, zeros, raised, rowAfter, riseAt, rowBy, settledTo, settled}
+use Rattle.counters.specs.Counting.{value, zeros, raised, rowAfter, riseAt, riseOf, rowBy, settledTo, settled}
 
 -- each counter rises by its own bit, and no other
 pub raised-value : (c : Counters) (n k : ℕ) → k < 13 → value (raised c n) k ≡ (value c k + n / 2 ^ k % 2) % 2 ^ 32
@@ -213,3 +215,54 @@ module _ (rows : List Counters) (rises : Rises) where
   pub settled-end : (i : ℕ) → rises .to ≤ i → (i ≤ rises .to) ⊎ (i ≤ rises .from) → upTo i ≡ settled rows rises
   settled-end i h w =
       ⊎-elim (λ (e : i ≤ rises .to). ap upTo (le-antisymm e h)) (λ (e : i ≤ rises .from). settled-none i e ∙ sym (settled-none (rises .to) (omega arith))) w
+
+-- an event at one unit that is counted: one row changes
+one-row : (rows : List Counters) (place n : ℕ) → place < 32 → settled rows (row place n) ≡ set rows place (raised (getD rows place zeros) (n % 8192))
+unfolding rowAfter
+one-row rows place n h =
+    settled-next rows (row place n) place (omega arith)
+    ∙ (λ i. set (settled-none rows (row place n) place (omega arith) i) place (raised (getD rows place zeros) (own i)))
+    ∙ ap (λ (c : Counters). set rows place c) (sym (low-set (getD rows place zeros) n))
+  where
+    zeroed : List ℕ
+    zeroed = replicate 32 0
+
+    own : getD (set zeroed place n) place 0 ≡ n
+    own = getD-set-same zeroed place n 0 (omega (arith, length-replicate {A = ℕ} 32 0))
+
+module _ (rows : List Counters) (done : Single) where
+  abbrev rising : Rises
+  rising = outcomeBy done .rises
+
+  pub counted-last : done .counted ≡ true → rising .to ≡ done .place + 1
+  unfolding spread
+  counted-last e = ap (λ (b : Bool). spread b (done .place) (done .counters) .to) e
+
+  pub counted-rise : done .counted ≡ true → riseOf done ≡ done .counters % 8192
+  unfolding riseOf
+  counted-rise e = rw e
+
+  -- a rise is of an event that is counted
+  pub risen-counted : (riseOf done ≡ 0 → ⊥) → done .counted ≡ true
+  unfolding riseOf
+  risen-counted some = by-counted (done .counted) refl
+    where
+      by-counted : (b : Bool) → done .counted ≡ b → b ≡ true
+      by-counted true e = refl
+      by-counted false e = absurd (some (rw e))
+
+  pub settled-counted : done .counted ≡ true → done .place < 32 → set rows (done .place) (raised (getD rows (done .place) zeros) (riseOf done)) ≡ settled rows rising
+  unfolding spread
+  settled-counted e h =
+      sym (ap (λ (b : Bool). settled rows (spread b (done .place) (done .counters))) e ∙ one-row rows (done .place) (done .counters) h
+      ∙ ap (λ (n : ℕ). set rows (done .place) (raised (getD rows (done .place) zeros) n)) (sym (counted-rise e)))
+
+  -- one that is not counted changes no row
+  pub settled-uncounted : done .counted ≡ false → rows ≡ settled rows rising
+  unfolding spread settledTo
+  settled-uncounted e = sym (ap (λ (b : Bool). settled rows (spread b (done .place) (done .counters))) e)
+
+  -- nor does one by which nothing rises
+  pub settled-unrisen : done .counted ≡ true → done .place < 32 → Fitting (getD rows (done .place) zeros) → riseOf done ≡ 0 → set rows (done .place) (getD rows (done .place) zeros) ≡ settled rows rising
+  settled-unrisen e h f z =
+      ap (λ (c : Counters). set rows (done .place) c) (sym (ap (raised (getD rows (done .place) zeros)) z ∙ raised-none (getD rows (done .place) zeros) f)) ∙ settled-counted e h

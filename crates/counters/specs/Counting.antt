@@ -6,6 +6,7 @@ use lib.Dec.{leb, eqb}
 use lib.ListN.{getD, set}
 use Rattle.answer.specs.Answers.{#arrived, #hec, #ignored, #misrouted, #inletfull, #sent, #unheard, #damaged, #queued, #full, #clp, #wide, #taken}
 use Rattle.answer.specs.declared.Rises.{Rises}
+use Rattle.answer.specs.declared.Single.{Single}
 use Rattle.counters.specs.declared.Counters.{Counters}
 
 -- "Thirteen counters a unit, each modulo 4,294,967,296: arrived, hec, ignored, misrouted, inletfull, sent, unheard, damaged, queued (outlet), full, clp, wide, taken."
@@ -64,6 +65,10 @@ rowAfter c rises i = cond (rises .anew) zeros (raised c (getD (rises .each) i 0)
 -- the same in one number: the set of counters that rise, or 8,192, above every such set; 0 where the row stays
 unfoldable pub riseAt : Rises → ℕ → ℕ
 riseAt rises i = cond (rises .anew) 8192 (getD (rises .each) i 0 % 8192)
+
+-- of an event at one unit: the set that rises in the row of its place, 0 where it is not counted
+unfoldable pub riseOf : Single → ℕ
+riseOf done = cond (done .counted) (done .counters % 8192) 0
 
 unfoldable pub rowBy : Counters → ℕ → Counters
 rowBy c n = cond (eqb n 8192) zeros (raised c n)

@@ -2,10 +2,12 @@
 use answer::Answer;
 use answer::Outcome;
 use answer::Rises;
+use answer::Single;
 ghost use mathlib.Core.Path.{_≡_};
 ghost use Prim.Native.Nat.{_<_, _≤_};
 ghost use lib.ListN.{length, getD};
-ghost use Rattle.counters.specs.Counting.{zeros, tick as ticked, raised as raisedBy, riseAt, rowBy, settled};
+ghost use Rattle.answer.specs.Answers.{outcomeBy};
+ghost use Rattle.counters.specs.Counting.{zeros, tick as ticked, raised as raisedBy, riseAt, riseOf, rowBy, settled};
 
 #[repr(C)]
 pub struct Counters {
@@ -24,12 +26,12 @@ pub struct Counters {
     pub taken: u32,
 }
 
-// A counter one up if its bit is in the set.
+// A counter one up if its bit is in the set: no bit is above answer::TAKEN.
 fn tick(bit: u16, counters: u16, value: u32) -> u32
-    requires { ⌜ 0 < bit ⌝ }
+    requires { ⌜ (0 < bit) × (bit ≤ 4096) ⌝ }
     ensures { λ r. ⌜ r ≡ ticked bit counters value ⌝ }
 {
-    if counters / bit % 2 == 1 {
+    if bit <= counters % (2 * bit) {
         return std::num::wrapping_add_u32(value, 1);
     }
     value
@@ -127,8 +129,8 @@ pub fn last(rises: Rises) -> usize
     rises.to
 }
 
-// The only function that writes counters. It is given no more than the rises, which are read once for each row; a row in which nothing rises
-// is left alone.
+// The counters of a load or a frame. It is given no more than the rises, which are read once for each row; a row in which nothing rises
+// is left alone. It and `raise` are all that write counters.
 pub fn settle(rows: &mut [Counters], rises: Rises)
     requires { ⌜ (rises .to ≤ 32) × (rises .to ≤ length (now rows)) ⌝ }
     ensures { λ _. ⌜ now (rows .exit) ≡ settled (now (rows .entry)) rises ⌝ }
@@ -142,6 +144,42 @@ pub fn settle(rows: &mut [Counters], rises: Rises)
             rows[i] = row_by(c, rise);
         }
         i += 1;
+    }
+}
+
+// What an event at one unit raises in the row of its place, in one number: 0 where it is not counted.
+pub fn rise_of(done: Single) -> u16
+    ensures { λ r. ⌜ r ≡ riseOf done ⌝ }
+{
+    if done.counted {
+        return done.counters % ANEW;
+    }
+    0
+}
+
+pub fn place_of(done: Single) -> usize
+    ensures { λ r. ⌜ r ≡ done .place ⌝ }
+{
+    done.place
+}
+
+// What it answers.
+pub fn answer_by(done: Single) -> Answer
+    ensures { λ r. ⌜ r ≡ outcomeBy done .answer ⌝ }
+{
+    done.answer
+}
+
+// The counters of an event at one unit: a row is read, and written, only where something rises in it.
+pub fn raise(rows: &mut [Counters], done: Single)
+    requires { ⌜ (outcomeBy done .rises .to ≤ 32) × (outcomeBy done .rises .to ≤ length (now rows)) ⌝ }
+    ensures { λ _. ⌜ now (rows .exit) ≡ settled (now (rows .entry)) (outcomeBy done .rises) ⌝ }
+{
+    let rise = rise_of(done);
+    if rise != 0 {
+        let i = place_of(done);
+        let c = rows[i];
+        rows[i] = c.raised(rise);
     }
 }
 
