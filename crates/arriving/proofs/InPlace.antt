@@ -24,7 +24,7 @@ use Rattle.soundness.proofs.Kept.{formed-ring}
 use Rattle.answer.specs.declared.Arrival as A
 use Rattle.answer.specs.declared.Arrival.the-variants.{Inletfull, Queued}
 use Rattle.answer.specs.Done.{Done, outcomeOf}
-use Rattle.answer.specs.Answers.{refused}
+use Rattle.answer.specs.Answers.{refused, spread, outcomeBy}
 use Rattle.admit.specs.declared.Admitted.the-variants as lets
 use Rattle.admit.specs.Admission.{decided, unitAt, withUnit, withInlet, Housed}
 use Rattle.admit.proofs.Laws.{decided-all, decided-both}
@@ -73,9 +73,9 @@ module _ (card : Card) (b : List ℕ) (place : ℕ) (below : place < 32) (memory
   there x e = here x e ∙ ap (λ u. wayOf card u memory c) same
 
   module _ (fate : A.Arrival) (e : w ≡ Lost fate) where
-    pub lost-out : arrivedWith place (fateBy w) ≡ outcomeOf (doneAt card (shelfIn b) place memory c)
-    unfolding fateBy doneBy
-    lost-out = ap (λ x. arrivedWith place (fateBy x)) e ∙ ap (λ x. outcomeOf (doneBy x (shelfIn b) place)) (there (Lost fate) e)
+    pub lost-out : outcomeBy (arrivedWith place (fateBy w)) ≡ outcomeOf (doneAt card (shelfIn b) place memory c)
+    unfolding fateBy doneBy spread
+    lost-out = ap (λ x. outcomeBy (arrivedWith place (fateBy x))) e ∙ ap (λ x. outcomeOf (doneBy x (shelfIn b) place)) (there (Lost fate) e)
 
     pub lost-state : b ≡ stateAt card b place memory c
     unfolding stateBy
@@ -117,7 +117,8 @@ module _ (card : Card) (b : List ℕ) (place : ℕ) (below : place < 32) (memory
     inlet-room bytes h k = inlet-inside place bytes ring (h .inside) (subst (λ r. RingFits r 4) (sym inlet-here) (h .inlet)) k
 
     module _ (h : 4 ≤ ring .count) where
-      pub full-out : arrivedWith place Inletfull ≡ outcomeOf (doneAt card (shelfIn b) place memory c)
+      pub full-out : outcomeBy (arrivedWith place Inletfull) ≡ outcomeOf (doneAt card (shelfIn b) place memory c)
+      unfolding spread
       full-out = out-by true (le-leb 4 (ring .count) h)
 
       pub full-state : b ≡ stateAt card b place memory c
@@ -127,9 +128,9 @@ module _ (card : Card) (b : List ℕ) (place : ℕ) (below : place < 32) (memory
       full-store = store-by true (le-leb 4 (ring .count) h)
 
     module _ (h : ring .count < 4) where
-      pub queued-out : arrivedWith place (fateBy w) ≡ outcomeOf (doneAt card (shelfIn b) place memory c)
-      unfolding fateBy
-      queued-out = ap (λ x. arrivedWith place (fateBy x)) e ∙ out-by false (lt-leb 4 (ring .count) h)
+      pub queued-out : outcomeBy (arrivedWith place (fateBy w)) ≡ outcomeOf (doneAt card (shelfIn b) place memory c)
+      unfolding fateBy spread
+      queued-out = ap (λ x. outcomeBy (arrivedWith place (fateBy x))) e ∙ out-by false (lt-leb 4 (ring .count) h)
 
       pub queued-state : withRing b 14 15 place (pushed ring) ≡ stateAt card b place memory c
       queued-state = state-by false (lt-leb 4 (ring .count) h)

@@ -11,8 +11,9 @@ use Rattle.state.specs.Bytes.{unitIn, shelfIn, withRing}
 use Rattle.answer.specs.declared.Arrival as A
 use Rattle.answer.specs.declared.Answer.the-variants.{Arrived}
 use Rattle.answer.specs.declared.Outcome.{Outcome}
+use Rattle.answer.specs.declared.Single.{Single}
 use Rattle.answer.specs.Done.{outcomeOf}
-use Rattle.answer.specs.Answers.{arrivalRises, row, refusedWith}
+use Rattle.answer.specs.Answers.{arrivalRises, countedWith, refusedWith}
 use Rattle.admit.specs.declared.Admitted as D
 use Rattle.admit.specs.Admission.{admittedIn, formedOr, decided}
 use Rattle.arriving.specs.Arriving.{wayOf, inletFull, arriveDone, arriveStore}
@@ -20,8 +21,8 @@ use Rattle.arriving.specs.declared.Way.{Way}
 use Rattle.arriving.specs.declared.Way.the-variants.{Bus, Lost}
 
 -- a cell has arrived at the unit in a place, with this fate
-abbrev pub arrivedWith : ℕ → A.Arrival → Outcome
-arrivedWith place fate = record { answer = Arrived fate; rises = row place (arrivalRises fate) }
+abbrev pub arrivedWith : ℕ → A.Arrival → Single
+arrivedWith place fate = countedWith (Arrived fate) place (arrivalRises fate)
 
 -- the bytes after an arrival at the unit in a place: a cell that is queued is one more in its inlet
 unfoldable pub stateBy : Way → U.Unit → List ℕ → ℕ → List ℕ

@@ -2,17 +2,17 @@
 use admit::Admitted;
 use answer::Answer;
 use answer::Arrival;
-use answer::Outcome;
-use answer::Rises;
+use answer::Single;
 use card::Card;
 use lookup::Looked;
 use shelf::Settings;
 use shelf::Unit;
 ghost use mathlib.Core.Path.{_≡_};
-ghost use Prim.Native.Nat.{_<_, _≤_};
+ghost use Prim.Native.Nat.{_≤_};
 ghost use lib.ListN.{length};
 ghost use Rattle.admit.specs.Admission.{Housed};
 ghost use Rattle.answer.specs.Done.{outcomeOf};
+ghost use Rattle.answer.specs.Answers.{outcomeBy};
 ghost use Rattle.state.specs.Bytes.{unitIn, shelfIn};
 ghost use Rattle.arriving.specs.Arriving.{wayBy, wayFor, fateBy, doneAt, storeAt};
 ghost use Rattle.arriving.specs.InPlace.{arrivedWith, stateAt, arriveOut, arriveState, arriveStoreIn};
@@ -61,15 +61,10 @@ fn fate_by(way: Way) -> Arrival
 }
 
 // A cell has arrived at the unit in a place.
-fn arrived(place: usize, fate: Arrival) -> Outcome
-    requires { ⌜ place < 32 ⌝ }
+fn arrived(place: usize, fate: Arrival) -> Single
     ensures { λ r. ⌜ r ≡ arrivedWith place fate ⌝ }
 {
-    let rises = Rises::row(place, answer::arrival_rises(fate));
-    Outcome {
-        answer: Answer::Arrived(fate),
-        rises,
-    }
+    answer::counted(Answer::Arrived(fate), place, answer::arrival_rises(fate))
 }
 
 // A cell arrives at the unit in a place. A routed one is queued behind the others in the inlet.
@@ -80,9 +75,9 @@ fn arrive_at(
     memory: &[u8],
     store: &mut [u8],
     cell: &[u8],
-) -> Outcome
+) -> Single
     requires { ⌜ (length (now s) ≡ 2048) × (length (now cell) ≡ 53) × Housed place (unitIn (now s) place) (length (now store)) ⌝ }
-    ensures { λ r. ⌜ r ≡ outcomeOf (doneAt card (shelfIn (now (s .entry))) place (now (memory .entry)) (now (cell .entry))) ⌝ }
+    ensures { λ r. ⌜ outcomeBy r ≡ outcomeOf (doneAt card (shelfIn (now (s .entry))) place (now (memory .entry)) (now (cell .entry))) ⌝ }
     ensures kept { λ _. ⌜ (now (s .exit) ≡ stateAt card (now (s .entry)) place (now (memory .entry)) (now (cell .entry))) × (now (store .exit) ≡ storeAt card (shelfIn (now (s .entry))) place (now (memory .entry)) (now (store .entry)) (now (cell .entry))) ⌝ }
 {
     let settings = state::settings_at(s, place);
@@ -112,12 +107,12 @@ pub fn arrive(
     rows: usize,
     unit: u8,
     cell: &[u8],
-) -> Outcome
-    ensures { λ r. ⌜ (r ≡ arriveOut card (now (s .entry)) (now (memory .entry)) (length (now (store .entry))) rows unit (now (cell .entry))) × ((now (s .exit) ≡ arriveState card (now (s .entry)) (now (memory .entry)) (length (now (store .entry))) rows unit (now (cell .entry))) × (now (store .exit) ≡ arriveStoreIn card (now (s .entry)) (now (memory .entry)) (now (store .entry)) rows unit (now (cell .entry)))) ⌝ }
-    ensures fits { λ r. ⌜ (r .rises .to ≤ 32) × (r .rises .to ≤ rows) ⌝ }
+) -> Single
+    ensures { λ r. ⌜ (outcomeBy r ≡ arriveOut card (now (s .entry)) (now (memory .entry)) (length (now (store .entry))) rows unit (now (cell .entry))) × ((now (s .exit) ≡ arriveState card (now (s .entry)) (now (memory .entry)) (length (now (store .entry))) rows unit (now (cell .entry))) × (now (store .exit) ≡ arriveStoreIn card (now (s .entry)) (now (memory .entry)) (now (store .entry)) rows unit (now (cell .entry)))) ⌝ }
+    ensures fits { λ r. ⌜ (outcomeBy r .rises .to ≤ 32) × (outcomeBy r .rises .to ≤ rows) ⌝ }
 {
     match admit::admit(card, s, store.len(), rows, unit, cell.len() == 53) {
         Admitted::At(place) => arrive_at(card, s, place, memory, store, cell),
-        Admitted::Refused(number) => answer::refused(number),
+        Admitted::Refused(number) => answer::uncounted(Answer::Refused(number)),
     }
 }

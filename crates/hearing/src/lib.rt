@@ -2,8 +2,7 @@
 use admit::Admitted;
 use answer::Answer;
 use answer::Hearing;
-use answer::Outcome;
-use answer::Rises;
+use answer::Single;
 use bus::Heard;
 use card::Card;
 use queueing::Fate;
@@ -11,6 +10,7 @@ use routing::Target;
 ghost use mathlib.Core.Path.{_≡_};
 ghost use Prim.Native.Nat.{_<_, _≤_};
 ghost use lib.ListN.{length, take};
+ghost use Rattle.answer.specs.Answers.{outcomeBy};
 ghost use Rattle.bus.specs.Frame.{heard as heardOf};
 ghost use Rattle.state.specs.Bytes.{unitIn};
 ghost use Rattle.admit.specs.Admission.{Housed};
@@ -108,18 +108,14 @@ pub fn hear_one(s: &mut [u8], place: usize, heard: Heard, cell: &[u8], store: &m
 }
 
 // The unit in a place hears a frame handed in.
-fn hear_at(s: &mut [u8], place: usize, store: &mut [u8], frame: &[u8]) -> Outcome
+fn hear_at(s: &mut [u8], place: usize, store: &mut [u8], frame: &[u8]) -> Single
     requires { ⌜ (length (now s) ≡ 2048) × (length (now frame) ≡ 57) × Housed place (unitIn (now s) place) (length (now store)) ⌝ }
-    ensures { λ r. ⌜ r ≡ outcomeAt place (fateBy (planOf (unitIn (now (s .entry)) place) (heardOf (now (frame .entry))))) ⌝ }
+    ensures { λ r. ⌜ outcomeBy r ≡ outcomeAt place (fateBy (planOf (unitIn (now (s .entry)) place) (heardOf (now (frame .entry))))) ⌝ }
     ensures kept { λ _. ⌜ (now (s .exit) ≡ stateAt (now (s .entry)) place (now (frame .entry)))
         × (now (store .exit) ≡ storeOf (unitIn (now (s .entry)) place) (heardOf (now (frame .entry))) place (now (store .entry)) (take 56 (now (frame .entry)))) ⌝ }
 {
     let fate = hear_one(s, place, bus::hear(frame), &frame[..56], store);
-    let rises = Rises::row(place, answer::hearing_rises(fate));
-    Outcome {
-        answer: Answer::Heard(fate),
-        rises,
-    }
+    answer::counted(Answer::Heard(fate), place, answer::hearing_rises(fate))
 }
 
 // Hearing of a frame by the unit with this number; everything but the counter rows, of which there are so many.
@@ -130,14 +126,14 @@ pub fn hear(
     rows: usize,
     unit: u8,
     frame: &[u8],
-) -> Outcome
-    ensures { λ r. ⌜ (r ≡ hearOut card (now (s .entry)) (length (now (store .entry))) rows unit (now (frame .entry)))
+) -> Single
+    ensures { λ r. ⌜ (outcomeBy r ≡ hearOut card (now (s .entry)) (length (now (store .entry))) rows unit (now (frame .entry)))
         × ((now (s .exit) ≡ hearState card (now (s .entry)) (length (now (store .entry))) rows unit (now (frame .entry)))
         × (now (store .exit) ≡ hearStoreIn card (now (s .entry)) (now (store .entry)) rows unit (now (frame .entry)))) ⌝ }
-    ensures fits { λ r. ⌜ (r .rises .to ≤ 32) × (r .rises .to ≤ rows) ⌝ }
+    ensures fits { λ r. ⌜ (outcomeBy r .rises .to ≤ 32) × (outcomeBy r .rises .to ≤ rows) ⌝ }
 {
     match admit::admit(card, s, store.len(), rows, unit, frame.len() == 57) {
         Admitted::At(place) => hear_at(s, place, store, frame),
-        Admitted::Refused(number) => answer::refused(number),
+        Admitted::Refused(number) => answer::uncounted(Answer::Refused(number)),
     }
 }

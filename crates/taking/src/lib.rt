@@ -1,8 +1,7 @@
 // Take: the oldest cell of a unit's outlet, or of the lowest class held, as it leaves on the link; or empty.
 use admit::Admitted;
 use answer::Answer;
-use answer::Outcome;
-use answer::Rises;
+use answer::Single;
 use card::Card;
 use header::Link;
 use outlet::Outlet;
@@ -12,6 +11,7 @@ ghost use Prim.Native.Nat.{_<_, _≤_};
 ghost use lib.ListN.{length};
 ghost use Rattle.admit.specs.Admission.{Housed};
 ghost use Rattle.answer.specs.Done.{outcomeOf};
+ghost use Rattle.answer.specs.Answers.{outcomeBy};
 ghost use Rattle.state.specs.Bytes.{unitIn, shelfIn};
 ghost use Rattle.taking.specs.Takes.{lineCell, outward, doneAt, bufferAt};
 ghost use Rattle.taking.specs.InPlace.{stateAt, takeOut, takeState, takeBufferIn};
@@ -36,18 +36,14 @@ fn hand_out(link: Link, outlet: Outlet, cell: &[u8], buffer: &mut [u8])
 }
 
 // A cell is taken from the unit in a place: only its link and its outlet are read, and one ring is put back.
-fn take_at(s: &mut [u8], place: usize, store: &[u8], buffer: &mut [u8]) -> Outcome
+fn take_at(s: &mut [u8], place: usize, store: &[u8], buffer: &mut [u8]) -> Single
     requires { ⌜ (length (now s) ≡ 2048) × (length (now buffer) ≡ 53) × Housed place (unitIn (now s) place) (length (now store)) ⌝ }
-    ensures { λ r. ⌜ r ≡ outcomeOf (doneAt (shelfIn (now (s .entry))) place) ⌝ }
+    ensures { λ r. ⌜ outcomeBy r ≡ outcomeOf (doneAt (shelfIn (now (s .entry))) place) ⌝ }
     ensures kept { λ _. ⌜ (now (s .exit) ≡ stateAt (now (s .entry)) place) × (now (buffer .exit) ≡ bufferAt (shelfIn (now (s .entry))) place (now (store .entry)) (now (buffer .entry))) ⌝ }
 {
     let outlet = state::outlet_at(s, place);
     let Leaving::Queue(queue) = queueing::leaving_of(outlet) else {
-        let rises = Rises::none();
-        return Outcome {
-            answer: Answer::Empty,
-            rises,
-        };
+        return answer::uncounted(Answer::Empty);
     };
     let limits = outlet.limits;
     let ring = outlet::queue(outlet, queue);
@@ -57,11 +53,7 @@ fn take_at(s: &mut [u8], place: usize, store: &[u8], buffer: &mut [u8]) -> Outco
     let left = store::popped(ring, outlet::capacity(limits, queue));
     let q = queue as usize;
     state::put_ring(s, 16 + q, 20 + q, place, left);
-    let rises = Rises::row(place, answer::TAKEN);
-    Outcome {
-        answer: Answer::Taken,
-        rises,
-    }
+    answer::counted(Answer::Taken, place, answer::TAKEN)
 }
 
 // Take at the unit with this number; everything but the counter rows, of which there are so many.
@@ -72,12 +64,12 @@ pub fn take(
     rows: usize,
     unit: u8,
     buffer: &mut [u8],
-) -> Outcome
-    ensures { λ r. ⌜ (r ≡ takeOut card (now (s .entry)) (length (now (store .entry))) rows unit (length (now (buffer .entry)))) × ((now (s .exit) ≡ takeState card (now (s .entry)) (length (now (store .entry))) rows unit (length (now (buffer .entry)))) × (now (buffer .exit) ≡ takeBufferIn card (now (s .entry)) (now (store .entry)) rows unit (now (buffer .entry)))) ⌝ }
-    ensures fits { λ r. ⌜ (r .rises .to ≤ 32) × (r .rises .to ≤ rows) ⌝ }
+) -> Single
+    ensures { λ r. ⌜ (outcomeBy r ≡ takeOut card (now (s .entry)) (length (now (store .entry))) rows unit (length (now (buffer .entry)))) × ((now (s .exit) ≡ takeState card (now (s .entry)) (length (now (store .entry))) rows unit (length (now (buffer .entry)))) × (now (buffer .exit) ≡ takeBufferIn card (now (s .entry)) (now (store .entry)) rows unit (now (buffer .entry)))) ⌝ }
+    ensures fits { λ r. ⌜ (outcomeBy r .rises .to ≤ 32) × (outcomeBy r .rises .to ≤ rows) ⌝ }
 {
     match admit::admit(card, s, store.len(), rows, unit, buffer.len() == 53) {
         Admitted::At(place) => take_at(s, place, store, buffer),
-        Admitted::Refused(number) => answer::refused(number),
+        Admitted::Refused(number) => answer::uncounted(Answer::Refused(number)),
     }
 }

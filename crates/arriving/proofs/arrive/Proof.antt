@@ -1,14 +1,14 @@
 -- `arriving::arrive` meets its contract. Assumes nothing.
 use Prim.Native.Nat.{_≤_}
 use native.Mathlib.Omega.{arith}
-use mathlib.Core.Path.{_≡_, refl, sym, subst, _∙_}
+use mathlib.Core.Path.{_≡_, refl, sym, ap, subst, _∙_}
 use lib.Dec.{eqb}
 use lib.ListN.{length}
 use borrow.Author.Tests.{eqb-true}
 use Rattle.state.specs.Bytes.{shelfIn}
 use Rattle.answer.specs.declared.Outcome.{Outcome}
 use Rattle.answer.specs.Done.{outcomeOf}
-use Rattle.answer.specs.Answers.{refused, refusedWith}
+use Rattle.answer.specs.Answers.{refused, refusedWith, spread, outcomeBy}
 use Rattle.admit.specs.Admission.{unitAt}
 use Rattle.admit.proofs.Laws.{decided-at, decided-refused}
 use Rattle.admit.proofs.InPlace.{in-place, came-in, kept-out}
@@ -36,8 +36,8 @@ arrive-at-requires c κs =
 enum-known-number : tie.Need-enum-known-number
 enum-known-number c = search needs
 
-refused-requires : tie.Need-refused-requires
-refused-requires c κs = search needs
+uncounted-requires : tie.Need-uncounted-requires
+uncounted-requires c κs = search needs
 
 same-length : tie.Need-same-length
 same-length c = search needs
@@ -62,6 +62,7 @@ returns c =
     )
 
 returns-2 : tie.Need-returns-2
+unfolding spread
 returns-2 c =
     let a = c .before .before .before .before .before .before .before .before .before .before .args in
     let b = a .s .now in
@@ -70,13 +71,13 @@ returns-2 c =
     let n = c .before .before .number .given .0 .0 in
     let e = sym (c .before .before .before .before .admit .ensures) ∙ c .before .before .number .given .1 in (
       (
-        c .refused .ensures ∙ kept-out outcomeOf (λ place. doneAt (a .card) (shelfIn b) place (a .memory .now) (a .cell .now)) (refused (shelfIn b)) (refusedWith 8) (a .card) b store (a .rows) (a .unit) right n e refl,
+        ap outcomeBy (c .uncounted .ensures) ∙ kept-out outcomeOf (λ place. doneAt (a .card) (shelfIn b) place (a .memory .now) (a .cell .now)) (refused (shelfIn b)) (refusedWith 8) (a .card) b store (a .rows) (a .unit) right n e refl,
         (
           decided-refused _ _ _ _ e,
           kept-out (λ x. x) (λ place. storeAt (a .card) (shelfIn b) place (a .memory .now) (a .store .now) (a .cell .now)) (λ number. a .store .now) (a .store .now) (a .card) b store (a .rows) (a .unit) right n e refl,
         ),
       ),
-      subst (λ (x : Outcome). (x .rises .to ≤ 32) × (x .rises .to ≤ a .rows)) (sym (c .refused .ensures)) (omega arith, omega arith),
+      subst (λ (x : Outcome). (x .rises .to ≤ 32) × (x .rises .to ≤ a .rows)) (sym (ap outcomeBy (c .uncounted .ensures))) (omega arith, omega arith),
     )
 
 pub arrive-spec : {M : Type 1} → statement M
@@ -87,7 +88,7 @@ arrive-spec =
     enum-known-place
     arrive-at-requires
     enum-known-number
-    refused-requires
+    uncounted-requires
     same-length
     returns
     returns-2)

@@ -7,6 +7,7 @@ use Rattle.octets.specs.Octets.{splice}
 use Rattle.store.specs.Places.{slotAt, inletSlot, putAt}
 use Rattle.store.specs.Rings.{pushed}
 use Rattle.state.specs.Bytes.{withRing}
+use Rattle.answer.specs.Answers.{outcomeBy}
 use Rattle.arriving.specs.Arriving.{wayFor}
 use Rattle.arriving.specs.InPlace.{arrivedWith}
 use Rattle.arriving.proofs.InPlace.{lost-out, lost-state, lost-store, full-out, full-state, full-store, queued-out, queued-state, queued-store, inlet-room}
@@ -45,7 +46,7 @@ returns c =
     let w = c .before .before .before .before .way-of in
     let ew = w .ensures ∙ (λ i. wayFor (a .card) (c .before .before .before .before .before .before .before .settings-at .ensures i) (c .before .before .before .before .before .place-at .ensures i) (a .memory .now) (a .cell .now)) in
     let e = c .before .enum-told .given .1 in (
-      c .arrived .ensures ∙ ap (arrivedWith (a .place)) (c .before .before .before .fate-by .ensures) ∙ lost-out (a .card) (a .s .now) (a .place) below (a .memory .now) (a .cell .now) (w .result) ew _ e,
+      ap outcomeBy (c .arrived .ensures ∙ ap (arrivedWith (a .place)) (c .before .before .before .fate-by .ensures)) ∙ lost-out (a .card) (a .s .now) (a .place) below (a .memory .now) (a .cell .now) (w .result) ew _ e,
       (lost-state (a .card) (a .s .now) (a .place) below (a .memory .now) (a .cell .now) (w .result) ew _ e, lost-store (a .card) (a .s .now) (a .place) below (a .memory .now) (a .cell .now) (w .result) ew _ e (a .store .now)),
     )
 
@@ -67,7 +68,7 @@ returns-2 c =
     let e = c .before .before .before .before .before .before .way .given .1 in
     let r = c .before .before .before .ring-at in
     let h = c .before .if1 .taken in (
-      c .arrived2 .ensures ∙ full-out (a .card) (a .s .now) (a .place) below (a .memory .now) (a .cell .now) (w .result) ew _ _ e (r .result) (r .ensures) h,
+      ap outcomeBy (c .arrived2 .ensures) ∙ full-out (a .card) (a .s .now) (a .place) below (a .memory .now) (a .cell .now) (w .result) ew _ _ e (r .result) (r .ensures) h,
       (full-state (a .card) (a .s .now) (a .place) below (a .memory .now) (a .cell .now) (w .result) ew _ _ e (r .result) (r .ensures) h, full-store (a .card) (a .s .now) (a .place) below (a .memory .now) (a .cell .now) (w .result) ew _ _ e (r .result) (r .ensures) h (a .store .now)),
     )
 
@@ -113,7 +114,7 @@ put-ring-requires : tie.Need-put-ring-requires
 put-ring-requires c κs = (c .before .before .before .before .before .before .before .before .before .before .before .before .before .before .before .before .before .before .before .before .before .before .before .before .before .before .before .before .before .before .pre .0, omega arith, omega arith, c .before .before .before .before .before .before .before .before .before .before .before .before .before .before .before .before .before .before .before .before .before .before .before .before .before .before .before .before .before .before .pre .2 .below)
 
 arrived-requires-3 : tie.Need-arrived-requires-3
-arrived-requires-3 c κs = c .before .before .before .before .before .before .before .before .before .before .before .before .before .before .before .before .before .before .before .before .before .before .before .before .before .before .before .before .before .before .before .before .before .pre .2 .below
+arrived-requires-3 c κs = search needs
 
 same-length-3 : tie.Need-same-length-3
 same-length-3 c = search needs
@@ -132,7 +133,7 @@ returns-3 c =
     let r = c .before .before .before .before .before .before .before .before .before .before .before .before .before .before .before .before .before .before .before .ring-at in
     let at = c .before .before .before .before .before .before .before .before .before .before .inlet-at .ensures ∙ ap (λ p. slotAt (a .place) (inletSlot p)) (c .before .before .before .before .before .before .before .before .before .before .before .before .tail .ensures) in
     let h = c .before .before .before .before .before .before .before .before .before .before .before .before .before .before .before .before .before .if1 .left in (
-      c .arrived3 .ensures ∙ ap (arrivedWith (a .place)) (c .before .before .before .before .before .before .before .before .before .before .before .before .before .before .before .before .before .before .before .before .before .before .before .before .fate-by .ensures) ∙ queued-out (a .card) (a .s .now) (a .place) below (a .memory .now) (a .cell .now) (w .result) ew _ _ e (r .result) (r .ensures) h,
+      ap outcomeBy (c .arrived3 .ensures ∙ ap (arrivedWith (a .place)) (c .before .before .before .before .before .before .before .before .before .before .before .before .before .before .before .before .before .before .before .before .before .before .before .before .fate-by .ensures)) ∙ queued-out (a .card) (a .s .now) (a .place) below (a .memory .now) (a .cell .now) (w .result) ew _ _ e (r .result) (r .ensures) h,
       (
         c .before .before .before .put-ring .ensures ∙ ap (withRing (a .s .now) 14 15 (a .place)) (c .before .before .before .before .pushed .ensures) ∙ queued-state (a .card) (a .s .now) (a .place) below (a .memory .now) (a .cell .now) (w .result) ew _ _ e (r .result) (r .ensures) h,
         c .before .before .before .before .before .before .before .before .put-cell .ensures ∙ (λ i. splice (a .store .now) (at i) (c .before .before .before .before .before .before .before .before .before .before .before .before .before .before .compose .ensures i)) ∙ queued-store (a .card) (a .s .now) (a .place) below (a .memory .now) (a .cell .now) (w .result) ew _ _ e (r .result) (r .ensures) h (a .store .now),

@@ -1,7 +1,7 @@
 -- `arriving::arrived` meets its contract. Assumes nothing.
 use mathlib.Core.Path.{ap, _∙_}
 use Rattle.answer.specs.declared.Answer.the-variants.{Arrived}
-use Rattle.answer.specs.Answers.{row}
+use Rattle.answer.specs.Answers.{countedWith}
 use borrow.Author.Needs.{needs}
 use Rattle.arriving.proofs.arrived.Statement.{statement}
 use Rattle.arriving.proofs.arrived.Tie as tie
@@ -9,11 +9,11 @@ use Rattle.arriving.proofs.arrived.Tie as tie
 arrival-rises-requires : tie.Need-arrival-rises-requires
 arrival-rises-requires c κs = search needs
 
-row-requires : tie.Need-row-requires
-row-requires c κs = search needs
+counted-requires : tie.Need-counted-requires
+counted-requires c κs = search needs
 
 returns : tie.Need-returns
-returns c = ap (λ x. record { answer = Arrived (c .before .before .args .fate); rises = x }) (c .row .ensures ∙ ap (row (c .before .before .args .place)) (c .before .arrival-rises .ensures))
+returns c = let a = c .before .before .args in c .counted .ensures ∙ ap (countedWith (Arrived (a .fate)) (a .place)) (c .before .arrival-rises .ensures)
 
 pub arrived-spec : {M : Type 1} → statement M
-arrived-spec = tie.close (tie.spec arrival-rises-requires row-requires returns)
+arrived-spec = tie.close (tie.spec arrival-rises-requires counted-requires returns)

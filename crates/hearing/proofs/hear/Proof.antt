@@ -1,11 +1,12 @@
 -- `hearing::hear` meets its contract. Assumes nothing.
 use Prim.Native.Nat.{_≤_}
 use native.Mathlib.Omega.{arith}
-use mathlib.Core.Path.{_≡_, sym, subst, _∙_}
+use mathlib.Core.Path.{_≡_, sym, ap, subst, _∙_}
 use lib.Dec.{eqb}
 use lib.ListN.{length}
 use borrow.Author.Tests.{eqb-true}
 use Rattle.answer.specs.declared.Outcome.{Outcome}
+use Rattle.answer.specs.Answers.{spread, outcomeBy}
 use Rattle.admit.proofs.Laws.{decided-at, decided-refused}
 use Rattle.admit.proofs.InPlace.{LetInPlace, in-place}
 use Rattle.hearing.proofs.InPlace.{out-at, store-at, out-refused, store-refused}
@@ -33,8 +34,8 @@ hear-at-requires c κs =
 enum-known-number : tie.Need-enum-known-number
 enum-known-number c = search needs
 
-refused-requires : tie.Need-refused-requires
-refused-requires c κs = search needs
+uncounted-requires : tie.Need-uncounted-requires
+uncounted-requires c κs = search needs
 
 same-length : tie.Need-same-length
 same-length c = search needs
@@ -53,14 +54,15 @@ returns c =
     )
 
 returns-2 : tie.Need-returns-2
+unfolding spread
 returns-2 c =
     let a = c .before .before .before .before .before .before .before .before .before .args in
     let e = sym (c .before .before .before .before .admit .ensures) ∙ c .before .before .number .given .1 in (
       (
-        c .refused .ensures ∙ out-refused (a .card) (a .s .now) (a .rows) (a .unit) (a .frame .now) (length (a .store .now)) _ e,
+        ap outcomeBy (c .uncounted .ensures) ∙ out-refused (a .card) (a .s .now) (a .rows) (a .unit) (a .frame .now) (length (a .store .now)) _ e,
         (decided-refused _ _ _ _ e, store-refused (a .card) (a .s .now) (a .rows) (a .unit) (a .frame .now) (a .store .now) _ e),
       ),
-      subst (λ (x : Outcome). (x .rises .to ≤ 32) × (x .rises .to ≤ a .rows)) (sym (c .refused .ensures)) (omega arith, omega arith),
+      subst (λ (x : Outcome). (x .rises .to ≤ 32) × (x .rises .to ≤ a .rows)) (sym (ap outcomeBy (c .uncounted .ensures))) (omega arith, omega arith),
     )
 
 pub hear-spec : {M : Type 1} → statement M
@@ -71,7 +73,7 @@ hear-spec =
     enum-known-place
     hear-at-requires
     enum-known-number
-    refused-requires
+    uncounted-requires
     same-length
     returns
     returns-2)

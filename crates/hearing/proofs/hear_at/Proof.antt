@@ -2,8 +2,7 @@
 use mathlib.Core.Path.{sym, ap, _∙_}
 use lib.ListN.{take}
 use Rattle.answer.specs.declared.Answer.the-variants.{Heard}
-use Rattle.answer.specs.declared.Rises.{Rises}
-use Rattle.answer.specs.Answers.{row}
+use Rattle.answer.specs.Answers.{countedWith, spread, outcomeBy}
 use Rattle.state.specs.Bytes.{unitIn}
 use Rattle.hearing.specs.Hearings.{planOf, fateBy, storeOf}
 use Rattle.hearing.specs.InPlace.{stateBy, outcomeAt}
@@ -24,8 +23,8 @@ hear-one-requires c κs = let s = c .before .before .before .before .before .bef
 hearing-rises-requires : tie.Need-hearing-rises-requires
 hearing-rises-requires c κs = search needs
 
-row-requires : tie.Need-row-requires
-row-requires c κs = search needs
+counted-requires : tie.Need-counted-requires
+counted-requires c κs = search needs
 
 same-length : tie.Need-same-length
 same-length c = search needs
@@ -34,13 +33,14 @@ same-length-2 : tie.Need-same-length-2
 same-length-2 c = search needs
 
 returns : tie.Need-returns
+unfolding spread
 returns c =
     let a = c .before .before .before .before .before .before .before .before .before .before .before .before .before .before .args in
     let u = unitIn (a .s .now) (a .place) in
     let w = c .before .before .before .before .before .before .hear-one in
     let h = c .before .before .before .before .before .before .before .before .before .hear .ensures in
-    let r = c .row .ensures ∙ ap (row (a .place)) (c .before .hearing-rises .ensures) in (
-      ap (λ (x : Rises). record { answer = Heard (w .result); rises = x }) r ∙ ap (outcomeAt (a .place)) (w .ensures .0 ∙ ap (λ x. fateBy (planOf u x)) h),
+    let r = c .counted .ensures ∙ ap (countedWith (Heard (w .result)) (a .place)) (c .before .hearing-rises .ensures) in (
+      ap outcomeBy r ∙ ap (outcomeAt (a .place)) (w .ensures .0 ∙ ap (λ x. fateBy (planOf u x)) h),
       (
         w .ensures .1 .0 ∙ ap (λ x. stateBy (planOf u x) (a .s .now) (a .place)) h,
         w .ensures .1 .1 ∙ ap (λ x. storeOf u x (a .place) (a .store .now) (take 56 (a .frame .now))) h,
@@ -55,7 +55,7 @@ hear-at-spec =
     slice-aggregate-hear-one
     hear-one-requires
     hearing-rises-requires
-    row-requires
+    counted-requires
     same-length
     same-length-2
     returns)

@@ -7,7 +7,7 @@ use Rattle.octets.specs.Octets.{part}
 use Rattle.store.specs.Places.{slotAt, outletSlot, cellAt}
 use Rattle.store.specs.Rings.{popped}
 use Rattle.state.specs.Bytes.{linkOf, withRing}
-use Rattle.answer.specs.declared.Answer.the-variants.{Taken, Empty}
+use Rattle.answer.specs.Answers.{spread, outcomeBy}
 use Rattle.admit.proofs.Laws.{cell-length}
 use Rattle.taking.specs.Takes.{outward}
 use Rattle.taking.proofs.InPlace.{empty-out, empty-state, empty-buffer, few, inside, taken-out, taken-state, taken-buffer}
@@ -27,20 +27,21 @@ enum-known-queue c = search needs
 enum-told : tie.Need-enum-told
 enum-told c = search needs
 
-none-requires : tie.Need-none-requires
-none-requires c κs = search needs
+uncounted-requires : tie.Need-uncounted-requires
+uncounted-requires c κs = search needs
 
 same-length : tie.Need-same-length
 same-length c = search needs
 
 returns : tie.Need-returns
+unfolding spread
 returns c =
     let a = c .before .before .before .before .before .before .before .before .before .args in
     let o = c .before .before .before .before .outlet-at in
     let l = c .before .before .before .leaving-of in
     let below = c .before .before .before .before .before .before .before .before .before .pre .2 .below in
     let e = c .before .enum-told .given .1 in (
-      ap (λ r. record { answer = Empty; rises = r }) (c .none .ensures) ∙ empty-out (a .s .now) (a .place) below (o .result) (o .ensures) (l .result) (l .ensures) e,
+      ap outcomeBy (c .uncounted .ensures) ∙ empty-out (a .s .now) (a .place) below (o .result) (o .ensures) (l .result) (l .ensures) e,
       (empty-state (a .s .now) (a .place) below (o .result) (o .ensures) (l .result) (l .ensures) e, empty-buffer (a .s .now) (a .place) below (o .result) (o .ensures) (l .result) (l .ensures) e (a .store .now) (a .buffer .now)),
     )
 
@@ -105,8 +106,8 @@ put-ring-requires c κs =
     let f = few (a .s .now) (a .place) below (o .result) (o .ensures) (l .result) (l .ensures) q e in
     (c .before .before .before .before .before .before .before .before .before .before .before .before .before .before .before .before .before .before .before .before .before .before .before .pre .0, omega arith, omega arith, below)
 
-row-requires : tie.Need-row-requires
-row-requires c κs = c .before .before .before .before .before .before .before .before .before .before .before .before .before .before .before .before .before .before .before .before .before .before .before .before .before .before .pre .2 .below
+counted-requires : tie.Need-counted-requires
+counted-requires c κs = search needs
 
 same-length-2 : tie.Need-same-length-2
 same-length-2 c = search needs
@@ -115,7 +116,7 @@ same-length-3 : tie.Need-same-length-3
 same-length-3 c = search needs
 
 returns-2 : tie.Need-returns-2
-unfolding cellAt
+unfolding cellAt spread
 returns-2 c =
     let a = c .before .before .before .before .before .before .before .before .before .before .before .before .before .before .before .before .before .before .before .before .before .before .before .before .before .before .before .args in
     let o = c .before .before .before .before .before .before .before .before .before .before .before .before .before .before .before .before .before .before .before .before .before .before .outlet-at in
@@ -126,7 +127,7 @@ returns-2 c =
     let w = c .before .before .before .before .before .before .before .before .before .before .before .before .before .before .before .outlet-at2 .ensures ∙ ap (λ r. slotAt (a .place) (outletSlot (o .result .limits) q (r .head))) (c .before .before .before .before .before .before .before .before .before .before .before .before .before .before .before .before .queue2 .ensures) in
     let r = c .before .before .before .before .before .before .before .before .before .before .before .before .before .before .before .before .queue2 .ensures in
     let k = c .before .before .before .before .before .before .before .before .before .before .before .before .link-of .ensures ∙ ap linkOf (c .before .before .before .before .before .before .before .before .before .before .before .before .before .at .ensures) in (
-      ap (λ x. record { answer = Taken; rises = x }) (c .row .ensures) ∙ taken-out (a .s .now) (a .place) below (o .result) (o .ensures) (l .result) (l .ensures) q e,
+      ap outcomeBy (c .counted .ensures) ∙ taken-out (a .s .now) (a .place) below (o .result) (o .ensures) (l .result) (l .ensures) q e,
       (
         c .before .before .before .put-ring .ensures
             ∙ (λ t. withRing (a .s .now) (16 + q) (20 + q) (a .place) ((c .before .before .before .before .before .popped .ensures ∙ (λ k. popped (r k) (c .before .before .before .before .before .before .capacity .ensures k))) t))
@@ -145,7 +146,7 @@ take-at-spec =
     leaving-of-requires
     enum-known-queue
     enum-told
-    none-requires
+    uncounted-requires
     same-length
     returns
     queue-requires
@@ -160,7 +161,7 @@ take-at-spec =
     add-put-ring
     add-put-ring-2
     put-ring-requires
-    row-requires
+    counted-requires
     same-length-2
     same-length-3
     returns-2)
