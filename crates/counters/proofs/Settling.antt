@@ -15,7 +15,7 @@ use Rattle.answer.specs.declared.Rises.{Rises}
 use Rattle.answer.specs.declared.Single.{Single}
 use Rattle.answer.specs.Answers.{row, spread, outcomeBy}
 use Rattle.counters.specs.declared.Counters.{Counters}
-use Rattle.counters.specs.Counting.{value, zeros, raised, rowAfter, riseAt, riseOf, rowBy, settledTo, settled}
+use Rattle.counters.specs.Counting.{value, zeros, raised, rowAfter, riseAt, riseOf, rowBy, settledTo, settled, risesTo}
 
 -- each counter rises by its own bit, and no other
 pub raised-value : (c : Counters) (n k : ℕ) → k < 13 → value (raised c n) k ≡ (value c k + n / 2 ^ k % 2) % 2 ^ 32
@@ -58,6 +58,10 @@ pub record Fitting (c : Counters) : Type 0 where
 
 same : (x : ℕ) → x < 2 ^ 32 → (x + 0) % 2 ^ 32 ≡ x
 same x h = omega arith
+
+-- a counter that does not rise
+pub stays : (x : ℕ) → x < 2 ^ 32 → x ≡ (x + 0) % 2 ^ 32
+stays x h = sym (same x h)
 
 -- by the empty set none rises
 pub raised-none : (c : Counters) → Fitting c → raised c 0 ≡ c
@@ -215,6 +219,14 @@ module _ (rows : List Counters) (rises : Rises) where
   pub settled-end : (i : ℕ) → rises .to ≤ i → (i ≤ rises .to) ⊎ (i ≤ rises .from) → upTo i ≡ settled rows rises
   settled-end i h w =
       ⊎-elim (λ (e : i ≤ rises .to). ap upTo (le-antisymm e h)) (λ (e : i ≤ rises .from). settled-none i e ∙ sym (settled-none (rises .to) (omega arith))) w
+
+-- a row of a frame: by its own set, which is in hand; as it was by the empty one
+pub rises-own : (c : Counters) (n : ℕ) (each : List ℕ) (i set : ℕ) → getD each i 0 ≡ set → raised c set ≡ rowAfter c (risesTo n each) i
+unfolding rowAfter
+rises-own c n each i set e = ap (raised c) (sym e)
+
+pub rises-none : (c : Counters) (n : ℕ) (each : List ℕ) (i : ℕ) → Fitting c → getD each i 0 ≡ 0 → c ≡ rowAfter c (risesTo n each) i
+rises-none c n each i f e = sym (raised-none c f) ∙ rises-own c n each i 0 e
 
 -- an event at one unit that is counted: one row changes
 one-row : (rows : List Counters) (place n : ℕ) → place < 32 → settled rows (row place n) ≡ set rows place (raised (getD rows place zeros) (n % 8192))

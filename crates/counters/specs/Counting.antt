@@ -1,6 +1,6 @@
 -- The thirteen counters of a unit, and what an event does to the rows of them. Assumes nothing.
 use Prim.Native.Nat.{ℕ, zero as none, suc, _+_, _/_, _%_, _^_}
-use mathlib.Core.Bool.{cond}
+use mathlib.Core.Bool.{cond, false}
 use mathlib.Core.List.{List, [], _∷_}
 use lib.Dec.{leb, eqb}
 use lib.ListN.{getD, set}
@@ -81,3 +81,7 @@ settledTo rows rises (suc i) = cond (leb (rises .from) i) (set (settledTo rows r
 -- "The counters of the units are a lent row of records, in `unit` line order; rows beyond the declared units are untouched."
 abbrev pub settled : List Counters → Rises → List Counters
 settled rows rises = settledTo rows rises (rises .to)
+
+-- of a frame: from the first row up to one, each by its own
+abbrev pub risesTo : ℕ → List ℕ → Rises
+risesTo to each = record { from = 0; to = to; anew = false; each = each }

@@ -6,8 +6,8 @@ use answer::Single;
 ghost use mathlib.Core.Path.{_≡_};
 ghost use Prim.Native.Nat.{_<_, _≤_};
 ghost use lib.ListN.{length, getD};
-ghost use Rattle.answer.specs.Answers.{outcomeBy};
-ghost use Rattle.counters.specs.Counting.{zeros, tick as ticked, raised as raisedBy, riseAt, riseOf, rowBy, settled};
+ghost use Rattle.answer.specs.Answers.{outcomeBy, #arrived, #queued, #taken};
+ghost use Rattle.counters.specs.Counting.{zeros, tick as ticked, raised as raisedBy, riseAt, riseOf, rowBy, risesTo, settled};
 
 #[repr(C)]
 pub struct Counters {
@@ -80,6 +80,83 @@ impl Counters {
     }
 }
 
+// The sets of one counter that rise all the time, each written out: the others are then not looked at.
+fn queued_up(c: Counters) -> Counters
+    ensures { λ r. ⌜ r ≡ raisedBy c #queued ⌝ }
+{
+    Counters {
+        arrived: c.arrived,
+        hec: c.hec,
+        ignored: c.ignored,
+        misrouted: c.misrouted,
+        inletfull: c.inletfull,
+        sent: c.sent,
+        unheard: c.unheard,
+        damaged: c.damaged,
+        queued: std::num::wrapping_add_u32(c.queued, 1),
+        full: c.full,
+        clp: c.clp,
+        wide: c.wide,
+        taken: c.taken,
+    }
+}
+
+fn arrived_up(c: Counters) -> Counters
+    ensures { λ r. ⌜ r ≡ raisedBy c #arrived ⌝ }
+{
+    Counters {
+        arrived: std::num::wrapping_add_u32(c.arrived, 1),
+        hec: c.hec,
+        ignored: c.ignored,
+        misrouted: c.misrouted,
+        inletfull: c.inletfull,
+        sent: c.sent,
+        unheard: c.unheard,
+        damaged: c.damaged,
+        queued: c.queued,
+        full: c.full,
+        clp: c.clp,
+        wide: c.wide,
+        taken: c.taken,
+    }
+}
+
+fn taken_up(c: Counters) -> Counters
+    ensures { λ r. ⌜ r ≡ raisedBy c #taken ⌝ }
+{
+    Counters {
+        arrived: c.arrived,
+        hec: c.hec,
+        ignored: c.ignored,
+        misrouted: c.misrouted,
+        inletfull: c.inletfull,
+        sent: c.sent,
+        unheard: c.unheard,
+        damaged: c.damaged,
+        queued: c.queued,
+        full: c.full,
+        clp: c.clp,
+        wide: c.wide,
+        taken: std::num::wrapping_add_u32(c.taken, 1),
+    }
+}
+
+// Each of a set of counters one up.
+pub fn risen(c: Counters, rise: u16) -> Counters
+    ensures { λ r. ⌜ r ≡ raisedBy c rise ⌝ }
+{
+    if rise == answer::QUEUED {
+        return queued_up(c);
+    }
+    if rise == answer::ARRIVED {
+        return arrived_up(c);
+    }
+    if rise == answer::TAKEN {
+        return taken_up(c);
+    }
+    c.raised(rise)
+}
+
 // A row starts anew: above every set of counters.
 const ANEW: u16 = 8192;
 
@@ -101,7 +178,7 @@ pub fn row_by(c: Counters, rise: u16) -> Counters
     if rise == ANEW {
         return Counters::zero();
     }
-    c.raised(rise)
+    risen(c, rise)
 }
 
 pub fn rises_of(o: Outcome) -> Rises
@@ -129,8 +206,8 @@ pub fn last(rises: Rises) -> usize
     rises.to
 }
 
-// The counters of a load or a frame. It is given no more than the rises, which are read once for each row; a row in which nothing rises
-// is left alone. It and `raise` are all that write counters.
+// The counters of a load. It is given no more than the rises, which are read once for each row; a row in which nothing rises is left
+// alone. It, `raise` and `raise_each` are all that write counters.
 pub fn settle(rows: &mut [Counters], rises: Rises)
     requires { ⌜ (rises .to ≤ 32) × (rises .to ≤ length (now rows)) ⌝ }
     ensures { λ _. ⌜ now (rows .exit) ≡ settled (now (rows .entry)) rises ⌝ }
@@ -179,7 +256,26 @@ pub fn raise(rows: &mut [Counters], done: Single)
     if rise != 0 {
         let i = place_of(done);
         let c = rows[i];
-        rows[i] = c.raised(rise);
+        rows[i] = risen(c, rise);
+    }
+}
+
+// The counters of a frame, of which each unit has its own. What rises at most units is raised in its row.
+pub fn raise_each(rows: &mut [Counters], each: &[u16], to: usize)
+    requires { ⌜ (to ≤ length (now each)) × (to ≤ length (now rows)) ⌝ }
+    ensures { λ _. ⌜ now (rows .exit) ≡ settled (now (rows .entry)) (risesTo to (now (each .entry))) ⌝ }
+{
+    let mut i: usize = 0;
+    while i < to {
+        let rise = each[i];
+        if rise == answer::QUEUED {
+            let c = rows[i];
+            rows[i] = queued_up(c);
+        } else if rise != 0 {
+            let c = rows[i];
+            rows[i] = risen(c, rise);
+        }
+        i += 1;
     }
 }
 

@@ -61,10 +61,10 @@ use Rattle.counters.proofs.place_of as place
 use Rattle.counters.proofs.place_of.Symbol as place-def
 use Rattle.counters.proofs.place_of.Symbol.{name as #place}
 use Rattle.counters.proofs.place_of.Met as place-thm
-use Rattle.counters.proofs.Counters.raised as new
-use Rattle.counters.proofs.Counters.raised.Symbol as new-def
-use Rattle.counters.proofs.Counters.raised.Symbol.{name as #new}
-use Rattle.counters.proofs.Counters.raised.Met as new-thm
+use Rattle.counters.proofs.risen as new
+use Rattle.counters.proofs.risen.Symbol as new-def
+use Rattle.counters.proofs.risen.Symbol.{name as #new}
+use Rattle.counters.proofs.risen.Met as new-thm
 use Rattle.counters.proofs.raise.Key.{name as #raise}
 use Rattle.counters.proofs.raise as raise
 use Rattle.counters.proofs.raise.Statement as stated
@@ -246,7 +246,7 @@ module _ {M : Type 1} (𝓤 : URA M) (H : Heap 𝓤) (A : Atoms 𝓤) (W : Given
           -- [rows[i]; what it owns; the others; the open borrow; obs; auth; _10 @6; _9 @8; _8 @10; _7 @12; _6 @14; _5 @16; _4 @18; _3 @20; _2 @22; _1 @24; _0 @26]
           assigns ! (of-opd ! (load ! (from ! (hop ! (look ! 10 refl) (stop !))) (look-raw ! 0 refl))) (from ! (stop !)) (init ! 8 refl (R.typed 𝓤 H A W c _ c-ok)) $
           assigns ! (of-opd ! (load ! (from ! (stop !)) (look ! 8 refl))) (from ! (stop !)) (init ! 16 refl (R.typed 𝓤 H A W c _ c-ok)) $
-          -- `raised`: while its operands are read, each position is one more
+          -- `risen`: while its operands are read, each position is one more
           calls-plain ! (fmOf 𝓤 H (W .laws) 𝓣) new.ended (new.clauses 𝓤 H A mem run) known-new to-new (goes-new c-ok fits) (λ r. r ≡ c′) (λ r e. id⊢ 𝓤 _)
           (and-then ! (load ! (from ! (stop !)) (look ! 17 refl)) (and-then ! (load ! (from ! (stop !)) (look ! 21 refl)) (no-more !))) (λ v r e r-ok.
           let new-ok : R.Ok c′ (v ∷ []) = subst (λ (h : Counters). R.Ok h (v ∷ [])) e r-ok in
@@ -289,4 +289,4 @@ raise-spec 𝓤 H 𝓜 𝓖 𝓡 =
     (raise-meets 𝓤 H (𝓖 .A) (givenOf 𝓤 H 𝓜 𝓖) (𝓜 .mem) (𝓡 .run) (tablesOf 𝓤 H 𝓜 (tables 𝓤 H 𝓜 𝓡 code.env))
     (cited 𝓤 H (Rise 𝓤 H (𝓖 .A) (𝓜 .mem) (𝓡 .run)) 𝓜 𝓡 code.env #rise rise-def.routine code.calls-counters·rise-of (rise-thm.met 𝓤 H 𝓜 𝓖 𝓡))
     (cited 𝓤 H (At 𝓤 H (𝓖 .A) (𝓜 .mem) (𝓡 .run)) 𝓜 𝓡 code.env #place place-def.routine code.calls-counters·place-of (place-thm.met 𝓤 H 𝓜 𝓖 𝓡))
-    (cited 𝓤 H (New 𝓤 H (𝓖 .A) (𝓜 .mem) (𝓡 .run)) 𝓜 𝓡 code.env #new new-def.routine code.calls-counters·Counters·raised (new-thm.met 𝓤 H 𝓜 𝓖 𝓡)))
+    (cited 𝓤 H (New 𝓤 H (𝓖 .A) (𝓜 .mem) (𝓡 .run)) 𝓜 𝓡 code.env #new new-def.routine code.calls-counters·risen (new-thm.met 𝓤 H 𝓜 𝓖 𝓡)))
