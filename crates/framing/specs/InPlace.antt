@@ -1,6 +1,7 @@
 -- Frame, of a state in lent bytes: what is answered, stored and sent goes by the shelf that the bytes are; written are the sender's inlet, the queues of those that
 -- hear it, then the arbiter, the grant and the frame number. Assumes nothing.
 use Prim.Native.Nat.{ℕ, _+_, _%_, _^_}
+use mathlib.Core.Bool.{false}
 use mathlib.Core.List.{List}
 use lib.ListN.{length, take}
 use Rattle.bus.specs.Frame.{heard}
@@ -14,6 +15,7 @@ use Rattle.answer.specs.declared.Outcome.{Outcome}
 use Rattle.answer.specs.Done.{outcomeOf}
 use Rattle.answer.specs.Answers.{refusedWith}
 use Rattle.admit.specs.Admission.{formedOr}
+use Rattle.framing.specs.declared.Framed as D
 use Rattle.framing.specs.Sending.{sentFrame}
 use Rattle.framing.specs.Frames.{sender, granted, checked, frameDone, frameStore, frameBuffer}
 use Rattle.framing.specs.Scenes.{heededBy}
@@ -33,6 +35,10 @@ stateBy Nothing b store = b
 -- and after the grant
 abbrev pub stateAt : List ℕ → List ℕ → List ℕ
 stateAt b store = withTurn (stateBy (sender (shelfIn b)) b store) (granted (shelfIn b) .arbiter) (granted (shelfIn b) .unit) ((shelfIn b .frame + 1) % 2 ^ 16)
+
+-- what a frame comes to, of what was answered and of the counters written beside it
+abbrev pub framedBy : D.Framed → List ℕ → Outcome
+framedBy r each = record { answer = r .answer; rises = record { from = 0; to = r .to; anew = false; each = each } }
 
 abbrev pub frameOut : Card → List ℕ → List ℕ → ℕ → ℕ → Outcome
 frameOut card b store rows lent = formedOr b (outcomeOf (frameDone card (shelfIn b) store rows lent)) (refusedWith 8)

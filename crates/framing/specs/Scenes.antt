@@ -1,6 +1,6 @@
 -- Hearing by several units, of a state in lent bytes: what is written one place after the other. Assumes nothing.
 use Prim.Native.Nat.{ℕ, zero, suc, _+_, _<_, min}
-use mathlib.Core.Bool.{false, _||_}
+use mathlib.Core.Bool.{Bool, false, _||_}
 use mathlib.Core.List.{List}
 use lib.ListN.{getD, set, replicate}
 use Rattle.bus.specs.declared.Heard as H
@@ -14,22 +14,32 @@ use Rattle.hearing.specs.InPlace.{stateBy}
 use Rattle.framing.specs.declared.Heeded.{Heeded}
 use Rattle.framing.specs.Sending.{Listened}
 
--- what is counted, as far as no unit has heard; after one in a place has, with this fate
-abbrev pub unheeded : Heeded
+-- what is counted: the counters that rise at each declared unit, how many copies were queued, whether some unit was addressed
+pub record Tally : Type 0 where
+  pub each : List ℕ
+  pub copies : ℕ
+  pub addressed : Bool
+
+-- the same of what was answered and of the counters written beside it
+abbrev pub talliedBy : Heeded → List ℕ → Tally
+talliedBy r each = record { each = each; copies = r .copies; addressed = r .addressed }
+
+-- as far as no unit has heard; after one in a place has, with this fate
+abbrev pub unheeded : Tally
 unheeded = record { each = replicate 32 0; copies = 0; addressed = false }
 
-abbrev pub noted : ℕ → A.Hearing → Heeded → Heeded
+abbrev pub noted : ℕ → A.Hearing → Tally → Tally
 noted i fate t = record { each = set (t .each) i (hearingRises fate); copies = t .copies + queuedOne fate; addressed = t .addressed || isAddressed fate }
 
 -- the same of what was listened to, without the shelf
-abbrev pub heededOf : Listened → Heeded
+abbrev pub heededOf : Listened → Tally
 heededOf l = record { each = l .each; copies = l .copies; addressed = l .addressed }
 
 -- all that changes where units hear
 pub record Scene : Type 0 where
   pub bytes : List ℕ
   pub store : List ℕ
-  pub tally : Heeded
+  pub tally : Tally
 
 abbrev pub turn : H.Heard → Cell → ℕ → Scene → Scene
 turn h cell i x =

@@ -1,8 +1,6 @@
 // Frame: first requests, then the unit granted in the frame before sends and every declared unit hears it, then the grant.
 use answer::Answer;
 use answer::Hearing;
-use answer::Outcome;
-use answer::Rises;
 use arbiter::Arbiter;
 use bus::Heard;
 use card::Card;
@@ -11,22 +9,27 @@ use shelf::Found;
 use shelf::Unit;
 ghost use mathlib.Core.Path.{_≡_};
 ghost use Prim.Native.Nat.{_<_, _≤_, min};
-ghost use lib.ListN.{length, getD};
+ghost use lib.ListN.{length, getD, replicate};
 ghost use Rattle.bus.specs.Frame.{sealed, heard as heardOf};
 ghost use Rattle.state.specs.Bytes.{shelfIn};
 ghost use Rattle.answer.specs.Done.{outcomeOf};
-ghost use Rattle.answer.specs.Answers.{queuedOne, isAddressed};
+ghost use Rattle.answer.specs.Answers.{queuedOne, isAddressed, refusedWith};
 ghost use Rattle.framing.specs.Requests.{askingNow, requests};
 ghost use Rattle.framing.specs.Sending.{sentRises, sentBy, sentStore, sentFrame};
 ghost use Rattle.framing.specs.Frames.{sender, listenedOf, doneAt, storeAt, bufferAt};
-ghost use Rattle.framing.specs.Scenes.{unheeded, heededOf, heededBy, AllHousedIn};
-ghost use Rattle.framing.specs.InPlace.{sentState, stateBy, stateAt, frameOut, frameState, frameStoreIn, frameBufferIn};
+ghost use Rattle.framing.specs.Scenes.{talliedBy, unheeded, heededOf, heededBy, AllHousedIn};
+ghost use Rattle.framing.specs.InPlace.{sentState, stateBy, stateAt, framedBy, frameOut, frameState, frameStoreIn, frameBufferIn};
 
-// What the declared units make of a frame: the counters that rise at each, how many copies were queued, whether some unit was addressed.
+// What the declared units make of a frame besides the counters that rise at each: how many copies were queued, whether some unit was addressed.
 pub struct Heeded {
-    pub each: [u16; 32],
     pub copies: u8,
     pub addressed: bool,
+}
+
+// What a frame comes to besides the counters that rise at each unit: the answer, and up to which row they rise.
+pub struct Framed {
+    pub answer: Answer,
+    pub to: usize,
 }
 
 // What each declared unit asks now, by its number.
@@ -90,30 +93,25 @@ fn is_addressed(fate: Hearing) -> bool
     }
 }
 
-// Every declared unit hears a frame of this cell. The cell goes by value, so that it is copied in words.
-fn hear_all(s: &mut [u8], heard: Heard, cell: [u8; 56], store: &mut [u8]) -> Heeded
-    requires { ⌜ (length (now s) ≡ 2048) × AllHousedIn (now s) (length (now store)) ⌝ }
-    ensures { λ r. ⌜ r ≡ heededBy heard cell (now (s .entry)) (now (store .entry)) .tally ⌝ }
-    ensures kept { λ _. ⌜ (now (s .exit) ≡ heededBy heard cell (now (s .entry)) (now (store .entry)) .bytes)
-        × (now (store .exit) ≡ heededBy heard cell (now (s .entry)) (now (store .entry)) .store) ⌝ }
+// Every declared unit hears a frame of this cell. The counters that rise at each are written where the caller lends room for them, here and below.
+fn hear_all(s: &mut [u8], heard: Heard, cell: &[u8], store: &mut [u8], each: &mut [u16]) -> Heeded
+    requires { ⌜ (length (now s) ≡ 2048) × (length (now cell) ≡ 56) × AllHousedIn (now s) (length (now store)) × (now each ≡ replicate 32 0) ⌝ }
+    ensures { λ r. ⌜ talliedBy r (now (each .exit)) ≡ heededBy heard (now (cell .entry)) (now (s .entry)) (now (store .entry)) .tally ⌝ }
+    ensures kept { λ _. ⌜ (now (s .exit) ≡ heededBy heard (now (cell .entry)) (now (s .entry)) (now (store .entry)) .bytes)
+        × (now (store .exit) ≡ heededBy heard (now (cell .entry)) (now (s .entry)) (now (store .entry)) .store) ⌝ }
 {
     let end = shelf::declared_count(s[805]);
-    let mut each = [0; 32];
     let mut copies: u8 = 0;
     let mut addressed = false;
     let mut i: usize = 0;
     while i < end {
-        let fate = hearing::hear_one(s, i, heard, &cell, store);
+        let fate = hearing::hear_one(s, i, heard, cell, store);
         each[i] = answer::hearing_rises(fate);
         copies = copies + queued_one(fate);
         addressed = addressed | is_addressed(fate);
         i += 1;
     }
-    Heeded {
-        each,
-        copies,
-        addressed,
-    }
+    Heeded { copies, addressed }
 }
 
 // The counters that rise at the sender besides those of its own copy.
@@ -144,58 +142,52 @@ fn hear_sent(cell: &[u8]) -> Heard
 }
 
 // The unit in a place sends its oldest cell, and all hear it.
-fn send(s: &mut [u8], place: usize, store: &mut [u8], buffer: &mut [u8]) -> Heeded
-    requires { ⌜ (length (now s) ≡ 2048) × (length (now buffer) ≡ 57) × (place < min (getD (now s) 805 0) 32) × AllHousedIn (now s) (length (now store)) ⌝ }
-    ensures { λ r. ⌜ r ≡ heededOf (sentBy (shelfIn (now (s .entry))) place (now (store .entry))) ⌝ }
+fn send(s: &mut [u8], place: usize, store: &mut [u8], buffer: &mut [u8], each: &mut [u16]) -> Heeded
+    requires { ⌜ (length (now s) ≡ 2048) × (length (now buffer) ≡ 57) × (place < min (getD (now s) 805 0) 32) × AllHousedIn (now s) (length (now store)) × (now each ≡ replicate 32 0) ⌝ }
+    ensures { λ r. ⌜ talliedBy r (now (each .exit)) ≡ heededOf (sentBy (shelfIn (now (s .entry))) place (now (store .entry))) ⌝ }
     ensures kept { λ _. ⌜ (now (s .exit) ≡ sentState (now (s .entry)) place (now (store .entry)))
         × ((now (store .exit) ≡ sentStore (shelfIn (now (s .entry))) place (now (store .entry)))
         × (now (buffer .exit) ≡ sentFrame (shelfIn (now (s .entry))) place (now (store .entry)))) ⌝ }
 {
     let inlet = state::ring_at(s, 14, 15, place);
-    let mut cell = [0; 56];
-    octets::copy(
+    bus::seal(
         store::get_cell(store, store::inlet_at(place, inlet.head)),
-        &mut cell,
-        0,
+        buffer,
     );
-    bus::seal(&cell, buffer);
     state::put_ring(s, 14, 15, place, store::popped(inlet, Unit::INLET));
-    let mut heeded = hear_all(s, hear_sent(&cell), cell, store);
-    let mut each = heeded.each;
+    let heeded = hear_all(s, hear_sent(&buffer[..56]), &buffer[..56], store, each);
     each[place] = each[place] | sent_rises(heeded.addressed);
-    heeded.each = each;
     heeded
 }
 
 // Nothing is heard.
 fn silence() -> Heeded
-    ensures { λ r. ⌜ r ≡ unheeded ⌝ }
+    ensures { λ r. ⌜ talliedBy r (replicate 32 0) ≡ unheeded ⌝ }
 {
     Heeded {
-        each: [0; 32],
         copies: 0,
         addressed: false,
     }
 }
 
 // The unit granted in the frame before sends, if there is one.
-fn send_granted(s: &mut [u8], store: &mut [u8], buffer: &mut [u8]) -> Heeded
-    requires { ⌜ (length (now s) ≡ 2048) × (length (now buffer) ≡ 57) × AllHousedIn (now s) (length (now store)) ⌝ }
-    ensures { λ r. ⌜ r ≡ heededOf (listenedOf (shelfIn (now (s .entry))) (now (store .entry))) ⌝ }
+fn send_granted(s: &mut [u8], store: &mut [u8], buffer: &mut [u8], each: &mut [u16]) -> Heeded
+    requires { ⌜ (length (now s) ≡ 2048) × (length (now buffer) ≡ 57) × AllHousedIn (now s) (length (now store)) × (now each ≡ replicate 32 0) ⌝ }
+    ensures { λ r. ⌜ talliedBy r (now (each .exit)) ≡ heededOf (listenedOf (shelfIn (now (s .entry))) (now (store .entry))) ⌝ }
     ensures kept { λ _. ⌜ (now (s .exit) ≡ stateBy (sender (shelfIn (now (s .entry)))) (now (s .entry)) (now (store .entry)))
         × ((now (store .exit) ≡ storeAt (shelfIn (now (s .entry))) (now (store .entry)))
         × (now (buffer .exit) ≡ bufferAt (shelfIn (now (s .entry))) (now (store .entry)) (now (buffer .entry)))) ⌝ }
 {
     match state::find(s, s[803]) {
-        Found::At(place) => send(s, place, store, buffer),
+        Found::At(place) => send(s, place, store, buffer, each),
         Found::Nothing => silence(),
     }
 }
 
 // A frame on a sound state.
-fn frame_on(s: &mut [u8], store: &mut [u8], buffer: &mut [u8]) -> Outcome
-    requires { ⌜ (length (now s) ≡ 2048) × (length (now buffer) ≡ 57) × AllHousedIn (now s) (length (now store)) ⌝ }
-    ensures { λ r. ⌜ r ≡ outcomeOf (doneAt (shelfIn (now (s .entry))) (now (store .entry))) ⌝ }
+fn frame_on(s: &mut [u8], store: &mut [u8], buffer: &mut [u8], each: &mut [u16]) -> Framed
+    requires { ⌜ (length (now s) ≡ 2048) × (length (now buffer) ≡ 57) × AllHousedIn (now s) (length (now store)) × (now each ≡ replicate 32 0) ⌝ }
+    ensures { λ r. ⌜ framedBy r (now (each .exit)) ≡ outcomeOf (doneAt (shelfIn (now (s .entry))) (now (store .entry))) ⌝ }
     ensures kept { λ _. ⌜ (now (s .exit) ≡ stateAt (now (s .entry)) (now (store .entry)))
         × ((now (store .exit) ≡ storeAt (shelfIn (now (s .entry))) (now (store .entry)))
         × (now (buffer .exit) ≡ bufferAt (shelfIn (now (s .entry))) (now (store .entry)) (now (buffer .entry)))) ⌝ }
@@ -204,10 +196,9 @@ fn frame_on(s: &mut [u8], store: &mut [u8], buffer: &mut [u8]) -> Outcome
     let sender = s[803];
     let count = s[805];
     let requests = renew_all(s);
-    let heeded = send_granted(s, store, buffer);
+    let heeded = send_granted(s, store, buffer, each);
     let grant = requests.grant();
     let arbiter = grant.arbiter;
-    let each = heeded.each;
     state::put_turn(
         s,
         arbiter,
@@ -220,34 +211,43 @@ fn frame_on(s: &mut [u8], store: &mut [u8], buffer: &mut [u8]) -> Outcome
         granted: grant.unit,
         copies: heeded.copies,
     };
-    let rises = Rises {
-        from: 0,
+    Framed {
+        answer,
         to: count as usize,
-        anew: false,
-        each,
-    };
-    Outcome { answer, rises }
+    }
 }
 
-// A frame; everything but the counter rows, of which there are so many.
+// A frame is refused with this number.
+fn refused(number: u8) -> Framed
+    ensures { λ r. ⌜ framedBy r (replicate 32 0) ≡ refusedWith number ⌝ }
+{
+    Framed {
+        answer: Answer::Refused(number),
+        to: 0,
+    }
+}
+
+// A frame; everything but the counter rows, of which there are so many. The room lent for the counters that rise at each unit holds zeros.
 pub fn frame(
     card: Card,
     s: &mut [u8; 2048],
     store: &mut [u8],
     rows: usize,
     buffer: &mut [u8],
-) -> Outcome
-    ensures { λ r. ⌜ (r ≡ frameOut card (now (s .entry)) (now (store .entry)) rows (length (now (buffer .entry))))
+    each: &mut [u16; 32],
+) -> Framed
+    requires { ⌜ now each ≡ replicate 32 0 ⌝ }
+    ensures { λ r. ⌜ (framedBy r (now (each .exit)) ≡ frameOut card (now (s .entry)) (now (store .entry)) rows (length (now (buffer .entry))))
         × ((now (s .exit) ≡ frameState card (now (s .entry)) (now (store .entry)) rows (length (now (buffer .entry))))
         × ((now (store .exit) ≡ frameStoreIn card (now (s .entry)) (now (store .entry)) rows (length (now (buffer .entry))))
         × (now (buffer .exit) ≡ frameBufferIn card (now (s .entry)) (now (store .entry)) rows (now (buffer .entry))))) ⌝ }
-    ensures fits { λ r. ⌜ (r .rises .to ≤ 32) × (r .rises .to ≤ rows) ⌝ }
+    ensures fits { λ r. ⌜ (r .to ≤ 32) × (r .to ≤ rows) ⌝ }
 {
     if !soundness::sound(card, s, store.len(), rows) {
-        return answer::refused(8);
+        return refused(8);
     }
     if buffer.len() != 57 {
-        return answer::refused(10);
+        return refused(10);
     }
-    frame_on(s, store, buffer)
+    frame_on(s, store, buffer, each)
 }
