@@ -229,12 +229,11 @@ pub rises-none : (c : Counters) (n : ℕ) (each : List ℕ) (i : ℕ) → Fittin
 rises-none c n each i f e = sym (raised-none c f) ∙ rises-own c n each i 0 e
 
 -- an event at one unit that is counted: one row changes
-one-row : (rows : List Counters) (place n : ℕ) → place < 32 → settled rows (row place n) ≡ set rows place (raised (getD rows place zeros) (n % 8192))
+one-row : (rows : List Counters) (place n : ℕ) → place < 32 → settled rows (row place n) ≡ set rows place (raised (getD rows place zeros) n)
 unfolding rowAfter
 one-row rows place n h =
     settled-next rows (row place n) place (omega arith)
     ∙ (λ i. set (settled-none rows (row place n) place (omega arith) i) place (raised (getD rows place zeros) (own i)))
-    ∙ ap (λ (c : Counters). set rows place c) (sym (low-set (getD rows place zeros) n))
   where
     zeroed : List ℕ
     zeroed = replicate 32 0
@@ -263,11 +262,13 @@ module _ (rows : List Counters) (done : Single) where
       by-counted true e = refl
       by-counted false e = absurd (some (rw e))
 
-  pub settled-counted : done .counted ≡ true → done .place < 32 → set rows (done .place) (raised (getD rows (done .place) zeros) (riseOf done)) ≡ settled rows rising
+  pub settled-one : done .counted ≡ true → done .place < 32 → set rows (done .place) (raised (getD rows (done .place) zeros) (done .counters)) ≡ settled rows rising
   unfolding spread
+  settled-one e h = sym (ap (λ (b : Bool). settled rows (spread b (done .place) (done .counters))) e ∙ one-row rows (done .place) (done .counters) h)
+
+  pub settled-counted : done .counted ≡ true → done .place < 32 → set rows (done .place) (raised (getD rows (done .place) zeros) (riseOf done)) ≡ settled rows rising
   settled-counted e h =
-      sym (ap (λ (b : Bool). settled rows (spread b (done .place) (done .counters))) e ∙ one-row rows (done .place) (done .counters) h
-      ∙ ap (λ (n : ℕ). set rows (done .place) (raised (getD rows (done .place) zeros) n)) (sym (counted-rise e)))
+      ap (λ (c : Counters). set rows (done .place) c) (ap (raised (getD rows (done .place) zeros)) (counted-rise e) ∙ low-set (getD rows (done .place) zeros) (done .counters)) ∙ settled-one e h
 
   -- one that is not counted changes no row
   pub settled-uncounted : done .counted ≡ false → rows ≡ settled rows rising

@@ -5,7 +5,7 @@ use answer::Rises;
 use answer::Single;
 ghost use mathlib.Core.Path.{_≡_};
 ghost use Prim.Native.Nat.{_<_, _≤_};
-ghost use lib.ListN.{length, getD};
+ghost use lib.ListN.{length};
 ghost use Rattle.answer.specs.Answers.{outcomeBy, #arrived, #queued, #taken};
 ghost use Rattle.counters.specs.Counting.{zeros, tick as ticked, raised as raisedBy, riseAt, riseOf, rowBy, risesTo, settled};
 
@@ -277,14 +277,4 @@ pub fn raise_each(rows: &mut [Counters], each: &[u16], to: usize)
         }
         i += 1;
     }
-}
-
-// The row at a place; zeros where there is none.
-pub fn read_row(rows: &[Counters], at: usize) -> Counters
-    ensures { λ r. ⌜ r ≡ getD (now (rows .entry)) at zeros ⌝ }
-{
-    if at < rows.len() {
-        return rows[at];
-    }
-    Counters::zero()
 }
