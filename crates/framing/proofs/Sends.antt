@@ -1,15 +1,14 @@
 -- A unit sends; a frame ends. Assumes nothing.
 use Prim.Native.Nat.{ℕ, _+_, _≤_, _<_, min}
-use native.Mathlib.Nat.{zero-add}
 use native.Mathlib.Omega.{arith}
 use mathlib.Core.Path.{_≡_, refl, sym, ap, subst, _∙_}
 use mathlib.Core.Bool.{Bool, true, false}
-use mathlib.Core.List.{List, [], _∷_, _++_, append-nil}
+use mathlib.Core.List.{List, [], _∷_}
 use lib.Bits.{bitOr}
-use lib.ListN.{length, getD, set, take, length-take, length-set, length-append, drop-of-length-le}
+use lib.ListN.{length, getD, set, take, length-take, length-set, length-append}
 use lib.Seq.{getD-set-same, getD-set-other, take-at}
 use borrow.Author.Tests.{eq-eqb, ne-eqb}
-use Rattle.octets.specs.Octets.{splice, part}
+use Rattle.octets.specs.Octets.{part}
 use Rattle.arbiter.proofs.Requests.{same-or}
 use Rattle.bus.specs.Frame.{parity, sealed, heard}
 use Rattle.bus.specs.declared.Heard as H
@@ -29,9 +28,8 @@ use Rattle.state.proofs.Kept.{ring-long}
 use Rattle.admit.specs.Admission.{unitAt, withUnit, withInlet, Housed}
 use Rattle.framing.specs.Sending.{sentRises, heardByAll, heardStore, sentFrame, cellOut, sentBy, sentStore, AllHoused}
 use Rattle.framing.specs.Frames.{checked}
-use Rattle.framing.specs.Scenes.{heededOf, heededBy, AllHousedIn}
+use Rattle.framing.specs.Scenes.{Tally, heededOf, heededBy, AllHousedIn}
 use Rattle.framing.specs.InPlace.{outState, sentState}
-use Rattle.framing.specs.declared.Heeded.{Heeded}
 use Rattle.framing.proofs.Decoded.{shelf-heard, tally-heard, store-heard}
 
 -- the oldest cell of an inlet lies in the store
@@ -45,9 +43,10 @@ pub sealed-length : (cell : List ℕ) → length cell ≡ 56 → length (sealed 
 unfolding sealed
 sealed-length cell e = length-append cell (parity cell ∷ []) ∙ ap (λ n. n + 1) e
 
--- 56 bytes laid over 56 others
-pub spliced-whole : (b v : List ℕ) → length v ≡ length b → splice b 0 v ≡ v
-spliced-whole b v e = rw zero-add (ap (λ x. v ++ x) (drop-of-length-le b {i = length v} (omega (arith, e))) ∙ append-nil v)
+-- and begins with its cell
+pub sealed-cell : (cell frame : List ℕ) → length cell ≡ 56 → frame ≡ sealed cell → take 56 frame ≡ cell
+unfolding sealed
+sealed-cell cell frame full e = ap (take 56) e ∙ take-at cell (parity cell ∷ []) 56 full
 
 -- a unit without its oldest cell is housed as before, and so are the others
 module _ (shelf : Shelf) (place bytes : ℕ) (u : U.Unit) (same : u ≡ unitAt shelf place) (ring : Ring) (out : ring ≡ popped (u .inlet) 4) where
@@ -112,10 +111,9 @@ module _ (b : List ℕ) (place : ℕ) (store : List ℕ) (long : length b ≡ 20
   -- what is heard, counted and stored
   module _ (s cell : List ℕ) (h : H.Heard) (es : s ≡ outState b place) (full : length cell ≡ 56) (ef : sealed cell ≡ sentFrame (shelfIn b) place store) (eh : h ≡ heard (sealed cell)) where
     is-cell : cell ≡ take 56 (sentFrame (shelfIn b) place store)
-    unfolding sealed
-    is-cell = sym (take-at cell (parity cell ∷ []) 56 full) ∙ ap (take 56) ef
+    is-cell = sym (sealed-cell cell (sentFrame (shelfIn b) place store) full (sym ef))
 
-    abbrev counted : Heeded → ℕ → Heeded
+    abbrev counted : Tally → ℕ → Tally
     counted t r = record { each = set (t .each) place (bitOr (getD (t .each) place 0) r); copies = t .copies; addressed = t .addressed }
 
     sent-heard : heardByAll (shelfIn s) h ≡ heardByAll (cellOut (shelfIn b) place) (heard (sentFrame (shelfIn b) place store))
@@ -124,9 +122,9 @@ module _ (b : List ℕ) (place : ℕ) (store : List ℕ) (long : length b ≡ 20
     s-long : length s ≡ 2048
     s-long = ap length es ∙ out-long
 
-    pub sent-tally : (t : Heeded) (r : ℕ) → t ≡ heededBy h cell s store .tally → r ≡ sentRises (t .addressed) → counted t r ≡ heededOf (sentBy (shelfIn b) place store)
+    pub sent-tally : (t : Tally) (r : ℕ) → t ≡ heededBy h cell s store .tally → r ≡ sentRises (t .addressed) → counted t r ≡ heededOf (sentBy (shelfIn b) place store)
     unfolding sentBy
-    sent-tally t r et er = ap (counted t) er ∙ ap (λ (x : Heeded). counted x (sentRises (x .addressed))) (et ∙ tally-heard h cell s store s-long ∙ ap heededOf sent-heard)
+    sent-tally t r et er = ap (counted t) er ∙ ap (λ (x : Tally). counted x (sentRises (x .addressed))) (et ∙ tally-heard h cell s store s-long ∙ ap heededOf sent-heard)
 
     pub sent-bytes : (now : List ℕ) → now ≡ heededBy h cell s store .bytes → now ≡ sentState b place store
     unfolding sentState

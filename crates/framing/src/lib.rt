@@ -11,9 +11,12 @@ ghost use mathlib.Core.Path.{_≡_};
 ghost use Prim.Native.Nat.{_<_, _≤_, min};
 ghost use lib.ListN.{length, getD, replicate};
 ghost use Rattle.bus.specs.Frame.{sealed, heard as heardOf};
-ghost use Rattle.state.specs.Bytes.{shelfIn};
+ghost use Rattle.state.specs.Bytes.{unitIn, shelfIn};
 ghost use Rattle.answer.specs.Done.{outcomeOf};
 ghost use Rattle.answer.specs.Answers.{queuedOne, isAddressed, refusedWith};
+ghost use Rattle.admit.specs.Admission.{Housed};
+ghost use Rattle.hearing.specs.Hearings.{planOf, fateBy, storeOf};
+ghost use Rattle.hearing.specs.InPlace.{stateBy as heardState};
 ghost use Rattle.framing.specs.Requests.{askingNow, requests};
 ghost use Rattle.framing.specs.Sending.{sentRises, sentBy, sentStore, sentFrame};
 ghost use Rattle.framing.specs.Frames.{sender, listenedOf, doneAt, storeAt, bufferAt};
@@ -93,6 +96,19 @@ fn is_addressed(fate: Hearing) -> bool
     }
 }
 
+// The unit in a place hears a frame of this cell. Most frames pass most units by: that is looked for first.
+fn heed(s: &mut [u8], place: usize, heard: Heard, cell: &[u8], store: &mut [u8]) -> Hearing
+    requires { ⌜ (length (now s) ≡ 2048) × (length (now cell) ≡ 56) × Housed place (unitIn (now s) place) (length (now store)) ⌝ }
+    ensures { λ r. ⌜ r ≡ fateBy (planOf (unitIn (now (s .entry)) place) heard) ⌝ }
+    ensures kept { λ _. ⌜ (now (s .exit) ≡ heardState (planOf (unitIn (now (s .entry)) place) heard) (now (s .entry)) place)
+        × (now (store .exit) ≡ storeOf (unitIn (now (s .entry)) place) heard place (now (store .entry)) (now (cell .entry))) ⌝ }
+{
+    if hearing::passes(s, place, heard) {
+        return hearing::aside(heard);
+    }
+    hearing::hear_one(s, place, heard, cell, store)
+}
+
 // Every declared unit hears a frame of this cell. The counters that rise at each are written where the caller lends room for them, here and below.
 fn hear_all(s: &mut [u8], heard: Heard, cell: &[u8], store: &mut [u8], each: &mut [u16]) -> Heeded
     requires { ⌜ (length (now s) ≡ 2048) × (length (now cell) ≡ 56) × AllHousedIn (now s) (length (now store)) × (now each ≡ replicate 32 0) ⌝ }
@@ -105,7 +121,7 @@ fn hear_all(s: &mut [u8], heard: Heard, cell: &[u8], store: &mut [u8], each: &mu
     let mut addressed = false;
     let mut i: usize = 0;
     while i < end {
-        let fate = hearing::hear_one(s, i, heard, cell, store);
+        let fate = heed(s, i, heard, cell, store);
         each[i] = answer::hearing_rises(fate);
         copies = copies + queued_one(fate);
         addressed = addressed | is_addressed(fate);

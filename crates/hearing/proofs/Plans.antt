@@ -1,11 +1,12 @@
 -- The two ways a copy ends, and what a queued one may count on. Assumes nothing.
 use Prim.Native.Nat.{ℕ, _+_, _-_, _≤_, _<_}
 use native.Mathlib.Omega.{arith}
-use mathlib.Core.Path.{_≡_, subst}
+use mathlib.Core.Path.{_≡_, refl, subst}
 use mathlib.Core.Bool.{Bool, true, false, cond}
 use mathlib.Core.List.{List}
 use lib.Dec.{ltb}
 use lib.ListN.{length, take, length-take}
+use borrow.Author.Tests.{not-true}
 use Rattle.outlet.specs.Outlets.{capacity, queue}
 use Rattle.bus.specs.declared.Heard as H
 use Rattle.bus.specs.declared.Heard.the-variants as frame
@@ -21,7 +22,7 @@ use Rattle.shelf.specs.declared.Unit as U
 use Rattle.answer.specs.declared.Hearing as A
 use Rattle.answer.specs.declared.Hearing.the-variants.{Other}
 use Rattle.admit.specs.Admission.{Housed}
-use Rattle.hearing.specs.Hearings.{addressed, planFor, planOf, storeBy}
+use Rattle.hearing.specs.Hearings.{addressed, passesBy, asideOf, planFor, planOf, storeBy}
 use Rattle.hearing.specs.declared.Plan.{Plan}
 use Rattle.hearing.specs.declared.Plan.the-variants.{Queue, Lost}
 
@@ -42,6 +43,13 @@ plan-queue u (frame.Cell target class header) q e = pick (addressed u target) e
     pick : (b : Bool) → cond b (planFor (fate (u .outlet) (u .settings .link) class header) (queueOf (u .outlet .limits) class)) (Lost Other) ≡ Queue q → q < 4
     pick true e = subst (λ n. n < 4) (plan-for-queue (fate (u .outlet) (u .settings .link) class header) _ q e) (queue-lt (u .outlet .limits) class)
     pick false e = let z : _≡_ {A = ℕ} 0 1 = cc in absurd (omega arith)
+
+-- a frame that passes the unit by is lost there
+pub passes-lost : (u : U.Unit) (h : H.Heard) → passesBy u h ≡ true → planOf u h ≡ Lost (asideOf h)
+unfolding passesBy asideOf planOf
+passes-lost u frame.Length e = refl
+passes-lost u frame.Damaged e = refl
+passes-lost u (frame.Cell target class header) e = rw (not-true (addressed u target) e)
 
 -- the next place of a queue lies in the store
 back-le : (cap p : ℕ) → back cap p ≤ p

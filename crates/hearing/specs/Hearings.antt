@@ -1,6 +1,6 @@
 -- What becomes of a heard frame at a unit. Assumes nothing.
 use Prim.Native.Nat.{ℕ}
-use mathlib.Core.Bool.{Bool, true, cond}
+use mathlib.Core.Bool.{Bool, true, not, cond}
 use mathlib.Core.List.{List}
 use lib.Dec.{eqb}
 use lib.ListN.{length, take}
@@ -57,6 +57,17 @@ planOf u frame.Length = Lost Damaged
 planOf u frame.Damaged = Lost Damaged
 planOf u (frame.Cell target class header) =
     cond (addressed u target) (planFor (fate (u .outlet) (u .settings .link) class header) (queueOf (u .outlet .limits) class)) (Lost Other)
+
+-- whether a frame passes the unit by, and its fate there if it does
+unfoldable pub passesBy : U.Unit → H.Heard → Bool
+passesBy u frame.Length = true
+passesBy u frame.Damaged = true
+passesBy u (frame.Cell target class header) = not (addressed u target)
+
+unfoldable pub asideOf : H.Heard → A.Hearing
+asideOf frame.Length = Damaged
+asideOf frame.Damaged = Damaged
+asideOf (frame.Cell target class header) = Other
 
 -- the fate that a plan comes to
 unfoldable pub fateBy : Plan → A.Hearing

@@ -14,7 +14,7 @@ ghost use Rattle.answer.specs.Answers.{outcomeBy};
 ghost use Rattle.bus.specs.Frame.{heard as heardOf};
 ghost use Rattle.state.specs.Bytes.{unitIn};
 ghost use Rattle.admit.specs.Admission.{Housed};
-ghost use Rattle.hearing.specs.Hearings.{addressed as addressedTo, planFor, planOf, fateBy, storeOf};
+ghost use Rattle.hearing.specs.Hearings.{addressed as addressedTo, passesBy, asideOf, planFor, planOf, fateBy, storeOf};
 ghost use Rattle.hearing.specs.InPlace.{stateBy, stateAt, outcomeAt, hearOut, hearState, hearStoreIn};
 
 // A copy is queued in this queue, or lost with this fate.
@@ -35,6 +35,37 @@ fn addressed_at(s: &[u8], place: usize, target: Target) -> bool
             shelf::hears(sessions, session)
         }
         Target::All => true,
+    }
+}
+
+// Whether a heard frame passes the unit in a place by: it is damaged, or not addressed to it.
+pub fn passes(s: &[u8], place: usize, heard: Heard) -> bool
+    requires { ⌜ (length (now s) ≡ 2048) × (place < 32) ⌝ }
+    ensures { λ r. ⌜ r ≡ passesBy (unitIn (now (s .entry)) place) heard ⌝ }
+{
+    match heard {
+        Heard::Length => true,
+        Heard::Damaged => true,
+        Heard::Cell {
+            target,
+            class: _,
+            header: _,
+        } => !addressed_at(s, place, target),
+    }
+}
+
+// The fate of a heard frame at a unit that it passes by.
+pub fn aside(heard: Heard) -> Hearing
+    ensures { λ r. ⌜ r ≡ asideOf heard ⌝ }
+{
+    match heard {
+        Heard::Length => Hearing::Damaged,
+        Heard::Damaged => Hearing::Damaged,
+        Heard::Cell {
+            target: _,
+            class: _,
+            header: _,
+        } => Hearing::Other,
     }
 }
 

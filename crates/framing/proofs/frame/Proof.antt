@@ -1,7 +1,7 @@
 -- `framing::frame` meets its contract. Assumes nothing.
 use Prim.Native.Nat.{_≤_}
 use native.Mathlib.Omega.{arith}
-use mathlib.Core.Path.{_≡_, sym, subst, _∙_}
+use mathlib.Core.Path.{_≡_, sym, ap, subst, _∙_}
 use lib.ListN.{length}
 use borrow.Author.Tests.{not-true, not-false}
 use Rattle.state.specs.Bytes.{shelfIn}
@@ -13,7 +13,7 @@ use Rattle.answer.specs.Answers.{refused}
 use Rattle.admit.proofs.Laws.{sound-housed}
 use Rattle.admit.proofs.InPlace.{sound-in}
 use Rattle.framing.specs.Frames.{doneAt, storeAt, bufferAt}
-use Rattle.framing.specs.InPlace.{stateAt}
+use Rattle.framing.specs.InPlace.{stateAt, framedBy}
 use Rattle.framing.proofs.Sends.{housed-in, checked-unsound, checked-misfit, checked-good}
 use Rattle.framing.proofs.InPlace.{in-unsound, in-misfit, in-good}
 use borrow.Author.Needs.{needs}
@@ -33,9 +33,10 @@ returns c =
     let store = a .store .now in
     let buffer = a .buffer .now in
     let n = length buffer in
-    let s = sym (c .before .before .sound .ensures) ∙ not-true _ (c .before .if1 .taken) in (
+    let s = sym (c .before .before .sound .ensures) ∙ not-true _ (c .before .if1 .taken) in
+    let w = ap (framedBy (c .refused .result)) (c .before .before .before .before .before .before .before .pre) ∙ c .refused .ensures in (
       (
-        c .refused .ensures ∙ in-unsound (a .card) b (length store) (a .rows) n outcomeOf (refused (shelfIn b) 8) (refused (shelfIn b) 10) (doneAt (shelfIn b) store) s,
+        w ∙ in-unsound (a .card) b (length store) (a .rows) n outcomeOf (refused (shelfIn b) 8) (refused (shelfIn b) 10) (doneAt (shelfIn b) store) s,
         (
           checked-unsound (soundIn (a .card) b (length store) (a .rows)) n b b (stateAt b store) s,
           (
@@ -44,7 +45,7 @@ returns c =
           ),
         ),
       ),
-      subst (λ (x : Outcome). (x .rises .to ≤ 32) × (x .rises .to ≤ a .rows)) (sym (c .refused .ensures)) (omega arith, omega arith),
+      subst (λ (x : Outcome). (x .rises .to ≤ 32) × (x .rises .to ≤ a .rows)) (sym w) (omega arith, omega arith),
     )
 
 refused-requires-2 : tie.Need-refused-requires-2
@@ -58,9 +59,10 @@ returns-2 c =
     let buffer = a .buffer .now in
     let n = length buffer in
     let s = sym (c .before .before .before .sound .ensures) ∙ not-false _ (c .before .before .if1 .left) in
-    let m = c .before .if2 .taken in (
+    let m = c .before .if2 .taken in
+    let w = ap (framedBy (c .refused2 .result)) (c .before .before .before .before .before .before .before .before .pre) ∙ c .refused2 .ensures in (
       (
-        c .refused2 .ensures ∙ in-misfit (a .card) b (length store) (a .rows) n outcomeOf (refused (shelfIn b) 8) (refused (shelfIn b) 10) (doneAt (shelfIn b) store) s m,
+        w ∙ in-misfit (a .card) b (length store) (a .rows) n outcomeOf (refused (shelfIn b) 8) (refused (shelfIn b) 10) (doneAt (shelfIn b) store) s m,
         (
           checked-misfit (soundIn (a .card) b (length store) (a .rows)) n b b (stateAt b store) s m,
           (
@@ -69,17 +71,17 @@ returns-2 c =
           ),
         ),
       ),
-      subst (λ (x : Outcome). (x .rises .to ≤ 32) × (x .rises .to ≤ a .rows)) (sym (c .refused2 .ensures)) (omega arith, omega arith),
+      subst (λ (x : Outcome). (x .rises .to ≤ 32) × (x .rises .to ≤ a .rows)) (sym w) (omega arith, omega arith),
     )
 
 frame-on-requires : tie.Need-frame-on-requires
 frame-on-requires c κs =
-    let a = c .before .before .before .before .before .before .before .before .before .before .args in
+    let a = c .before .before .before .before .before .before .before .before .before .before .before .args in
     let b = a .s .now in
-    let s = sym (c .before .before .before .before .before .sound .ensures) ∙ not-false _ (c .before .before .before .before .if1 .left) in
+    let s = sym (c .before .before .before .before .before .before .sound .ensures) ∙ not-false _ (c .before .before .before .before .before .if1 .left) in
     let w = sound-in (a .card) b (length (a .store .now)) (a .rows) s in
     let long : length b ≡ 2048 = search needs in
-    (long, c .before .before .before .if2 .left, housed-in b (length (a .store .now)) (λ i h. sound-housed (a .card) (shelfIn b) (length (a .store .now)) (a .rows) (w .1) i h .0))
+    (long, c .before .before .before .before .if2 .left, housed-in b (length (a .store .now)) (λ i h. sound-housed (a .card) (shelfIn b) (length (a .store .now)) (a .rows) (w .1) i h .0), c .before .before .before .before .before .before .before .before .before .before .before .pre)
 
 same-length : tie.Need-same-length
 same-length c = search needs
@@ -89,13 +91,13 @@ same-length-2 c = search needs
 
 returns-3 : tie.Need-returns-3
 returns-3 c =
-    let a = c .before .before .before .before .before .before .before .before .before .before .before .before .before .before .before .args in
+    let a = c .before .before .before .before .before .before .before .before .before .before .before .before .before .before .before .before .args in
     let b = a .s .now in
     let store = a .store .now in
     let buffer = a .buffer .now in
     let n = length buffer in
-    let s = sym (c .before .before .before .before .before .before .before .before .before .before .sound .ensures) ∙ not-false _ (c .before .before .before .before .before .before .before .before .before .if1 .left) in
-    let m = c .before .before .before .before .before .before .before .before .if2 .left in
+    let s = sym (c .before .before .before .before .before .before .before .before .before .before .before .sound .ensures) ∙ not-false _ (c .before .before .before .before .before .before .before .before .before .before .if1 .left) in
+    let m = c .before .before .before .before .before .before .before .before .before .if2 .left in
     let w = c .before .before .before .before .frame-on .ensures in
     let g = sound-iff (a .card) (shelfIn b) (length store) (a .rows) .0 (sound-in (a .card) b (length store) (a .rows) s .1) in (
       (
@@ -112,15 +114,4 @@ returns-3 c =
     )
 
 pub frame-spec : {M : Type 1} → statement M
-frame-spec =
-    tie.close
-    (tie.spec
-    sound-requires
-    refused-requires
-    returns
-    refused-requires-2
-    returns-2
-    frame-on-requires
-    same-length
-    same-length-2
-    returns-3)
+frame-spec = tie.close (tie.spec sound-requires refused-requires returns refused-requires-2 returns-2 frame-on-requires same-length same-length-2 returns-3)

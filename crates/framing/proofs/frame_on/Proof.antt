@@ -1,9 +1,9 @@
 -- `framing::frame_on` meets its contract. Assumes nothing.
 use Prim.Native.Nat.{_+_, _%_, _^_}
 use native.Mathlib.Omega.{arith}
-use mathlib.Core.Path.{ap, _∙_}
+use mathlib.Core.Path.{_≡_, ap, _∙_}
 use mathlib.Core.Bool.{false}
-use lib.ListN.{getD}
+use lib.ListN.{length, getD}
 use Rattle.arbiter.specs.Arbitration.{grantedBy}
 use Rattle.state.specs.Bytes.{withTurn}
 use Rattle.answer.specs.declared.Answer.the-variants.{Framed}
@@ -24,7 +24,7 @@ renew-all-requires : tie.Need-renew-all-requires
 renew-all-requires c κs = search needs
 
 send-granted-requires : tie.Need-send-granted-requires
-send-granted-requires c κs = c .before .before .before .before .before .before .before .before .before .before .before .before .pre
+send-granted-requires c κs = c .before .before .before .before .before .before .before .before .before .before .before .before .before .before .pre
 
 grant-requires : tie.Need-grant-requires
 grant-requires c κs = search needs
@@ -33,10 +33,10 @@ wrapping-add-u16-requires : tie.Need-wrapping-add-u16-requires
 wrapping-add-u16-requires c κs = search needs
 
 put-turn-requires : tie.Need-put-turn-requires
-put-turn-requires c κs = search needs
+put-turn-requires c κs = let e : length (c .before .before .before .before .before .before .before .before .before .before .before .before .send-granted .last .0) ≡ length (c .before .before .before .before .before .before .before .before .before .before .before .before .before .before .before .before .before .before .before .before .before .before .before .before .before .before .before .args .s .now) = search needs in e ∙ c .before .before .before .before .before .before .before .before .before .before .before .before .before .before .before .before .before .before .before .before .before .before .before .before .before .before .before .pre .0
 
-cast-t31 : tie.Need-cast-t31
-cast-t31 c = omega (arith, c .before .before .before .before .before .before .before .before .before .before .before .before .before .before .before .before .before .before .before .before .slice-known5 .given 805)
+cast-t32 : tie.Need-cast-t32
+cast-t32 c = omega (arith, c .before .before .before .before .before .before .before .before .before .before .before .before .before .before .before .before .before .before .before .before .before .before .slice-known6 .given 805)
 
 same-length : tie.Need-same-length
 same-length c = search needs
@@ -47,12 +47,15 @@ same-length-2 c = search needs
 same-length-3 : tie.Need-same-length-3
 same-length-3 c = search needs
 
+same-length-4 : tie.Need-same-length-4
+same-length-4 c = search needs
+
 returns : tie.Need-returns
 returns c =
-    let b = c .before .before .before .before .before .before .before .before .before .before .before .before .before .before .before .before .before .before .before .before .before .before .before .before .before .before .before .args .s .now in
-    let n = c .before .before .before .before .before .before .before .before .before .before .before .before .before .before .before .before .before .before .before .before .before .before .frame-at .ensures in
-    let g = c .before .before .before .before .before .before .before .grant .ensures ∙ ap grantedBy (c .before .before .before .before .before .before .before .before .before .before .before .before .before .before .before .before .before .before .renew-all .ensures) in
-    let w = c .before .before .before .before .before .before .before .before .before .before .before .before .before .before .send-granted .ensures in
+    let b = c .before .before .before .before .before .before .before .before .before .before .before .before .before .before .before .before .before .before .before .before .before .before .before .before .before .before .before .before .before .before .args .s .now in
+    let n = c .before .before .before .before .before .before .before .before .before .before .before .before .before .before .before .before .before .before .before .before .before .before .before .before .frame-at .ensures in
+    let g = c .before .before .before .before .before .before .grant .ensures ∙ ap grantedBy (c .before .before .before .before .before .before .before .before .before .before .before .before .before .before .before .before .before .before .before .before .renew-all .ensures) in
+    let w = c .before .before .before .before .before .before .before .before .before .before .before .before .before .before .before .send-granted .ensures in
     let next = c .before .before .before .wrapping-add-u16 .ensures ∙ ap (λ k. (k + 1) % 2 ^ 16) n in (
       (λ i.
           record {
@@ -74,8 +77,9 @@ frame-on-spec =
     grant-requires
     wrapping-add-u16-requires
     put-turn-requires
-    cast-t31
+    cast-t32
     same-length
     same-length-2
     same-length-3
+    same-length-4
     returns)

@@ -3,7 +3,7 @@ use Prim.Native.Nat.{ℕ, _+_, _-_, _≤_, _<_, min}
 use native.Mathlib.Omega.{arith}
 use mathlib.Core.Path.{_≡_, refl, sym, ap, subst, _∙_}
 use mathlib.Core.Bool.{false, _||_}
-use lib.ListN.{length, set, getD, replicate}
+use lib.ListN.{length, set, getD, length-set}
 use Rattle.state.specs.Bytes.{unitIn}
 use Rattle.answer.specs.Answers.{hearingRises, queuedOne, isAddressed}
 use Rattle.admit.specs.Admission.{Housed}
@@ -17,17 +17,18 @@ use Rattle.framing.proofs.hear_all.Statement.{statement}
 use Rattle.framing.proofs.hear_all.Tie as tie
 
 abbrev Inv-loop : tie.InvT-loop
-Inv-loop s₀ heard store₀ cell end each₀ copies₀ addressed₀ i₀ s store each copies addressed i =
+Inv-loop s₀ heard cell store₀ each₀ end copies₀ addressed₀ i₀ s store each copies addressed i =
     (i ≤ end)
     × (end ≤ 32)
     × (copies ≤ i)
     × (length s ≡ 2048)
     × (length store ≡ length store₀)
+    × (length each ≡ 32)
     × ((j : ℕ) → i ≤ j → j < end → Housed j (unitIn s j) (length store₀))
     × (heededBy heard cell s₀ store₀ ≡ turns heard cell i (end - i) (scene s store each copies addressed))
 
 abbrev μ-loop : tie.MeasureT-loop
-μ-loop s₀ heard store₀ cell end each₀ copies₀ addressed₀ i₀ s store each copies addressed i = end - i
+μ-loop s₀ heard cell store₀ each₀ end copies₀ addressed₀ i₀ s store each copies addressed i = end - i
 
 slice-read-declared-count : tie.Need-slice-read-declared-count Inv-loop μ-loop
 slice-read-declared-count c = search needs
@@ -37,21 +38,24 @@ declared-count-requires c κs = search needs
 
 loop-holds : tie.Need-loop-holds Inv-loop μ-loop
 loop-holds c =
-    let s = c .before .before .before .before in
+    let s = c .before .before .before .before .before .before in
     let a = s .args in
     let e = c .declared-count .ensures in
-    let n : min (getD (a .s .now) 805 0) 32 ≡ c .declared-count .result - 0 = omega arith in
-    (omega arith, omega arith, omega arith, s .pre .0, refl, λ j h l. s .pre .1 j (omega arith), ap (λ k. turns (a .heard) (a .t3) 0 k (scene (a .s .now) (a .store .now) (replicate 32 0) 0 false)) n)
+    let n : min (getD (a .s .now) 805 0) 32 ≡ c .declared-count .result - 0 = omega arith in (
+      omega arith,
+      omega arith,
+      omega arith,
+      s .pre .0,
+      refl,
+      ap length (s .pre .3),
+      λ j h l. s .pre .2 j (omega arith),
+      (λ t. turns (a .heard) (a .cell .now) 0 (n t) (scene (a .s .now) (a .store .now) (sym (s .pre .3) t) 0 false)),
+    )
 
-slice-aggregate-hear-one : tie.Need-slice-aggregate-hear-one Inv-loop μ-loop
-slice-aggregate-hear-one c = search needs
-
-hear-one-requires : tie.Need-hear-one-requires Inv-loop μ-loop
-hear-one-requires c κs =
-    let a = c .before .before .before .before .before .before .before .before .before .args in
-    let l = c .before .before .before .before .loop in
-    let full : length (a .t3) ≡ 56 = search needs in
-    (l .inv .3, full, subst (λ n. Housed (l .i) (unitIn (l .s) (l .i)) n) (sym (l .inv .4)) (l .inv .5 (l .i) (omega arith) (omega arith)))
+heed-requires : tie.Need-heed-requires Inv-loop μ-loop
+heed-requires c κs =
+    let l = c .before .before .before .loop in
+    (l .inv .3, c .before .before .before .before .before .before .before .before .before .before .pre .1, subst (λ n. Housed (l .i) (unitIn (l .s) (l .i)) n) (sym (l .inv .4)) (l .inv .6 (l .i) (omega arith) (omega arith)))
 
 hearing-rises-requires : tie.Need-hearing-rises-requires Inv-loop μ-loop
 hearing-rises-requires c κs = search needs
@@ -59,14 +63,14 @@ hearing-rises-requires c κs = search needs
 mul-each : tie.Need-mul-each Inv-loop μ-loop
 mul-each c = search needs
 
-array-write-each : tie.Need-array-write-each Inv-loop μ-loop
-array-write-each c = search needs
+slice-write-each : tie.Need-slice-write-each Inv-loop μ-loop
+slice-write-each c = search needs
 
 queued-one-requires : tie.Need-queued-one-requires Inv-loop μ-loop
 queued-one-requires c κs = search needs
 
 add-copies : tie.Need-add-copies Inv-loop μ-loop
-add-copies c = let w = c .before .before .before .before .before .before .before .before .before .before .before .loop .inv in let q = c .queued-one .ensures .1 in omega (arith, w .0, w .1, w .2, q)
+add-copies c = let w = c .before .before .before .before .before .before .before .before .before .before .loop .inv in let q = c .queued-one .ensures .1 in omega (arith, w .0, w .1, w .2, q)
 
 is-addressed-requires : tie.Need-is-addressed-requires Inv-loop μ-loop
 is-addressed-requires c κs = search needs
@@ -79,10 +83,10 @@ loop-less c = search needs
 
 loop-again : tie.Need-loop-again Inv-loop μ-loop
 loop-again c =
-    let l = c .before .before .before .before .before .before .before .before .before .before .before .before .loop in
-    let a = c .before .before .before .before .before .before .before .before .before .before .before .before .before .before .before .before .before .args in
-    let w = c .before .before .before .before .before .before .before .hear-one in
-    let n = c .before .before .before .before .before .before .before .before .before .before .before .before .before .declared-count .result in
+    let l = c .before .before .before .before .before .before .before .before .before .before .before .loop in
+    let a = c .before .before .before .before .before .before .before .before .before .before .before .before .before .before .before .before .before .before .args in
+    let w = c .before .before .before .before .before .before .before .heed in
+    let n = c .before .before .before .before .before .before .before .before .before .before .before .before .declared-count .result in
     let u = unitIn (l .s) (l .i) in
     let p = planOf u (a .heard) in
     let f = w .ensures .0 in
@@ -95,22 +99,26 @@ loop-again c =
       omega (arith, l .inv .2, c .before .queued-one .ensures .1),
       ap length es ∙ state-long p (l .s) (l .i) ∙ l .inv .3,
       long ∙ l .inv .4,
-      λ j hj lj. subst (λ x. Housed j x (length (a .store .now))) (sym (ap (λ b. unitIn b j) es ∙ state-there p (l .s) (l .i) (plan-queue u (a .heard)) (omega (arith, l .inv .1, less)) (l .inv .3) j (omega (arith, l .inv .1, lj)) (λ e. absurd (omega arith)))) (l .inv .5 j (omega arith) lj),
-      l .inv .6 ∙ turns-step (a .heard) (a .t3) (l .i) n _ _ less (λ t.
+      length-set (l .each) (l .i) (c .before .before .hearing-rises .result) ∙ l .inv .5,
+      λ j hj lj. subst (λ x. Housed j x (length (a .store .now))) (sym (ap (λ b. unitIn b j) es ∙ state-there p (l .s) (l .i) (plan-queue u (a .heard)) (omega (arith, l .inv .1, less)) (l .inv .3) j (omega (arith, l .inv .1, lj)) (λ e. absurd (omega arith)))) (l .inv .6 j (omega arith) lj),
+      l .inv .7 ∙ turns-step (a .heard) (a .cell .now) (l .i) n _ _ less (λ t.
           scene (sym es t) (sym et t) (set (l .each) (l .i) (sym (c .before .before .hearing-rises .ensures ∙ ap hearingRises f) t)) (l .copies + sym (c .before .queued-one .ensures .0 ∙ ap queuedOne f) t) (l .addressed || sym (c .is-addressed .ensures ∙ ap isAddressed f) t)),
     )
 
 same-length : tie.Need-same-length Inv-loop μ-loop
-same-length c = c .before .loop .inv .3 ∙ sym (c .before .before .before .before .before .before .pre .0)
+same-length c = c .before .loop .inv .3 ∙ sym (c .before .before .before .before .before .before .before .before .pre .0)
 
 same-length-2 : tie.Need-same-length-2 Inv-loop μ-loop
 same-length-2 c = c .before .loop .inv .4
 
+same-length-3 : tie.Need-same-length-3 Inv-loop μ-loop
+same-length-3 c = c .before .loop .inv .5 ∙ sym (ap length (c .before .before .before .before .before .before .before .before .pre .3))
+
 returns : tie.Need-returns Inv-loop μ-loop
 returns c =
     let l = c .before .loop in
-    let a = c .before .before .before .before .before .before .args in
-    let e = sym (l .inv .6 ∙ turns-end (a .heard) (a .t3) (l .i) _ (scene (l .s) (l .store) (l .each) (l .copies) (l .addressed)) (omega arith)) in
+    let a = c .before .before .before .before .before .before .before .before .args in
+    let e = sym (l .inv .7 ∙ turns-end (a .heard) (a .cell .now) (l .i) _ (scene (l .s) (l .store) (l .each) (l .copies) (l .addressed)) (omega arith)) in
     (λ t. e t .tally, (λ t. e t .bytes, λ t. e t .store))
 
 pub hear-all-spec : {M : Type 1} → statement M
@@ -122,11 +130,10 @@ hear-all-spec =
     slice-read-declared-count
     declared-count-requires
     loop-holds
-    slice-aggregate-hear-one
-    hear-one-requires
+    heed-requires
     hearing-rises-requires
     mul-each
-    array-write-each
+    slice-write-each
     queued-one-requires
     add-copies
     is-addressed-requires
@@ -135,4 +142,5 @@ hear-all-spec =
     loop-again
     same-length
     same-length-2
+    same-length-3
     returns)

@@ -7,7 +7,7 @@ use Rattle.shelf.proofs.Finding.{find-at, declared-length}
 use Rattle.state.specs.Bytes.{shelfIn}
 use Rattle.state.proofs.Laws.{units-length}
 use Rattle.framing.specs.Frames.{listenedBy, storeBy, bufferBy}
-use Rattle.framing.specs.Scenes.{heededOf}
+use Rattle.framing.specs.Scenes.{talliedBy, heededOf}
 use Rattle.framing.specs.InPlace.{stateBy}
 use borrow.Author.Needs.{needs}
 use Rattle.framing.proofs.send_granted.Statement.{statement}
@@ -24,11 +24,11 @@ enum-known-place c = search needs
 
 send-requires : tie.Need-send-requires
 send-requires c κs =
-    let s = c .before .before .before .before .before .before .before .before .before .before .before in
+    let s = c .before .before .before .before .before .before .before .before .before .before .before .before .before in
     let b = s .args .s .now in
-    let e = sym (c .before .before .before .before .before .before .find .ensures) ∙ c .before .before .before .before .place .given .1 in
+    let e = sym (c .before .before .before .before .before .before .before .find .ensures) ∙ c .before .before .before .before .before .place .given .1 in
     let w = find-at (getD b 803 0) (declared (shelfIn b)) _ .0 e .inside in
-    (s .pre .0, s .pre .1, omega (arith, w, declared-length (shelfIn b) (units-length b 0 32)), s .pre .2)
+    (s .pre .0, s .pre .1, omega (arith, w, declared-length (shelfIn b) (units-length b 0 32)), s .pre .2, s .pre .3)
 
 enum-told : tie.Need-enum-told
 enum-told c = search needs
@@ -45,13 +45,16 @@ same-length-2 c = search needs
 same-length-3 : tie.Need-same-length-3
 same-length-3 c = search needs
 
+same-length-4 : tie.Need-same-length-4
+same-length-4 c = search needs
+
 returns : tie.Need-returns
 unfolding listenedBy storeBy bufferBy stateBy
 returns c =
-    let a = c .before .before .before .before .before .before .before .before .before .before .before .before .before .before .before .before .before .before .args in
+    let a = c .before .before .before .before .before .before .before .before .before .before .before .before .before .before .before .before .before .before .before .before .before .before .args in
     let b = a .s .now in
-    let e = sym (sym (c .before .before .before .before .before .before .before .before .before .before .before .before .before .find .ensures) ∙ c .before .before .before .before .before .before .before .before .before .before .before .place .given .1) in
-    let w = c .before .before .before .before .before .before .send .ensures in (
+    let e = sym (sym (c .before .before .before .before .before .before .before .before .before .before .before .before .before .before .before .before .find .ensures) ∙ c .before .before .before .before .before .before .before .before .before .before .before .before .before .before .place .given .1) in
+    let w = c .before .before .before .before .before .before .before .before .send .ensures in (
       w .0 ∙ ap (λ x. heededOf (listenedBy x (shelfIn b) (a .store .now))) e,
       (
         w .1 .0 ∙ ap (λ x. stateBy x b (a .store .now)) e,
@@ -59,16 +62,17 @@ returns c =
       ),
     )
 
-same-length-4 : tie.Need-same-length-4
-same-length-4 c = search needs
+same-length-5 : tie.Need-same-length-5
+same-length-5 c = search needs
 
 returns-2 : tie.Need-returns-2
 unfolding listenedBy storeBy bufferBy stateBy
 returns-2 c =
-    let a = c .before .before .before .before .before .before .before .before .args in
+    let s = c .before .before .before .before .before .before .before .before .before in
+    let a = s .args in
     let b = a .s .now in
     let e = sym (sym (c .before .before .before .find .ensures) ∙ c .before .enum-told .given .1) in (
-      c .silence .ensures ∙ ap (λ x. heededOf (listenedBy x (shelfIn b) (a .store .now))) e,
+      ap (talliedBy (c .silence .result)) (s .pre .3) ∙ c .silence .ensures ∙ ap (λ x. heededOf (listenedBy x (shelfIn b) (a .store .now))) e,
       (
         ap (λ x. stateBy x b (a .store .now)) e,
         (ap (λ x. storeBy x (shelfIn b) (a .store .now)) e, ap (λ x. bufferBy x (shelfIn b) (a .store .now) (a .buffer .now)) e),
@@ -88,6 +92,7 @@ send-granted-spec =
     same-length
     same-length-2
     same-length-3
-    returns
     same-length-4
+    returns
+    same-length-5
     returns-2)
