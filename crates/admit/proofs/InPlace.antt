@@ -9,13 +9,14 @@ use lib.ListN.{getD, length-take}
 use Rattle.card.specs.declared.Card.{Card}
 use Rattle.outlet.proofs.Truth.{and-iff}
 use Rattle.shelf.specs.Shelves.{declared, blank, findIn}
+use Rattle.shelf.specs.declared.Found as F
 use Rattle.shelf.specs.declared.Found.the-variants as found
 use Rattle.shelf.proofs.Finding.{find-at}
 use Rattle.state.specs.Bytes.{unitIn, shelfIn}
 use Rattle.state.proofs.Laws.{unit-at}
 use Rattle.soundness.specs.State.{soundOf}
 use Rattle.soundness.specs.Soundings.{formedAll, soundIn}
-use Rattle.admit.specs.Admission.{atUnit, admitted, admittedIn, formedOr, decided, unitAt, Housed}
+use Rattle.admit.specs.Admission.{atUnit, admitted, admittedIn, formedOr, decided, toldApart, countedIn, unitAt, Housed}
 use Rattle.admit.specs.declared.Admitted as A
 use Rattle.admit.specs.declared.Admitted.the-variants.{At, Refused}
 use Rattle.admit.proofs.Laws.{unsound, stranger, misfit, let-in, LetIn, at-let-in, let-in-housed, decided-at, decided-refused}
@@ -109,3 +110,25 @@ module _ {X Y : Type 0} (f : X → Y) (inside outside : ℕ → X) (bad : Y) (ca
       pick : (t : Bool) → formedAll b ≡ t → f (outside n) ≡ cond t (f (decided (admitted card (shelfIn b) store rows unit right) inside outside)) bad
       pick true t = ap f (decided-refused inside outside _ n (w .0 t))
       pick false t = ap (λ m. f (outside m)) (w .1 t) ∙ h
+
+-- which row a count reads
+module _ (card : Card) (b : List ℕ) (store rows unit : ℕ) where
+  -- no refusal has the number 0
+  numbered : (n : ℕ) → admittedIn card b store rows unit true ≡ Refused n → n ≡ 0 → ⊥
+  unfolding admittedIn admitted atUnit
+  numbered n e none = pick (formedAll b) (soundOf card (shelfIn b) store rows) (findIn (declared (shelfIn b)) unit) e
+    where
+      pick : (f s : Bool) (w : F.Found) → cond f (cond s (atUnit w true) (Refused 8)) (Refused 8) ≡ Refused n → ⊥
+      pick true true (found.At i) h = let z : _≡_ {A = ℕ} 0 1 = cc in omega arith
+      pick true true found.Nothing h = let z : 9 ≡ n = cc in omega arith
+      pick true false w h = let z : 8 ≡ n = cc in omega arith
+      pick false s w h = let z : 8 ≡ n = cc in omega arith
+
+  -- so where the number is 0 the unit is let in, and its row is there
+  pub row-there : countedIn card b store rows unit .number ≡ 0 → (countedIn card b store rows unit .at < 32) × (countedIn card b store rows unit .at < rows)
+  unfolding toldApart
+  row-there e = pick (admittedIn card b store rows unit true) refl e
+    where
+      pick : (a : A.Admitted) → admittedIn card b store rows unit true ≡ a → toldApart a .number ≡ 0 → (toldApart a .at < 32) × (toldApart a .at < rows)
+      pick (At i) inside z = let w = in-place card b store rows unit true i inside in (w .below, w .row)
+      pick (Refused n) outside z = absurd (numbered n outside z)

@@ -2,3 +2,4 @@ pub mod Arrays
 pub mod Calls
 pub mod Row
 pub mod Settling
+pub mod Ticking

@@ -8,12 +8,14 @@ use mathlib.Core.Logic.{_⊎_, ⊎-elim}
 use mathlib.Core.Bool.{Bool, true, false, cond}
 use mathlib.Core.List.{List}
 use lib.Dec.{leb}
-use lib.ListN.{length, getD, set, length-set}
+use lib.ListN.{length, getD, set, length-set, replicate, length-replicate}
 use lib.Seq.{getD-set-same, getD-set-other}
 use borrow.Author.Tests.{le-leb, lt-leb, leb-true, ne-eqb}
 use Rattle.answer.specs.declared.Rises.{Rises}
+use Rattle.answer.specs.declared.Single.{Single}
+use Rattle.answer.specs.Answers.{row, spread, outcomeBy}
 use Rattle.counters.specs.declared.Counters.{Counters}
-use Rattle.counters.specs.Counting.{value, zeros, raised, rowAfter, riseAt, rowBy, settledTo, settled}
+use Rattle.counters.specs.Counting.{value, zeros, raised, rowAfter, riseAt, riseOf, rowBy, settledTo, settled, risesTo}
 
 -- each counter rises by its own bit, and no other
 pub raised-value : (c : Counters) (n k : ℕ) → k < 13 → value (raised c n) k ≡ (value c k + n / 2 ^ k % 2) % 2 ^ 32
@@ -56,6 +58,10 @@ pub record Fitting (c : Counters) : Type 0 where
 
 same : (x : ℕ) → x < 2 ^ 32 → (x + 0) % 2 ^ 32 ≡ x
 same x h = omega arith
+
+-- a counter that does not rise
+pub stays : (x : ℕ) → x < 2 ^ 32 → x ≡ (x + 0) % 2 ^ 32
+stays x h = sym (same x h)
 
 -- by the empty set none rises
 pub raised-none : (c : Counters) → Fitting c → raised c 0 ≡ c
@@ -213,3 +219,63 @@ module _ (rows : List Counters) (rises : Rises) where
   pub settled-end : (i : ℕ) → rises .to ≤ i → (i ≤ rises .to) ⊎ (i ≤ rises .from) → upTo i ≡ settled rows rises
   settled-end i h w =
       ⊎-elim (λ (e : i ≤ rises .to). ap upTo (le-antisymm e h)) (λ (e : i ≤ rises .from). settled-none i e ∙ sym (settled-none (rises .to) (omega arith))) w
+
+-- a row of a frame: by its own set, which is in hand; as it was by the empty one
+pub rises-own : (c : Counters) (n : ℕ) (each : List ℕ) (i set : ℕ) → getD each i 0 ≡ set → raised c set ≡ rowAfter c (risesTo n each) i
+unfolding rowAfter
+rises-own c n each i set e = ap (raised c) (sym e)
+
+pub rises-none : (c : Counters) (n : ℕ) (each : List ℕ) (i : ℕ) → Fitting c → getD each i 0 ≡ 0 → c ≡ rowAfter c (risesTo n each) i
+rises-none c n each i f e = sym (raised-none c f) ∙ rises-own c n each i 0 e
+
+-- an event at one unit that is counted: one row changes
+one-row : (rows : List Counters) (place n : ℕ) → place < 32 → settled rows (row place n) ≡ set rows place (raised (getD rows place zeros) n)
+unfolding rowAfter
+one-row rows place n h =
+    settled-next rows (row place n) place (omega arith)
+    ∙ (λ i. set (settled-none rows (row place n) place (omega arith) i) place (raised (getD rows place zeros) (own i)))
+  where
+    zeroed : List ℕ
+    zeroed = replicate 32 0
+
+    own : getD (set zeroed place n) place 0 ≡ n
+    own = getD-set-same zeroed place n 0 (omega (arith, length-replicate {A = ℕ} 32 0))
+
+module _ (rows : List Counters) (done : Single) where
+  abbrev rising : Rises
+  rising = outcomeBy done .rises
+
+  pub counted-last : done .counted ≡ true → rising .to ≡ done .place + 1
+  unfolding spread
+  counted-last e = ap (λ (b : Bool). spread b (done .place) (done .counters) .to) e
+
+  pub counted-rise : done .counted ≡ true → riseOf done ≡ done .counters % 8192
+  unfolding riseOf
+  counted-rise e = rw e
+
+  -- a rise is of an event that is counted
+  pub risen-counted : (riseOf done ≡ 0 → ⊥) → done .counted ≡ true
+  unfolding riseOf
+  risen-counted some = by-counted (done .counted) refl
+    where
+      by-counted : (b : Bool) → done .counted ≡ b → b ≡ true
+      by-counted true e = refl
+      by-counted false e = absurd (some (rw e))
+
+  pub settled-one : done .counted ≡ true → done .place < 32 → set rows (done .place) (raised (getD rows (done .place) zeros) (done .counters)) ≡ settled rows rising
+  unfolding spread
+  settled-one e h = sym (ap (λ (b : Bool). settled rows (spread b (done .place) (done .counters))) e ∙ one-row rows (done .place) (done .counters) h)
+
+  pub settled-counted : done .counted ≡ true → done .place < 32 → set rows (done .place) (raised (getD rows (done .place) zeros) (riseOf done)) ≡ settled rows rising
+  settled-counted e h =
+      ap (λ (c : Counters). set rows (done .place) c) (ap (raised (getD rows (done .place) zeros)) (counted-rise e) ∙ low-set (getD rows (done .place) zeros) (done .counters)) ∙ settled-one e h
+
+  -- one that is not counted changes no row
+  pub settled-uncounted : done .counted ≡ false → rows ≡ settled rows rising
+  unfolding spread settledTo
+  settled-uncounted e = sym (ap (λ (b : Bool). settled rows (spread b (done .place) (done .counters))) e)
+
+  -- nor does one by which nothing rises
+  pub settled-unrisen : done .counted ≡ true → done .place < 32 → Fitting (getD rows (done .place) zeros) → riseOf done ≡ 0 → set rows (done .place) (getD rows (done .place) zeros) ≡ settled rows rising
+  settled-unrisen e h f z =
+      ap (λ (c : Counters). set rows (done .place) c) (sym (ap (raised (getD rows (done .place) zeros)) z ∙ raised-none (getD rows (done .place) zeros) f)) ∙ settled-counted e h

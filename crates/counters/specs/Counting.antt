@@ -1,11 +1,12 @@
 -- The thirteen counters of a unit, and what an event does to the rows of them. Assumes nothing.
 use Prim.Native.Nat.{ℕ, zero as none, suc, _+_, _/_, _%_, _^_}
-use mathlib.Core.Bool.{cond}
+use mathlib.Core.Bool.{cond, false}
 use mathlib.Core.List.{List, [], _∷_}
 use lib.Dec.{leb, eqb}
 use lib.ListN.{getD, set}
 use Rattle.answer.specs.Answers.{#arrived, #hec, #ignored, #misrouted, #inletfull, #sent, #unheard, #damaged, #queued, #full, #clp, #wide, #taken}
 use Rattle.answer.specs.declared.Rises.{Rises}
+use Rattle.answer.specs.declared.Single.{Single}
 use Rattle.counters.specs.declared.Counters.{Counters}
 
 -- "Thirteen counters a unit, each modulo 4,294,967,296: arrived, hec, ignored, misrouted, inletfull, sent, unheard, damaged, queued (outlet), full, clp, wide, taken."
@@ -65,6 +66,10 @@ rowAfter c rises i = cond (rises .anew) zeros (raised c (getD (rises .each) i 0)
 unfoldable pub riseAt : Rises → ℕ → ℕ
 riseAt rises i = cond (rises .anew) 8192 (getD (rises .each) i 0 % 8192)
 
+-- of an event at one unit: the set that rises in the row of its place, 0 where it is not counted
+unfoldable pub riseOf : Single → ℕ
+riseOf done = cond (done .counted) (done .counters % 8192) 0
+
 unfoldable pub rowBy : Counters → ℕ → Counters
 rowBy c n = cond (eqb n 8192) zeros (raised c n)
 
@@ -76,3 +81,7 @@ settledTo rows rises (suc i) = cond (leb (rises .from) i) (set (settledTo rows r
 -- "The counters of the units are a lent row of records, in `unit` line order; rows beyond the declared units are untouched."
 abbrev pub settled : List Counters → Rises → List Counters
 settled rows rises = settledTo rows rises (rises .to)
+
+-- of a frame: from the first row up to one, each by its own
+abbrev pub risesTo : ℕ → List ℕ → Rises
+risesTo to each = record { from = 0; to = to; anew = false; each = each }

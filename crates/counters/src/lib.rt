@@ -2,10 +2,12 @@
 use answer::Answer;
 use answer::Outcome;
 use answer::Rises;
+use answer::Single;
 ghost use mathlib.Core.Path.{_≡_};
 ghost use Prim.Native.Nat.{_<_, _≤_};
-ghost use lib.ListN.{length, getD};
-ghost use Rattle.counters.specs.Counting.{zeros, tick as ticked, raised as raisedBy, riseAt, rowBy, settled};
+ghost use lib.ListN.{length};
+ghost use Rattle.answer.specs.Answers.{outcomeBy, #arrived, #queued, #taken};
+ghost use Rattle.counters.specs.Counting.{zeros, tick as ticked, raised as raisedBy, riseAt, riseOf, rowBy, risesTo, settled};
 
 #[repr(C)]
 pub struct Counters {
@@ -24,12 +26,12 @@ pub struct Counters {
     pub taken: u32,
 }
 
-// A counter one up if its bit is in the set.
+// A counter one up if its bit is in the set: no bit is above answer::TAKEN.
 fn tick(bit: u16, counters: u16, value: u32) -> u32
-    requires { ⌜ 0 < bit ⌝ }
+    requires { ⌜ (0 < bit) × (bit ≤ 4096) ⌝ }
     ensures { λ r. ⌜ r ≡ ticked bit counters value ⌝ }
 {
-    if counters / bit % 2 == 1 {
+    if bit <= counters % (2 * bit) {
         return std::num::wrapping_add_u32(value, 1);
     }
     value
@@ -78,6 +80,83 @@ impl Counters {
     }
 }
 
+// The sets of one counter that rise all the time, each written out: the others are then not looked at.
+fn queued_up(c: Counters) -> Counters
+    ensures { λ r. ⌜ r ≡ raisedBy c #queued ⌝ }
+{
+    Counters {
+        arrived: c.arrived,
+        hec: c.hec,
+        ignored: c.ignored,
+        misrouted: c.misrouted,
+        inletfull: c.inletfull,
+        sent: c.sent,
+        unheard: c.unheard,
+        damaged: c.damaged,
+        queued: std::num::wrapping_add_u32(c.queued, 1),
+        full: c.full,
+        clp: c.clp,
+        wide: c.wide,
+        taken: c.taken,
+    }
+}
+
+fn arrived_up(c: Counters) -> Counters
+    ensures { λ r. ⌜ r ≡ raisedBy c #arrived ⌝ }
+{
+    Counters {
+        arrived: std::num::wrapping_add_u32(c.arrived, 1),
+        hec: c.hec,
+        ignored: c.ignored,
+        misrouted: c.misrouted,
+        inletfull: c.inletfull,
+        sent: c.sent,
+        unheard: c.unheard,
+        damaged: c.damaged,
+        queued: c.queued,
+        full: c.full,
+        clp: c.clp,
+        wide: c.wide,
+        taken: c.taken,
+    }
+}
+
+fn taken_up(c: Counters) -> Counters
+    ensures { λ r. ⌜ r ≡ raisedBy c #taken ⌝ }
+{
+    Counters {
+        arrived: c.arrived,
+        hec: c.hec,
+        ignored: c.ignored,
+        misrouted: c.misrouted,
+        inletfull: c.inletfull,
+        sent: c.sent,
+        unheard: c.unheard,
+        damaged: c.damaged,
+        queued: c.queued,
+        full: c.full,
+        clp: c.clp,
+        wide: c.wide,
+        taken: std::num::wrapping_add_u32(c.taken, 1),
+    }
+}
+
+// Each of a set of counters one up.
+pub fn risen(c: Counters, rise: u16) -> Counters
+    ensures { λ r. ⌜ r ≡ raisedBy c rise ⌝ }
+{
+    if rise == answer::QUEUED {
+        return queued_up(c);
+    }
+    if rise == answer::ARRIVED {
+        return arrived_up(c);
+    }
+    if rise == answer::TAKEN {
+        return taken_up(c);
+    }
+    c.raised(rise)
+}
+
 // A row starts anew: above every set of counters.
 const ANEW: u16 = 8192;
 
@@ -99,7 +178,7 @@ pub fn row_by(c: Counters, rise: u16) -> Counters
     if rise == ANEW {
         return Counters::zero();
     }
-    c.raised(rise)
+    risen(c, rise)
 }
 
 pub fn rises_of(o: Outcome) -> Rises
@@ -127,8 +206,8 @@ pub fn last(rises: Rises) -> usize
     rises.to
 }
 
-// The only function that writes counters. It is given no more than the rises, which are read once for each row; a row in which nothing rises
-// is left alone.
+// The counters of a load. It is given no more than the rises, which are read once for each row; a row in which nothing rises is left
+// alone. It, `raise` and `raise_each` are all that write counters.
 pub fn settle(rows: &mut [Counters], rises: Rises)
     requires { ⌜ (rises .to ≤ 32) × (rises .to ≤ length (now rows)) ⌝ }
     ensures { λ _. ⌜ now (rows .exit) ≡ settled (now (rows .entry)) rises ⌝ }
@@ -145,12 +224,57 @@ pub fn settle(rows: &mut [Counters], rises: Rises)
     }
 }
 
-// The row at a place; zeros where there is none.
-pub fn read_row(rows: &[Counters], at: usize) -> Counters
-    ensures { λ r. ⌜ r ≡ getD (now (rows .entry)) at zeros ⌝ }
+// What an event at one unit raises in the row of its place, in one number: 0 where it is not counted.
+pub fn rise_of(done: Single) -> u16
+    ensures { λ r. ⌜ r ≡ riseOf done ⌝ }
 {
-    if at < rows.len() {
-        return rows[at];
+    if done.counted {
+        return done.counters % ANEW;
     }
-    Counters::zero()
+    0
+}
+
+pub fn place_of(done: Single) -> usize
+    ensures { λ r. ⌜ r ≡ done .place ⌝ }
+{
+    done.place
+}
+
+// What it answers.
+pub fn answer_by(done: Single) -> Answer
+    ensures { λ r. ⌜ r ≡ outcomeBy done .answer ⌝ }
+{
+    done.answer
+}
+
+// The counters of an event at one unit: a row is read, and written, only where something rises in it.
+pub fn raise(rows: &mut [Counters], done: Single)
+    requires { ⌜ (outcomeBy done .rises .to ≤ 32) × (outcomeBy done .rises .to ≤ length (now rows)) ⌝ }
+    ensures { λ _. ⌜ now (rows .exit) ≡ settled (now (rows .entry)) (outcomeBy done .rises) ⌝ }
+{
+    let rise = rise_of(done);
+    if rise != 0 {
+        let i = place_of(done);
+        let c = rows[i];
+        rows[i] = risen(c, rise);
+    }
+}
+
+// The counters of a frame, of which each unit has its own. What rises at most units is raised in its row.
+pub fn raise_each(rows: &mut [Counters], each: &[u16], to: usize)
+    requires { ⌜ (to ≤ length (now each)) × (to ≤ length (now rows)) ⌝ }
+    ensures { λ _. ⌜ now (rows .exit) ≡ settled (now (rows .entry)) (risesTo to (now (each .entry))) ⌝ }
+{
+    let mut i: usize = 0;
+    while i < to {
+        let rise = each[i];
+        if rise == answer::QUEUED {
+            let c = rows[i];
+            rows[i] = queued_up(c);
+        } else if rise != 0 {
+            let c = rows[i];
+            rows[i] = risen(c, rise);
+        }
+        i += 1;
+    }
 }

@@ -32,11 +32,14 @@ use Rattle.card.specs.declared.Card.{Card}
 use Rattle.answer.specs.declared.Answer.{Answer}
 use Rattle.answer.specs.declared.Outcome.{Outcome}
 use Rattle.answer.specs.declared.Rises.{Rises}
+use Rattle.answer.specs.declared.Single.{Single}
 use Rattle.counters.proofs.Counters as T
 use Rattle.counters.proofs.Row as R
 use Rattle.answer.proofs.Outcome as D
 use Rattle.answer.proofs.Outcome.Laws as D′
 use Rattle.answer.proofs.Answer as N
+use Rattle.answer.proofs.Single as Si
+use Rattle.answer.proofs.Single.Laws as Si′
 use Rattle.answer.proofs.Rises as Rs
 use Rattle.answer.proofs.Rises.Laws as Rs′
 use Rattle.answer.proofs.Answer.Laws as N′
@@ -281,6 +284,9 @@ module _ {M : Type 1} {𝓤 : URA M} {H : Heap 𝓤} {A : Atoms 𝓤} (W : Given
 
   pub done-typed : (x : Outcome) (v : Val) → Is D.the-row x (v ∷ []) → Typed D′.mir v
   done-typed x v ok = LL.lawful D.the-type D′.the-laws 𝓤 H A W .typed x (v ∷ []) ok .0
+
+  pub single-typed : (x : Single) (v : Val) → Is Si.the-row x (v ∷ []) → Typed Si′.mir v
+  single-typed x v ok = LL.lawful Si.the-type Si′.the-laws 𝓤 H A W .typed x (v ∷ []) ok .0
 
   pub rises-typed : (x : Rises) (v : Val) → Is Rs.the-row x (v ∷ []) → Typed Rs′.mir v
   rises-typed x v ok = LL.lawful Rs.the-type Rs′.the-laws 𝓤 H A W .typed x (v ∷ []) ok .0

@@ -1,8 +1,9 @@
--- What the walks of the entry points share: parameters taken apart and put together, and the three calls that end each: what rises, `counters::settle`, what is given back.
+-- What the walks of the entry points share: parameters taken apart and put together, and the calls that end each: what rises, `counters::settle`, what is given back; of an event at one unit `counters::raise`, what is given back.
 --     parted, packed   from what all own together to what each owns, the last first, and back.        untied, tied     likewise of tokens
 --     living, lived    tokens one by one, as a walk has them, to what a signature asks, and back: by induction, since the two compared as they stand cost twice as much with each token more
 --     told             what a covered function leaves.        freed, places     the end: locals are freed
 --     risen, replied       the two parts of what is done.        settles     the rows go to `settle` with what rises; the token and the last rows come back
+--     raises, answers      the same two ends of an event at one unit: the rows go to `raise` with what is done, whole
 -- Assumes `Given`, and that the table of calls is monotone under a frame.
 use mathlib.Core.Path.{_≡_, refl, sym, ap, subst}
 use Prim.Native.Nat.{ℕ, zero, suc, _+_, _≤_}
@@ -37,6 +38,8 @@ use Rattle.counters.specs.Counting.{settled}
 use Rattle.answer.specs.declared.Outcome.{Outcome}
 use Rattle.answer.specs.declared.Answer.{Answer}
 use Rattle.answer.specs.declared.Rises.{Rises}
+use Rattle.answer.specs.declared.Single.{Single}
+use Rattle.answer.specs.Answers.{outcomeBy}
 use Rattle.counters.proofs.Calls.{Of, calls-of, calls-plain}
 use Rattle.entry.proofs.Arguments.{lifetimes, shares, Cell, names}
 use mathlib.Core.Option.{Option, none, some}
@@ -45,6 +48,8 @@ use Rattle.answer.proofs.Outcome as D
 use Rattle.answer.proofs.Outcome.Laws as D′
 use Rattle.answer.proofs.Answer as N
 use Rattle.answer.proofs.Answer.Laws as N′
+use Rattle.answer.proofs.Single as O
+use Rattle.answer.proofs.Single.Laws as O′
 use Rattle.answer.proofs.Rises as S
 use Rattle.answer.proofs.Rises.Laws as S′
 use Rattle.counters.proofs.rises_of as rises
@@ -53,6 +58,10 @@ use Rattle.counters.proofs.answer_of as reply
 use Rattle.counters.proofs.answer_of.Symbol.{name as #reply}
 use Rattle.counters.proofs.settle as settle
 use Rattle.counters.proofs.settle.Symbol.{name as #settle}
+use Rattle.counters.proofs.answer_by as answer
+use Rattle.counters.proofs.answer_by.Symbol.{name as #answer}
+use Rattle.counters.proofs.raise as raise
+use Rattle.counters.proofs.raise.Symbol.{name as #raise}
 
 -- ---- what the parameters own, one by one
 abbrev pub each : (Ts : List RattleType) → Denots Ts → Valss Ts → List Fml
@@ -143,7 +152,7 @@ module _ {M : Type 1} {𝓤 : URA M} {H : Heap 𝓤} {A : Atoms 𝓤} {K : Type 
 abbrev pub Rows : Lft → ℕ → ℕ → GName → List Counters → Fml
 Rows κ b o γ ys = MutSlice (named 0) κ T.the-row .own (record { ptr = (b, o); name = γ; now = ys }) (sliceVal (b, o) (length ys) ∷ [])
 
--- the contracts of the three
+-- the contracts of the five
 module _ {M : Type 1} (𝓤 : URA M) (H : Heap 𝓤) (A : Atoms 𝓤) (mem : Memory → SProp 𝓤) (run : Routine → Fun 𝓤) where
   abbrev pub Risen : Contract 𝓤
   Risen = Of 𝓤 H A rises.ended (rises.clauses 𝓤 H A mem run)
@@ -154,6 +163,12 @@ module _ {M : Type 1} (𝓤 : URA M) (H : Heap 𝓤) (A : Atoms 𝓤) (mem : Mem
   abbrev pub Settle : Contract 𝓤
   Settle = Of 𝓤 H A settle.ended (settle.clauses 𝓤 H A mem run)
 
+  abbrev pub Answered : Contract 𝓤
+  Answered = Of 𝓤 H A answer.ended (answer.clauses 𝓤 H A mem run)
+
+  abbrev pub Raise : Contract 𝓤
+  Raise = Of 𝓤 H A raise.ended (raise.clauses 𝓤 H A mem run)
+
   -- what the triples bind outside: what is done with its machine value; the rows ys lent for κ, and what rises with its own
   abbrev pub to-risen : Outcome → Val → Risen .Ghost
   to-risen d dv = ((tt, tt, tt, (d, tt), (dv ∷ [], tt)), tt)
@@ -163,6 +178,12 @@ module _ {M : Type 1} (𝓤 : URA M) (H : Heap 𝓤) (A : Atoms 𝓤) (mem : Mem
 
   abbrev pub to-settle : Lft → Share → ℕ → ℕ → GName → List Counters → Rises → Val → Settle .Ghost
   to-settle κ s b o γ ys r rv = (((κ, tt), (s, tt), tt, (record { ptr = (b, o); name = γ; now = ys }, (r, tt)), (sliceVal (b, o) (length ys) ∷ [], (rv ∷ [], tt))), tt)
+
+  abbrev pub to-answered : Single → Val → Answered .Ghost
+  to-answered d dv = ((tt, tt, tt, (d, tt), (dv ∷ [], tt)), tt)
+
+  abbrev pub to-raise : Lft → Share → ℕ → ℕ → GName → List Counters → Single → Val → Raise .Ghost
+  to-raise κ s b o γ ys d dv = (((κ, tt), (s, tt), tt, (record { ptr = (b, o); name = γ; now = ys }, (d, tt)), (sliceVal (b, o) (length ys) ∷ [], (dv ∷ [], tt))), tt)
 
   goes-risen : Given 𝓤 H A → (d : Outcome) (dv : Val) → Is D.the-row d (dv ∷ []) → ent 𝓤 (emp 𝓤) (Risen .pre (to-risen d dv))
   goes-risen W d dv d-ok = qed W [] ∵ nothing ! $ owned ! D.the-row (Is D.the-row) (LL.makes D.the-type D′.the-plain 𝓤 H A) d _ d-ok $ fjoin ! $ nothing ! $ join ! $ frame ! $ done !
@@ -175,6 +196,15 @@ module _ {M : Type 1} (𝓤 : URA M) (H : Heap 𝓤) (A : Atoms 𝓤) (mem : Mem
   goes-settle W κ s b o γ ys r rv r-ok fits =
       qed W (‵ (flft κ s) ∷ ‵ (Rows κ b o γ ys) ∷ []) ∵ says ! fits $ nothing ! $ move ! (1 ∷ 0 ∷ []) $ join ! $ frame ! $
       nothing ! $ owned ! S.the-row (Is S.the-row) (LL.makes S.the-type S′.the-plain 𝓤 H A) r _ r-ok $ fjoin ! $ move ! (1 ∷ 0 ∷ []) $ fjoin ! $ done !
+
+  goes-answered : Given 𝓤 H A → (d : Single) (dv : Val) → Is O.the-row d (dv ∷ []) → ent 𝓤 (emp 𝓤) (Answered .pre (to-answered d dv))
+  goes-answered W d dv d-ok = qed W [] ∵ nothing ! $ owned ! O.the-row (Is O.the-row) (LL.makes O.the-type O′.the-plain 𝓤 H A) d _ d-ok $ fjoin ! $ nothing ! $ join ! $ frame ! $ done !
+
+  goes-raise : Given 𝓤 H A → (κ : Lft) (s : Share) (b o : ℕ) (γ : GName) (ys : List Counters) (d : Single) (dv : Val) → Is O.the-row d (dv ∷ []) → (outcomeBy d .rises .to ≤ 32) × (outcomeBy d .rises .to ≤ length ys)
+      → ent 𝓤 (sep 𝓤 (A .lft κ s) (sem 𝓤 H A (Rows κ b o γ ys))) (Raise .pre (to-raise κ s b o γ ys d dv))
+  goes-raise W κ s b o γ ys d dv d-ok fits =
+      qed W (‵ (flft κ s) ∷ ‵ (Rows κ b o γ ys) ∷ []) ∵ says ! fits $ nothing ! $ move ! (1 ∷ 0 ∷ []) $ join ! $ frame ! $
+      nothing ! $ owned ! O.the-row (Is O.the-row) (LL.makes O.the-type O′.the-plain 𝓤 H A) d _ d-ok $ fjoin ! $ move ! (1 ∷ 0 ∷ []) $ fjoin ! $ done !
 
 module _ {M : Type 1} {𝓤 : URA M} {H : Heap 𝓤} {A : Atoms 𝓤} {K : Type 0} {W : Given 𝓤 H A} {Γ : List (Item 𝓤)} {E : Env 𝓤 H} {C : Calls 𝓤 H} {xs : List Operand} {Λ : Loops 𝓤 H} {q : Post 𝓤 H} {p : Place} {rest : Body} where
   pub risen : K → FmC 𝓤 H (W .laws) C → (mem : Memory → SProp 𝓤) (run : Routine → Fun 𝓤) → Triple 𝓤 (C #rises) (Risen 𝓤 H A mem run) → (d : Outcome) (dv : Val) → Is D.the-row d (dv ∷ [])
@@ -199,6 +229,25 @@ module _ {M : Type 1} {𝓤 : URA M} {H : Heap 𝓤} {A : Atoms 𝓤} {K : Type 
   settles t fm mem run known κ s b o γ ys r rv r-ok fits os k =
       join t $ calls-of t fm settle.ended (settle.clauses 𝓤 H A mem run) known (to-settle 𝓤 H A mem run κ s b o γ ys r rv) (goes-settle 𝓤 H A mem run W κ s b o γ ys r rv r-ok fits) os (λ v u ws.
       move t (3 ∷ []) $ heard t (ws .0 ≡ settled ys r) (λ e. move t (1 ∷ []) $ facts t builtin.unit (Is builtin.unit) (shows 𝓤 H A builtin.unit) u (v ∷ []) (λ u-ok.
+      move t (1 ∷ []) $ fsplit t $ fsplit t $ move t (1 ∷ []) $ feqL t (λ m. move t (1 ∷ []) $ drop t $
+      move t (1 ∷ []) $ use1 W (‵ (flft κ s) ⊛ ‵ ftrue) (id⊢ 𝓤 _) $ split t $ move t (1 ∷ []) $ drop t $
+      subst (λ (h : Val). Seq K W (‵ (flft κ s) ∷ ‵ (finally T.the-row γ (ws .0)) ∷ Γ) (lands C Λ E p h rest q)) (sym (ap only u-ok)) (k (ws .0) e m)))))
+
+  pub answers : K → FmC 𝓤 H (W .laws) C → (mem : Memory → SProp 𝓤) (run : Routine → Fun 𝓤) → Triple 𝓤 (C #answer) (Answered 𝓤 H A mem run) → (d : Single) (dv : Val) → Is O.the-row d (dv ∷ [])
+      → Opds K W (raw (Answered 𝓤 H A mem run .pre (to-answered 𝓤 H A mem run d dv)) ∷ Γ) E xs (dv ∷ [])
+      → ((v : Val) → Is N.the-row (d .answer) (v ∷ []) → Seq K W Γ (lands C Λ E p v rest q)) → Seq K W Γ (runs C Λ E (seq (call #answer xs p) rest) q)
+  answers t fm mem run known d dv d-ok os k =
+      calls-plain t fm answer.ended (answer.clauses 𝓤 H A mem run) known (to-answered 𝓤 H A mem run d dv) (goes-answered 𝓤 H A mem run W d dv d-ok) (λ r. r ≡ d .answer) (λ r e. id⊢ 𝓤 _) os
+      (λ v r e r-ok. k v (subst (λ (h : Answer). Is N.the-row h (v ∷ [])) e r-ok))
+
+  pub raises : K → FmC 𝓤 H (W .laws) C → (mem : Memory → SProp 𝓤) (run : Routine → Fun 𝓤) → Triple 𝓤 (C #raise) (Raise 𝓤 H A mem run)
+      → (κ : Lft) (s : Share) (b o : ℕ) (γ : GName) (ys : List Counters) (d : Single) (dv : Val) → Is O.the-row d (dv ∷ []) → (outcomeBy d .rises .to ≤ 32) × (outcomeBy d .rises .to ≤ length ys)
+      → Opds K W (raw (Raise 𝓤 H A mem run .pre (to-raise 𝓤 H A mem run κ s b o γ ys d dv)) ∷ Γ) E xs (sliceVal (b, o) (length ys) ∷ dv ∷ [])
+      → ((zs : List Counters) → zs ≡ settled ys (outcomeBy d .rises) → length zs ≡ length ys → Seq K W (‵ (flft κ s) ∷ ‵ (finally T.the-row γ zs) ∷ Γ) (lands C Λ E p vunit rest q))
+      → Seq K W (‵ (flft κ s) ∷ ‵ (Rows κ b o γ ys) ∷ Γ) (runs C Λ E (seq (call #raise xs p) rest) q)
+  raises t fm mem run known κ s b o γ ys d dv d-ok fits os k =
+      join t $ calls-of t fm raise.ended (raise.clauses 𝓤 H A mem run) known (to-raise 𝓤 H A mem run κ s b o γ ys d dv) (goes-raise 𝓤 H A mem run W κ s b o γ ys d dv d-ok fits) os (λ v u ws.
+      move t (3 ∷ []) $ heard t (ws .0 ≡ settled ys (outcomeBy d .rises)) (λ e. move t (1 ∷ []) $ facts t builtin.unit (Is builtin.unit) (shows 𝓤 H A builtin.unit) u (v ∷ []) (λ u-ok.
       move t (1 ∷ []) $ fsplit t $ fsplit t $ move t (1 ∷ []) $ feqL t (λ m. move t (1 ∷ []) $ drop t $
       move t (1 ∷ []) $ use1 W (‵ (flft κ s) ⊛ ‵ ftrue) (id⊢ 𝓤 _) $ split t $ move t (1 ∷ []) $ drop t $
       subst (λ (h : Val). Seq K W (‵ (flft κ s) ∷ ‵ (finally T.the-row γ (ws .0)) ∷ Γ) (lands C Λ E p h rest q)) (sym (ap only u-ok)) (k (ws .0) e m)))))

@@ -1,11 +1,11 @@
-// The six functions that others call, with the state lent. Each has a covered function do all but the counters, and `counters::settle` write those.
+// The six functions that others call, with the state lent. Each has a covered function do all but the counters, and `counters::settle` or `counters::raise` write those.
 use admit::Place;
 use answer::Answer;
 use card::Card;
 use counters::Counters;
 ghost use mathlib.Core.Path.{_≡_};
 ghost use lib.ListN.{length};
-ghost use Rattle.entry.specs.Counts.{counted as countedOf};
+ghost use Rattle.entry.specs.declared.Counted.the-variants as counted;
 ghost use Rattle.entry.specs.Outcomes.{arrives, frames, hears, takes, countsOf, loads, LeavesStore, LeavesAll, LeavesBytes, LeavesMemory};
 
 // A route table is loaded.
@@ -40,9 +40,8 @@ pub fn arrive(
 {
     let n = rows.len();
     let done = arriving::arrive(card, state, memory, store, n, unit, cell);
-    let rises = counters::rises_of(done);
-    counters::settle(rows, rises);
-    counters::answer_of(done)
+    counters::raise(rows, done);
+    counters::answer_by(done)
 }
 
 // A frame on the bus.
@@ -75,9 +74,8 @@ pub fn hear(
 {
     let n = rows.len();
     let done = hearing::hear(card, state, store, n, unit, frame);
-    let rises = counters::rises_of(done);
-    counters::settle(rows, rises);
-    counters::answer_of(done)
+    counters::raise(rows, done);
+    counters::answer_by(done)
 }
 
 // The oldest cell is taken from a unit.
@@ -93,15 +91,21 @@ pub fn take(
 {
     let n = rows.len();
     let done = taking::take(card, state, store, n, unit, buffer);
-    let rises = counters::rises_of(done);
-    counters::settle(rows, rises);
-    counters::answer_of(done)
+    counters::raise(rows, done);
+    counters::answer_by(done)
 }
 
-// What a count answers: the counters of the unit, or the number of the refusal.
+// What a count answers: the counters of the unit, or the number of the refusal, a word as they are, so that both answers stand at one place.
 pub enum Counted {
     Counters(Counters),
-    Refused(u8),
+    Refused(u32),
+}
+
+// The parts of a place: the number of a refusal, 0 where there is none; the row.
+pub fn number_of(place: Place) -> u8
+    ensures { λ r. ⌜ r ≡ place .number ⌝ }
+{
+    place.number
 }
 
 pub fn row_at(place: Place) -> usize
@@ -110,23 +114,30 @@ pub fn row_at(place: Place) -> usize
     place.at
 }
 
-pub fn counted_at(place: Place, row: Counters) -> Counted
-    ensures { λ r. ⌜ r ≡ countedOf place row ⌝ }
+// The two answers.
+pub fn refusal(number: u8) -> Counted
+    ensures { λ r. ⌜ r ≡ counted.Refused number ⌝ }
 {
-    let number = place.number;
-    if number == 0 {
-        return Counted::Counters(row);
-    }
-    Counted::Refused(number)
+    Counted::Refused(number as u32)
 }
 
-// The counters of a unit.
+pub fn found(row: Counters) -> Counted
+    ensures { λ r. ⌜ r ≡ counted.Counters row ⌝ }
+{
+    Counted::Counters(row)
+}
+
+// The counters of a unit. A row is read only where it is not refused.
 pub fn count(card: Card, state: &[u8; 2048], store: &[u8], rows: &[Counters], unit: u8) -> Counted
     ensures { λ r. ⌜ r ≡ countsOf card (now (state .entry)) (now (store .entry)) (now (rows .entry)) (length (now (rows .entry))) unit ⌝ }
 {
     let n = rows.len();
     let place = admit::counted(card, state, store, n, unit);
+    let number = number_of(place);
+    if number != 0 {
+        return refusal(number);
+    }
     let at = row_at(place);
-    let row = counters::read_row(rows, at);
-    counted_at(place, row)
+    let row = rows[at];
+    found(row)
 }

@@ -2,11 +2,13 @@
 // Where all 40 are lent the public entry points do the work; else the rooms below them do it, and the rows are settled by value.
 use answer::Answer;
 use answer::Outcome;
+use answer::Single;
 use card::Card;
 use counters::Counters;
 use entry::Counted;
 ghost use mathlib.Core.Path.{_≡_};
 ghost use Prim.Native.Nat.{_≤_};
+ghost use Rattle.answer.specs.Answers.{outcomeBy};
 ghost use Rattle.counters.specs.Counting.{settled};
 ghost use Rattle.entry.specs.Outcomes.{arrives, frames, hears, takes, countsOf, loads, LeavesStore, LeavesAll, LeavesBytes, LeavesMemory};
 
@@ -98,7 +100,7 @@ fn take_by_entry(
     joined(answer, rs)
 }
 
-// The rows after an event: by value what `counters::settle` does to lent ones.
+// The rows after a load or a frame: by value what `counters::settle` does to lent ones.
 fn settle(rows: [Counters; 40], o: Outcome) -> After
     requires { ⌜ o .rises .to ≤ 32 ⌝ }
     ensures { λ r. ⌜ (r .answer ≡ o .answer) × (r .rows ≡ settled rows (o .rises)) ⌝ }
@@ -113,6 +115,20 @@ fn settle(rows: [Counters; 40], o: Outcome) -> After
         i += 1;
     }
     joined(counters::answer_of(o), rs)
+}
+
+// The rows after an event at one unit: by value what `counters::raise` does to lent ones.
+fn raise(rows: [Counters; 40], done: Single) -> After
+    requires { ⌜ outcomeBy done .rises .to ≤ 32 ⌝ }
+    ensures { λ r. ⌜ (r .answer ≡ outcomeBy done .answer) × (r .rows ≡ settled rows (outcomeBy done .rises)) ⌝ }
+{
+    let mut rs = rows;
+    if done.counted {
+        let i = done.place;
+        let c = rs[i];
+        rs[i] = c.raised(done.counters);
+    }
+    joined(done.answer, rs)
 }
 
 pub fn load(
@@ -147,7 +163,7 @@ pub fn arrive(
     if lent == 40 {
         return arrive_by_entry(card, state, memory, store, rows, unit, cell);
     }
-    settle(
+    raise(
         rows,
         arriving::arrive(card, state, memory, store, lent, unit, cell),
     )
@@ -183,7 +199,7 @@ pub fn hear(
     if lent == 40 {
         return hear_by_entry(card, state, store, rows, unit, frame);
     }
-    settle(rows, hearing::hear(card, state, store, lent, unit, frame))
+    raise(rows, hearing::hear(card, state, store, lent, unit, frame))
 }
 
 pub fn take(
@@ -200,7 +216,7 @@ pub fn take(
     if lent == 40 {
         return take_by_entry(card, state, store, rows, unit, buffer);
     }
-    settle(rows, taking::take(card, state, store, lent, unit, buffer))
+    raise(rows, taking::take(card, state, store, lent, unit, buffer))
 }
 
 // The calls that `entry::count` makes: no rows are lent, which would be a walk by hand.
@@ -215,10 +231,11 @@ pub fn count(
     ensures { λ r. ⌜ r ≡ countsOf card (now (state .entry)) (now (store .entry)) rows lent unit ⌝ }
 {
     let place = admit::counted(card, state, store, lent, unit);
-    let at = entry::row_at(place);
-    if at < 40 {
-        let row = rows[at];
-        return entry::counted_at(place, row);
+    let number = entry::number_of(place);
+    if number != 0 {
+        return entry::refusal(number);
     }
-    entry::counted_at(place, Counters::zero())
+    let at = entry::row_at(place);
+    let row = rows[at];
+    entry::found(row)
 }

@@ -12,12 +12,12 @@ returns : tie.Need-returns
 unfolding rowBy
 returns c = simp (c .before .if1 .taken) (c .zero .ensures)
 
-raised-requires : tie.Need-raised-requires
-raised-requires c κs = search needs
+risen-requires : tie.Need-risen-requires
+risen-requires c κs = search needs
 
 returns-2 : tie.Need-returns-2
 unfolding rowBy
-returns-2 c = simp (ne-eqb _ _ (c .before .if1 .left)) (c .raised .ensures)
+returns-2 c = simp (ne-eqb _ _ (c .before .if1 .left)) (c .risen .ensures)
 
 pub row-by-spec : {M : Type 1} → statement M
-row-by-spec = tie.close (tie.spec zero-requires returns raised-requires returns-2)
+row-by-spec = tie.close (tie.spec zero-requires returns risen-requires returns-2)
