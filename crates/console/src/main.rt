@@ -14,12 +14,19 @@ ghost use lib.ListN.{length};
 ghost use Rattle.io.specs.Counts.{Counts};
 
 // The card, the rows, and how much of the rows, the memory and the store is lent.
+// What was read and is not answered stands from `from` to `end`; it ends a line whose start was too long to be kept if `long`.
+// The answers that are not written end at `at`; more may come if `open`.
 struct World {
     card: Card,
     rows: [Counters; 40],
     lent: usize,
     memory: usize,
     store: usize,
+    from: usize,
+    end: usize,
+    at: usize,
+    long: bool,
+    open: bool,
 }
 
 // What a command has to say: that it set the card, lent or poked, that it could not, the answer of an event, or what it is to show.
@@ -37,23 +44,6 @@ struct Deed {
     world: World,
     reply: Reply,
     buffer: [u8; 1000],
-}
-
-// The world after a command, and where its answer ends.
-struct Step {
-    world: World,
-    at: usize,
-}
-
-// What was read and is not answered stands from `from` to `end`; it ends a line whose start was too long to be kept if `long`.
-// The answers that are not written end at `at`; more may come if `open`.
-struct Rest {
-    world: World,
-    from: usize,
-    end: usize,
-    at: usize,
-    long: bool,
-    open: bool,
 }
 
 const NEWLINE: u8 = b'\n';
@@ -83,83 +73,20 @@ fn part_of(b: &[u8], from: usize, to: usize) -> &[u8] {
     &b[f..e]
 }
 
-fn fresh() -> World {
+// Nothing is lent and nothing is read yet.
+fn begun() -> World {
     World {
         card: Card::Wide,
         rows: [Counters::zero(); 40],
         lent: 0,
         memory: 0,
         store: 0,
+        from: 0,
+        end: 0,
+        at: 0,
+        long: false,
+        open: true,
     }
-}
-
-fn moved(world: World, at: usize) -> Step
-    ensures { λ r. ⌜ r .at ≡ at ⌝ }
-{
-    Step { world, at }
-}
-
-fn with_card(w: World, card: Card) -> World {
-    let rows = w.rows;
-    World {
-        card,
-        rows,
-        lent: w.lent,
-        memory: w.memory,
-        store: w.store,
-    }
-}
-
-// The first n bytes of b, each with this value.
-fn fill(b: &mut [u8], n: usize, byte: u8) {
-    let e = least(n, b.len());
-    let mut i: usize = 0;
-    while i < e {
-        b[i] = byte;
-        i += 1;
-    }
-}
-
-fn with_bank(
-    mut w: World,
-    memory: &mut [u8],
-    store: &mut [u8],
-    bank: Bank,
-    n: usize,
-    byte: u8,
-) -> World {
-    match bank {
-        Bank::Memory => {
-            fill(memory, n, byte);
-            w.memory = n;
-        }
-        Bank::Store => {
-            fill(store, n, byte);
-            w.store = n;
-        }
-    }
-    w
-}
-
-fn with_rows(mut w: World, n: usize, value: u32) -> World {
-    let row = Counters {
-        arrived: value,
-        hec: value,
-        ignored: value,
-        misrouted: value,
-        inletfull: value,
-        sent: value,
-        unheard: value,
-        damaged: value,
-        queued: value,
-        full: value,
-        clp: value,
-        wide: value,
-        taken: value,
-    };
-    w.rows = [row; 40];
-    w.lent = n;
-    w
 }
 
 // Where the bytes of a command start; at the end of the line, where there are none, if it has no such field.
@@ -216,10 +143,82 @@ fn handed(mut w: World, after: After, buffer: [u8; 1000]) -> Deed {
     }
 }
 
+fn set_card(w: World, card: Card) -> Deed {
+    let rows = w.rows;
+    let world = World {
+        card,
+        rows,
+        lent: w.lent,
+        memory: w.memory,
+        store: w.store,
+        from: w.from,
+        end: w.end,
+        at: w.at,
+        long: w.long,
+        open: w.open,
+    };
+    did(world, Reply::Set)
+}
+
+// The first n bytes of b, each with this value.
+fn fill(b: &mut [u8], n: usize, byte: u8) {
+    let e = least(n, b.len());
+    let mut i: usize = 0;
+    while i < e {
+        b[i] = byte;
+        i += 1;
+    }
+}
+
+fn lend_bank(
+    mut w: World,
+    memory: &mut [u8; 300000],
+    store: &mut [u8; 300000],
+    bank: Bank,
+    n: usize,
+    byte: u8,
+) -> Deed {
+    match bank {
+        Bank::Memory => {
+            fill(memory, n, byte);
+            w.memory = n;
+        }
+        Bank::Store => {
+            fill(store, n, byte);
+            w.store = n;
+        }
+    }
+    did(w, Reply::Lent)
+}
+
+fn lend_rows(mut w: World, n: usize, value: u32) -> Deed {
+    let row = Counters {
+        arrived: value,
+        hec: value,
+        ignored: value,
+        misrouted: value,
+        inletfull: value,
+        sent: value,
+        unheard: value,
+        damaged: value,
+        queued: value,
+        full: value,
+        clp: value,
+        wide: value,
+        taken: value,
+    };
+    w.rows = [row; 40];
+    w.lent = n;
+    did(w, Reply::Lent)
+}
+
+// The events see of the memory and the store what is lent.
 fn load(w: World, state: &mut [u8; 2048], memory: &mut [u8], store: &[u8], text: &[u8]) -> Deed {
     let card = w.card;
     let rows = w.rows;
-    let after = owned::load(card, text, memory, state, store, rows, w.lent);
+    let m = within(w.memory, memory);
+    let s = part_of(store, 0, w.store);
+    let after = owned::load(card, text, &mut memory[..m], state, s, rows, w.lent);
     handed(w, after, [238; 1000])
 }
 
@@ -233,14 +232,17 @@ fn arrive(
 ) -> Deed {
     let card = w.card;
     let rows = w.rows;
-    let after = owned::arrive(card, state, memory, store, rows, w.lent, unit, cell);
+    let m = part_of(memory, 0, w.memory);
+    let s = within(w.store, store);
+    let after = owned::arrive(card, state, m, &mut store[..s], rows, w.lent, unit, cell);
     handed(w, after, [238; 1000])
 }
 
 fn hear(w: World, state: &mut [u8; 2048], store: &mut [u8], unit: u8, frame: &[u8]) -> Deed {
     let card = w.card;
     let rows = w.rows;
-    let after = owned::hear(card, state, store, rows, w.lent, unit, frame);
+    let s = within(w.store, store);
+    let after = owned::hear(card, state, &mut store[..s], rows, w.lent, unit, frame);
     handed(w, after, [238; 1000])
 }
 
@@ -253,8 +255,9 @@ fn frame_into(
 ) -> After {
     let card = w.card;
     let rows = w.rows;
+    let s = within(w.store, store);
     let n = within(wanted, buffer);
-    owned::frame(card, state, store, rows, w.lent, &mut buffer[..n])
+    owned::frame(card, state, &mut store[..s], rows, w.lent, &mut buffer[..n])
 }
 
 fn take_into(
@@ -267,8 +270,9 @@ fn take_into(
 ) -> After {
     let card = w.card;
     let rows = w.rows;
+    let s = part_of(store, 0, w.store);
     let n = within(wanted, buffer);
-    owned::take(card, state, store, rows, w.lent, unit, &mut buffer[..n])
+    owned::take(card, state, s, rows, w.lent, unit, &mut buffer[..n])
 }
 
 // A frame into the first so many bytes of a buffer.
@@ -296,6 +300,12 @@ fn poked(b: &mut [u8], to: usize, bytes: &[u8]) -> Reply {
     Reply::Bad
 }
 
+// The same, in what is lent.
+fn poke_bank(w: World, b: &mut [u8], lent: usize, to: usize, bytes: &[u8]) -> Deed {
+    let n = within(lent, b);
+    did(w, poked(&mut b[..n], to, bytes))
+}
+
 // What a command does. It goes from `obey` on to `call`, `hand_out` and `poke` until one of them knows it: one match over all of them takes the prover too long.
 fn obey(
     w: World,
@@ -306,38 +316,21 @@ fn obey(
     command: Command,
 ) -> Deed {
     match command {
-        Command::Card(card) => did(with_card(w, card), Reply::Set),
+        Command::Card(card) => set_card(w, card),
         Command::Lend { bank, length, byte } => {
-            let lent = with_bank(w, memory, store, bank, length as usize, byte);
-            did(lent, Reply::Lent)
+            lend_bank(w, memory, store, bank, length as usize, byte)
         }
-        Command::LendRows { count, value } => {
-            did(with_rows(w, count as usize, value), Reply::Lent)
-        }
-        _ => lend(w, state, memory, store, bytes, command),
+        Command::LendRows { count, value } => lend_rows(w, count as usize, value),
+        _ => call(w, state, memory, store, bytes, command),
     }
-}
-
-// All others see of the memory and the store what is lent.
-fn lend(
-    w: World,
-    state: &mut [u8; 2048],
-    memory: &mut [u8],
-    store: &mut [u8],
-    bytes: &[u8],
-    command: Command,
-) -> Deed {
-    let m = within(w.memory, memory);
-    let s = within(w.store, store);
-    call(w, state, &mut memory[..m], &mut store[..s], bytes, command)
 }
 
 // An event that is handed bytes.
 fn call(
     w: World,
     state: &mut [u8; 2048],
-    memory: &mut [u8],
-    store: &mut [u8],
+    memory: &mut [u8; 300000],
+    store: &mut [u8; 300000],
     bytes: &[u8],
     command: Command,
 ) -> Deed {
@@ -353,33 +346,34 @@ fn call(
 fn hand_out(
     w: World,
     state: &mut [u8; 2048],
-    memory: &mut [u8],
-    store: &mut [u8],
+    memory: &mut [u8; 300000],
+    store: &mut [u8; 300000],
     bytes: &[u8],
     command: Command,
 ) -> Deed {
     match command {
         Command::Frame(length) => frame(w, state, store, length as usize),
         Command::Take { unit, length } => take(w, state, store, unit, length as usize),
-        _ => did(w, poke(state, memory, store, bytes, command)),
+        _ => poke(w, state, memory, store, bytes, command),
     }
 }
 
 // What the lab writes; all others leave everything as it is.
 fn poke(
+    w: World,
     state: &mut [u8; 2048],
-    memory: &mut [u8],
-    store: &mut [u8],
+    memory: &mut [u8; 300000],
+    store: &mut [u8; 300000],
     bytes: &[u8],
     command: Command,
-) -> Reply {
+) -> Deed {
     match command {
         Command::Poke { bank, at, from: _ } => match bank {
-            Bank::Memory => poked(memory, at as usize, bytes),
-            Bank::Store => poked(store, at as usize, bytes),
+            Bank::Memory => poke_bank(w, memory, w.memory, at as usize, bytes),
+            Bank::Store => poke_bank(w, store, w.store, at as usize, bytes),
         },
-        Command::PokeState { at, from: _ } => poked(state, at as usize, bytes),
-        _ => Reply::Shown,
+        Command::PokeState { at, from: _ } => poke_bank(w, state, 2048, at as usize, bytes),
+        _ => did(w, Reply::Shown),
     }
 }
 
@@ -391,51 +385,34 @@ fn put_front(out: &mut [u8], at: usize, buffer: &[u8], wanted: usize) -> usize
     shown::put_bytes(out, at, &buffer[..n])
 }
 
-// The answer of an event that was handed bytes.
-fn say_event(
-    answer: Answer,
-    buffer: [u8; 1000],
-    command: Command,
-    out: &mut [u8],
-    at: usize,
-) -> usize
-    requires { ⌜ at + 20000 ≤ length (now out) ⌝ }
+// The answer of an event.
+fn say_event(answer: Answer, command: Command, out: &mut [u8; 200000], at: usize) -> usize
+    requires { ⌜ at ≤ 180000 ⌝ }
+    ensures { λ r. ⌜ r ≤ at + 100 ⌝ }
 {
     match command {
         Command::Load(_) => shown::said(out, at, b"load", 0, answer),
         Command::Arrive { unit, from: _ } => shown::said(out, at, b"arrive", unit, answer),
         Command::Hear { unit, from: _ } => shown::said(out, at, b"hear", unit, answer),
-        _ => say_handed(answer, buffer, command, out, at),
+        Command::Take { unit, length: _ } => shown::said(out, at, b"take", unit, answer),
+        _ => shown::said(out, at, b"frame", 0, answer),
     }
 }
 
-// The answer of an event that hands bytes out, and its buffer.
-fn say_handed(
-    answer: Answer,
-    buffer: [u8; 1000],
-    command: Command,
-    out: &mut [u8],
-    at: usize,
-) -> usize
-    requires { ⌜ at + 20000 ≤ length (now out) ⌝ }
+// The buffer of an event that hands bytes out, behind its answer.
+fn say_buffer(buffer: [u8; 1000], command: Command, out: &mut [u8; 200000], at: usize) -> usize
+    requires { ⌜ at ≤ 180100 ⌝ }
 {
     let lent = buffer;
     match command {
-        Command::Frame(length) => {
-            let end = shown::said(out, at, b"frame", 0, answer);
-            put_front(out, end, &lent, length as usize)
-        }
-        Command::Take { unit, length } => {
-            let end = shown::said(out, at, b"take", unit, answer);
-            put_front(out, end, &lent, length as usize)
-        }
-        // all other events are said by now
+        Command::Frame(length) => put_front(out, at, &lent, length as usize),
+        Command::Take { unit: _, length } => put_front(out, at, &lent, length as usize),
         _ => at,
     }
 }
 
-fn say_reply(reply: Reply, out: &mut [u8], at: usize) -> usize
-    requires { ⌜ at + 20000 ≤ length (now out) ⌝ }
+fn say_reply(reply: Reply, out: &mut [u8; 200000], at: usize) -> usize
+    requires { ⌜ at ≤ 180000 ⌝ }
 {
     match reply {
         Reply::Set => words::put(out, at, b"card\tok"),
@@ -448,12 +425,12 @@ fn say_reply(reply: Reply, out: &mut [u8], at: usize) -> usize
 fn count(w: World, state: &[u8; 2048], store: &[u8], unit: u8) -> Counted {
     let card = w.card;
     let rows = w.rows;
-    let s = within(w.store, store);
-    owned::count(card, state, &store[..s], rows, w.lent, unit)
+    let s = part_of(store, 0, w.store);
+    owned::count(card, state, s, rows, w.lent, unit)
 }
 
-fn say_counted(counted: Counted, unit: u8, out: &mut [u8], at: usize) -> usize
-    requires { ⌜ at + 20000 ≤ length (now out) ⌝ }
+fn say_counted(counted: Counted, unit: u8, out: &mut [u8; 200000], at: usize) -> usize
+    requires { ⌜ at ≤ 180000 ⌝ }
 {
     match counted {
         Counted::Counters(c) => shown::counted(out, at, unit, c),
@@ -464,15 +441,15 @@ fn say_counted(counted: Counted, unit: u8, out: &mut [u8], at: usize) -> usize
 }
 
 // The sum of what is lent.
-fn say_sum(b: &[u8], lent: usize, text: &[u8], out: &mut [u8], at: usize) -> usize
-    requires { ⌜ (length (now text) ≤ 20) × (at + 20000 ≤ length (now out)) ⌝ }
+fn say_sum(b: &[u8], lent: usize, text: &[u8], out: &mut [u8; 200000], at: usize) -> usize
+    requires { ⌜ (length (now text) ≤ 20) × (at ≤ 180000) ⌝ }
 {
-    let n = within(lent, b);
-    shown::summed(out, at, text, n as u64, sum::fnv(&b[..n]))
+    let part = part_of(b, 0, lent);
+    shown::summed(out, at, text, part.len() as u64, sum::fnv(part))
 }
 
-fn say_rows(w: World, out: &mut [u8], at: usize) -> usize
-    requires { ⌜ at + 20000 ≤ length (now out) ⌝ }
+fn say_rows(w: World, out: &mut [u8; 200000], at: usize) -> usize
+    requires { ⌜ at ≤ 180000 ⌝ }
 {
     let n = least(w.lent, 40);
     let rows = w.rows;
@@ -486,10 +463,10 @@ fn show(
     memory: &[u8],
     store: &[u8],
     command: Command,
-    out: &mut [u8],
+    out: &mut [u8; 200000],
     at: usize,
 ) -> usize
-    requires { ⌜ at + 20000 ≤ length (now out) ⌝ }
+    requires { ⌜ at ≤ 180000 ⌝ }
 {
     match command {
         Command::Count(unit) => say_counted(count(w, state, store, unit), unit, out, at),
@@ -512,17 +489,22 @@ fn say(
     memory: &[u8],
     store: &[u8],
     command: Command,
-    out: &mut [u8],
+    out: &mut [u8; 200000],
     at: usize,
 ) -> usize
-    requires { ⌜ at + 20000 ≤ length (now out) ⌝ }
+    requires { ⌜ at ≤ 180000 ⌝ }
 {
     let reply = deed.reply;
-    let world = deed.world;
-    let buffer = deed.buffer;
     match reply {
-        Reply::Answered(answer) => say_event(answer, buffer, command, out, at),
-        Reply::Shown => show(world, state, memory, store, command, out, at),
+        Reply::Answered(answer) => {
+            let buffer = deed.buffer;
+            let end = say_event(answer, command, out, at);
+            say_buffer(buffer, command, out, end)
+        }
+        Reply::Shown => {
+            let w = deed.world;
+            show(w, state, memory, store, command, out, at)
+        }
         _ => say_reply(reply, out, at),
     }
 }
@@ -561,16 +543,18 @@ fn say_line(
     store: &[u8],
     command: Command,
     out: &mut [u8; 200000],
-    from: usize,
-) -> usize {
-    let at = cleared(out, from);
+) -> World {
+    let mut w = deed.world;
+    let at = cleared(out, w.at);
     let end = say(deed, state, memory, store, command, out, at);
-    ended(out, end)
+    w.at = ended(out, end);
+    w
 }
 
-fn say_bad(out: &mut [u8; 200000], from: usize) -> usize {
-    let at = cleared(out, from);
-    words::put(out, at, b"bad\n")
+fn say_bad(mut w: World, out: &mut [u8; 200000]) -> World {
+    let at = cleared(out, w.at);
+    w.at = words::put(out, at, b"bad\n");
+    w
 }
 
 // A line that was too long to be kept is bad.
@@ -583,25 +567,22 @@ fn reading_of(long: bool, line: &[u8]) -> Reading {
 
 // The answer to one line.
 fn answer_line(
-    rest: Rest,
+    w: World,
     state: &mut [u8; 2048],
     memory: &mut [u8; 300000],
     store: &mut [u8; 300000],
     text: &mut [u8; 75000],
     line: &[u8],
     out: &mut [u8; 200000],
-) -> Step {
-    let world = rest.world;
-    match reading_of(rest.long, line) {
+) -> World {
+    match reading_of(w.long, line) {
         Reading::Does(command) => {
             let n = unhexed(line, bytes_from(command, line.len()), text);
             let bytes = part_of(text, 0, n);
-            let deed = obey(world, state, memory, store, bytes, command);
-            let end = say_line(deed, state, memory, store, command, out, rest.at);
-            let after = deed.world;
-            moved(after, end)
+            let deed = obey(w, state, memory, store, bytes, command);
+            say_line(deed, state, memory, store, command, out)
         }
-        Reading::Bad => moved(world, say_bad(out, rest.at)),
+        Reading::Bad => say_bad(w, out),
     }
 }
 
@@ -625,18 +606,18 @@ fn shift(input: &mut [u8], from: usize, end: usize) -> usize {
 }
 
 // The start of a line comes to the front, unless it is too long already.
-fn kept(mut rest: Rest, input: &mut [u8]) -> Rest {
-    let from = least(rest.from, rest.end);
+fn kept(mut w: World, input: &mut [u8]) -> World {
+    let from = least(w.from, w.end);
     let mut n: usize = 0;
-    if MOST < rest.end - from {
-        rest.long = true;
+    if MOST < w.end - from {
+        w.long = true;
     } else {
-        n = shift(input, from, rest.end);
+        n = shift(input, from, w.end);
     }
-    rest.from = 0;
-    rest.end = n;
-    rest.at = 0;
-    rest
+    w.from = 0;
+    w.end = n;
+    w.at = 0;
+    w
 }
 
 // Reads into what is free behind the kept bytes; how many bytes came.
@@ -649,69 +630,56 @@ fn more(input: &mut [u8], kept: usize) -> usize
 }
 
 // More is read behind what is kept; at the end of the input a last line without a newline gets one.
-fn read_on(mut rest: Rest, input: &mut [u8]) -> Rest {
-    let n = within(rest.end, input);
+fn read_on(mut w: World, input: &mut [u8]) -> World {
+    let n = within(w.end, input);
     let came = more(input, n);
-    rest.end = n + came;
+    w.end = n + came;
     if came == 0 {
-        rest.open = false;
-        if rest.long || 0 < n {
-            rest.end = ended(input, n);
+        w.open = false;
+        if w.long || 0 < n {
+            w.end = ended(input, n);
         }
     }
-    rest
+    w
 }
 
-fn answered(mut rest: Rest, step: Step, from: usize) -> Rest {
-    let world = step.world;
-    rest.world = world;
-    rest.from = from;
-    rest.at = step.at;
-    rest.long = false;
-    rest
+// The line that ends before a place is answered.
+fn answered(mut w: World, from: usize) -> World {
+    w.from = from;
+    w.long = false;
+    w
 }
 
 // Answers the next line; where no whole one is left, the answers are written and more is read.
 fn turn(
-    rest: Rest,
+    w: World,
     state: &mut [u8; 2048],
     memory: &mut [u8; 300000],
     store: &mut [u8; 300000],
     text: &mut [u8; 75000],
     input: &mut [u8; 400000],
     out: &mut [u8; 200000],
-) -> Rest {
-    let to = line_end(input, rest.from, rest.end);
-    if to < rest.end {
-        let line = part_of(input, rest.from, to);
-        let step = answer_line(rest, state, memory, store, text, line, out);
-        return answered(rest, step, to + 1);
+) -> World {
+    let to = line_end(input, w.from, w.end);
+    if to < w.end {
+        let next = to + 1;
+        let line = part_of(input, w.from, to);
+        let done = answer_line(w, state, memory, store, text, line, out);
+        return answered(done, next);
     }
-    write_out(out, rest.at);
-    read_on(kept(rest, input), input)
+    write_out(out, w.at);
+    read_on(kept(w, input), input)
 }
 
 // One turn less; none after the end of the input and its last line.
-fn left(turns: u64, rest: Rest) -> u64
+fn left(turns: u64, w: World) -> u64
     requires { ⌜ 0 < turns ⌝ }
     ensures { λ r. ⌜ r < turns ⌝ }
 {
-    if rest.open || rest.from < rest.end {
+    if w.open || w.from < w.end {
         return turns - 1;
     }
     0
-}
-
-// Nothing is read yet.
-fn begun() -> Rest {
-    Rest {
-        world: fresh(),
-        from: 0,
-        end: 0,
-        at: 0,
-        long: false,
-        open: true,
-    }
 }
 
 // Reads to the end of the input; nothing says that there is one, so turns are counted.
@@ -723,13 +691,13 @@ fn run(
     input: &mut [u8; 400000],
     out: &mut [u8; 200000],
 ) {
-    let mut rest = begun();
+    let mut w = begun();
     let mut turns: u64 = 18446744073709551615;
     while 0 < turns {
-        rest = turn(rest, state, memory, store, text, input, out);
-        turns = left(turns, rest);
+        w = turn(w, state, memory, store, text, input, out);
+        turns = left(turns, w);
     }
-    write_out(out, rest.at);
+    write_out(out, w.at);
 }
 
 // A fresh 16 bus.

@@ -6,10 +6,10 @@ use Rattle.console.proofs.run.Tie as tie
 
 -- Nothing is carried from turn to turn but the turns that are left.
 abbrev Inv-loop : tie.InvT-loop
-Inv-loop state₀ memory₀ store₀ text₀ input₀ out₀ rest₀ turns₀ state memory store text input out rest turns = 0 ≤ turns
+Inv-loop state₀ memory₀ store₀ text₀ input₀ out₀ w₀ turns₀ state memory store text input out w turns = 0 ≤ turns
 
 abbrev μ-loop : tie.MeasureT-loop
-μ-loop state₀ memory₀ store₀ text₀ input₀ out₀ rest₀ turns₀ state memory store text input out rest turns = turns
+μ-loop state₀ memory₀ store₀ text₀ input₀ out₀ w₀ turns₀ state memory store text input out w turns = turns
 
 begun-requires : tie.Need-begun-requires Inv-loop μ-loop
 begun-requires c κs = search needs
