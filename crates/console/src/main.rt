@@ -301,12 +301,26 @@ fn poked(b: &mut [u8], to: usize, bytes: &[u8]) -> Reply {
 }
 
 // The same, in what is lent.
-fn poke_bank(w: World, b: &mut [u8], lent: usize, to: usize, bytes: &[u8]) -> Deed {
+fn poke(w: World, b: &mut [u8], lent: usize, to: usize, bytes: &[u8]) -> Deed {
     let n = within(lent, b);
     did(w, poked(&mut b[..n], to, bytes))
 }
 
-// What a command does. It goes from `obey` on to `call`, `hand_out` and `poke` until one of them knows it: one match over all of them takes the prover too long.
+fn poke_bank(
+    w: World,
+    memory: &mut [u8; 300000],
+    store: &mut [u8; 300000],
+    bank: Bank,
+    to: usize,
+    bytes: &[u8],
+) -> Deed {
+    match bank {
+        Bank::Memory => poke(w, memory, w.memory, to, bytes),
+        Bank::Store => poke(w, store, w.store, to, bytes),
+    }
+}
+
+// What a command does. From `obey` it goes on to `call` and `set`, each of which is lent less, until one of them knows it: one match over all of them takes the prover too long.
 fn obey(
     w: World,
     state: &mut [u8; 2048],
@@ -316,63 +330,40 @@ fn obey(
     command: Command,
 ) -> Deed {
     match command {
-        Command::Card(card) => set_card(w, card),
         Command::Lend { bank, length, byte } => {
             lend_bank(w, memory, store, bank, length as usize, byte)
         }
-        Command::LendRows { count, value } => lend_rows(w, count as usize, value),
-        _ => call(w, state, memory, store, bytes, command),
+        Command::Load(_) => load(w, state, memory, store, bytes),
+        Command::Arrive { unit, from: _ } => arrive(w, state, memory, store, unit, bytes),
+        Command::Poke { bank, at, from: _ } => {
+            poke_bank(w, memory, store, bank, at as usize, bytes)
+        }
+        _ => call(w, state, store, bytes, command),
     }
 }
 
-// An event that is handed bytes.
+// A command that needs no memory.
 fn call(
     w: World,
     state: &mut [u8; 2048],
-    memory: &mut [u8; 300000],
     store: &mut [u8; 300000],
     bytes: &[u8],
     command: Command,
 ) -> Deed {
     match command {
-        Command::Load(_) => load(w, state, memory, store, bytes),
-        Command::Arrive { unit, from: _ } => arrive(w, state, memory, store, unit, bytes),
         Command::Hear { unit, from: _ } => hear(w, state, store, unit, bytes),
-        _ => hand_out(w, state, memory, store, bytes, command),
-    }
-}
-
-// An event that hands bytes out.
-fn hand_out(
-    w: World,
-    state: &mut [u8; 2048],
-    memory: &mut [u8; 300000],
-    store: &mut [u8; 300000],
-    bytes: &[u8],
-    command: Command,
-) -> Deed {
-    match command {
         Command::Frame(length) => frame(w, state, store, length as usize),
         Command::Take { unit, length } => take(w, state, store, unit, length as usize),
-        _ => poke(w, state, memory, store, bytes, command),
+        Command::PokeState { at, from: _ } => poke(w, state, 2048, at as usize, bytes),
+        _ => set(w, command),
     }
 }
 
-// What the lab writes; all others leave everything as it is.
-fn poke(
-    w: World,
-    state: &mut [u8; 2048],
-    memory: &mut [u8; 300000],
-    store: &mut [u8; 300000],
-    bytes: &[u8],
-    command: Command,
-) -> Deed {
+// A command that needs nothing that is lent; all others leave everything as it is.
+fn set(w: World, command: Command) -> Deed {
     match command {
-        Command::Poke { bank, at, from: _ } => match bank {
-            Bank::Memory => poke_bank(w, memory, w.memory, at as usize, bytes),
-            Bank::Store => poke_bank(w, store, w.store, at as usize, bytes),
-        },
-        Command::PokeState { at, from: _ } => poke_bank(w, state, 2048, at as usize, bytes),
+        Command::Card(card) => set_card(w, card),
+        Command::LendRows { count, value } => lend_rows(w, count as usize, value),
         _ => did(w, Reply::Shown),
     }
 }
@@ -385,7 +376,7 @@ fn put_front(out: &mut [u8], at: usize, buffer: &[u8], wanted: usize) -> usize
     shown::put_bytes(out, at, &buffer[..n])
 }
 
-// The answer of an event.
+// The answer of an event that was handed bytes.
 fn say_event(answer: Answer, command: Command, out: &mut [u8; 200000], at: usize) -> usize
     requires { ⌜ at ≤ 180000 ⌝ }
     ensures { λ r. ⌜ r ≤ at + 100 ⌝ }
@@ -394,6 +385,16 @@ fn say_event(answer: Answer, command: Command, out: &mut [u8; 200000], at: usize
         Command::Load(_) => shown::said(out, at, b"load", 0, answer),
         Command::Arrive { unit, from: _ } => shown::said(out, at, b"arrive", unit, answer),
         Command::Hear { unit, from: _ } => shown::said(out, at, b"hear", unit, answer),
+        _ => say_handed(answer, command, out, at),
+    }
+}
+
+// The answer of an event that hands bytes out.
+fn say_handed(answer: Answer, command: Command, out: &mut [u8; 200000], at: usize) -> usize
+    requires { ⌜ at ≤ 180000 ⌝ }
+    ensures { λ r. ⌜ r ≤ at + 100 ⌝ }
+{
+    match command {
         Command::Take { unit, length: _ } => shown::said(out, at, b"take", unit, answer),
         _ => shown::said(out, at, b"frame", 0, answer),
     }
@@ -456,6 +457,22 @@ fn say_rows(w: World, out: &mut [u8; 200000], at: usize) -> usize
     shown::rows(out, at, n, rows)
 }
 
+fn show_bank(
+    w: World,
+    memory: &[u8],
+    store: &[u8],
+    bank: Bank,
+    out: &mut [u8; 200000],
+    at: usize,
+) -> usize
+    requires { ⌜ at ≤ 180000 ⌝ }
+{
+    match bank {
+        Bank::Memory => say_sum(memory, w.memory, b"show\tmemory", out, at),
+        Bank::Store => say_sum(store, w.store, b"show\tstore", out, at),
+    }
+}
+
 // What a command shows.
 fn show(
     w: World,
@@ -470,10 +487,7 @@ fn show(
 {
     match command {
         Command::Count(unit) => say_counted(count(w, state, store, unit), unit, out, at),
-        Command::Show(bank) => match bank {
-            Bank::Memory => say_sum(memory, w.memory, b"show\tmemory", out, at),
-            Bank::Store => say_sum(store, w.store, b"show\tstore", out, at),
-        },
+        Command::Show(bank) => show_bank(w, memory, store, bank, out, at),
         Command::ShowRows => say_rows(w, out, at),
         Command::ShowState => shown::state(out, at, state),
         Command::ShowUnit(unit) => named::unit(out, at, state, unit),
@@ -519,9 +533,9 @@ fn ended(out: &mut [u8], at: usize) -> usize {
 }
 
 // The answers so far are written out.
-fn write_out(out: &[u8], at: usize) {
-    let n = within(at, out);
-    io::write_all(1, &out[..n]);
+fn write_out(out: &[u8; 200000], at: usize) {
+    let answers = part_of(out, 0, at);
+    io::write_all(1, answers);
 }
 
 // Where the next answer goes: what there is is written out if the room is short.
@@ -682,24 +696,6 @@ fn left(turns: u64, w: World) -> u64
     0
 }
 
-// Reads to the end of the input; nothing says that there is one, so turns are counted.
-fn run(
-    state: &mut [u8; 2048],
-    memory: &mut [u8; 300000],
-    store: &mut [u8; 300000],
-    text: &mut [u8; 75000],
-    input: &mut [u8; 400000],
-    out: &mut [u8; 200000],
-) {
-    let mut w = begun();
-    let mut turns: u64 = 18446744073709551615;
-    while 0 < turns {
-        w = turn(w, state, memory, store, text, input, out);
-        turns = left(turns, w);
-    }
-    write_out(out, w.at);
-}
-
 // A fresh 16 bus.
 fn state_room() -> [u8; 2048] {
     let mut state = [0; 2048];
@@ -707,6 +703,7 @@ fn state_room() -> [u8; 2048] {
     state
 }
 
+// Reads to the end of the input; nothing says that there is one, so turns are counted.
 fn main() {
     let mut state = state_room();
     let mut memory = [0; 300000];
@@ -714,12 +711,19 @@ fn main() {
     let mut text = [0; 75000];
     let mut input = [0; 400000];
     let mut out = [0; 200000];
-    run(
-        &mut state,
-        &mut memory,
-        &mut store,
-        &mut text,
-        &mut input,
-        &mut out,
-    );
+    let mut w = begun();
+    let mut turns: u64 = 18446744073709551615;
+    while 0 < turns {
+        w = turn(
+            w,
+            &mut state,
+            &mut memory,
+            &mut store,
+            &mut text,
+            &mut input,
+            &mut out,
+        );
+        turns = left(turns, w);
+    }
+    write_out(&out, w.at);
 }
