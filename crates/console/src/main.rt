@@ -1,5 +1,5 @@
 // The console: one command a line on standard input, one answer a line on standard output (docs/CONSOLE.md).
-// The state, the memory, the store and the rows are lent to every command; bytes in hex are read before it is done.
+// The state, the memory and the store are lent to every command; its bytes in hex are read before it is done, and its answer is written after that.
 use answer::Answer;
 use card::Card;
 use counters::Counters;
@@ -14,42 +14,44 @@ ghost use lib.ListN.{length};
 ghost use Rattle.io.specs.Counts.{Counts};
 
 // The card, the rows, and how much of the rows, the memory and the store is lent.
+// What was read and is not answered stands from `from` to `end`; it ends a line whose start was too long to be kept if `long`.
+// The answers that are not written end at `at`; more may come if `open`.
 struct World {
     card: Card,
     rows: [Counters; 40],
     lent: usize,
     memory: usize,
     store: usize,
-}
-
-// The world after a command, and where its answer ends.
-struct Step {
-    world: World,
+    from: usize,
+    end: usize,
     at: usize,
-}
-
-// What was read and is not answered: how many bytes, and whether they end a line whose start was too long to be kept; whether more may come.
-struct Rest {
-    world: World,
-    kept: usize,
     long: bool,
     open: bool,
 }
 
-// The same, with where it starts, and where the answers end.
-struct Batch {
+// What a command has to say: that it set the card, lent or poked, that it could not, the answer of an event, or what it is to show.
+enum Reply {
+    Set,
+    Lent,
+    Poked,
+    Bad,
+    Answered(Answer),
+    Shown,
+}
+
+// The world after a command, what it has to say, and the buffer that a frame or a take was lent.
+struct Deed {
     world: World,
-    from: usize,
-    at: usize,
-    long: bool,
+    reply: Reply,
+    buffer: [u8; 1000],
 }
 
 const NEWLINE: u8 = b'\n';
 
-// The most that a line has, and room for the longest answer.
+// The most that a line has, and where there is no room left for the longest answer.
 const MOST: usize = 150000;
 
-const ROOM: usize = 20000;
+const FULL: usize = 180000;
 
 fn least(a: usize, b: usize) -> usize
     ensures { λ r. ⌜ (r ≤ a) × (r ≤ b) ⌝ }
@@ -64,83 +66,27 @@ fn within(n: usize, b: &[u8]) -> usize
     least(n, b.len())
 }
 
-fn fresh() -> World {
+// The bytes from a place to another, as far as there are any.
+fn part_of(b: &[u8], from: usize, to: usize) -> &[u8] {
+    let e = within(to, b);
+    let f = least(from, e);
+    &b[f..e]
+}
+
+// Nothing is lent and nothing is read yet.
+fn begun() -> World {
     World {
         card: Card::Wide,
         rows: [Counters::zero(); 40],
         lent: 0,
         memory: 0,
         store: 0,
+        from: 0,
+        end: 0,
+        at: 0,
+        long: false,
+        open: true,
     }
-}
-
-fn moved(world: World, at: usize) -> Step
-    ensures { λ r. ⌜ r .at ≡ at ⌝ }
-{
-    Step { world, at }
-}
-
-fn with_card(w: World, card: Card) -> World {
-    let rows = w.rows;
-    World {
-        card,
-        rows,
-        lent: w.lent,
-        memory: w.memory,
-        store: w.store,
-    }
-}
-
-// The first n bytes of b, each with this value.
-fn fill(b: &mut [u8], n: usize, byte: u8) {
-    let e = least(n, b.len());
-    let mut i: usize = 0;
-    while i < e {
-        b[i] = byte;
-        i += 1;
-    }
-}
-
-fn with_bank(
-    mut w: World,
-    memory: &mut [u8],
-    store: &mut [u8],
-    bank: Bank,
-    n: usize,
-    byte: u8,
-) -> World {
-    match bank {
-        Bank::Memory => {
-            fill(memory, n, byte);
-            w.memory = n;
-        }
-        Bank::Store => {
-            fill(store, n, byte);
-            w.store = n;
-        }
-    }
-    w
-}
-
-fn with_rows(mut w: World, n: usize, value: u32) -> World {
-    let row = Counters {
-        arrived: value,
-        hec: value,
-        ignored: value,
-        misrouted: value,
-        inletfull: value,
-        sent: value,
-        unheard: value,
-        damaged: value,
-        queued: value,
-        full: value,
-        clp: value,
-        wide: value,
-        taken: value,
-    };
-    w.rows = [row; 40];
-    w.lent = n;
-    w
 }
 
 // Where the bytes of a command start; at the end of the line, where there are none, if it has no such field.
@@ -174,22 +120,106 @@ fn unhexed(line: &[u8], from: usize, text: &mut [u8]) -> usize
     within(0, text)
 }
 
-// The world after an event, and its answer but for its buffer.
-fn done(mut w: World, after: After, word: &[u8], unit: u8, out: &mut [u8], at: usize) -> Step
-    requires { ⌜ (length (now word) ≤ 20) × (at + 100 ≤ length (now out)) ⌝ }
-    ensures { λ r. ⌜ r .at ≤ at + 100 ⌝ }
-{
-    let answer = after.answer;
-    let rows = after.rows;
-    let next = shown::said(out, at, word, unit, answer);
-    w.rows = rows;
-    moved(w, next)
+// What a command leaves that is lent no buffer.
+fn did(world: World, reply: Reply) -> Deed {
+    let buffer = [238u8; 1000];
+    Deed {
+        world,
+        reply,
+        buffer,
+    }
 }
 
-fn load(w: World, state: &mut [u8; 2048], memory: &mut [u8], store: &[u8], text: &[u8]) -> After {
+// What an event leaves.
+fn handed(mut w: World, after: After, buffer: [u8; 1000]) -> Deed {
+    let rows = after.rows;
+    let answer = after.answer;
+    w.rows = rows;
+    let reply = Reply::Answered(answer);
+    Deed {
+        world: w,
+        reply,
+        buffer,
+    }
+}
+
+fn set_card(w: World, card: Card) -> Deed {
+    let rows = w.rows;
+    let world = World {
+        card,
+        rows,
+        lent: w.lent,
+        memory: w.memory,
+        store: w.store,
+        from: w.from,
+        end: w.end,
+        at: w.at,
+        long: w.long,
+        open: w.open,
+    };
+    did(world, Reply::Set)
+}
+
+// The first n bytes of b, each with this value.
+fn fill(b: &mut [u8], n: usize, byte: u8) {
+    let e = least(n, b.len());
+    let mut i: usize = 0;
+    while i < e {
+        b[i] = byte;
+        i += 1;
+    }
+}
+
+fn lend_bank(
+    mut w: World,
+    memory: &mut [u8; 300000],
+    store: &mut [u8; 300000],
+    bank: Bank,
+    n: usize,
+    byte: u8,
+) -> Deed {
+    match bank {
+        Bank::Memory => {
+            fill(memory, n, byte);
+            w.memory = n;
+        }
+        Bank::Store => {
+            fill(store, n, byte);
+            w.store = n;
+        }
+    }
+    did(w, Reply::Lent)
+}
+
+fn lend_rows(mut w: World, n: usize, value: u32) -> Deed {
+    let row = Counters {
+        arrived: value,
+        hec: value,
+        ignored: value,
+        misrouted: value,
+        inletfull: value,
+        sent: value,
+        unheard: value,
+        damaged: value,
+        queued: value,
+        full: value,
+        clp: value,
+        wide: value,
+        taken: value,
+    };
+    w.rows = [row; 40];
+    w.lent = n;
+    did(w, Reply::Lent)
+}
+
+// The events see of the memory and the store what is lent.
+fn load(w: World, state: &mut [u8; 2048], memory: &mut [u8], store: &[u8], text: &[u8]) -> Deed {
     let card = w.card;
     let rows = w.rows;
-    owned::load(card, text, memory, state, store, rows, w.lent)
+    let m = within(w.memory, memory);
+    let s = part_of(store, 0, w.store);
+    let after = owned::load(card, text, &mut memory[..m], state, s, rows, w.lent);
+    handed(w, after, [238; 1000])
 }
 
 fn arrive(
@@ -199,97 +229,21 @@ fn arrive(
     store: &mut [u8],
     unit: u8,
     cell: &[u8],
-) -> After {
+) -> Deed {
     let card = w.card;
     let rows = w.rows;
-    owned::arrive(card, state, memory, store, rows, w.lent, unit, cell)
+    let m = part_of(memory, 0, w.memory);
+    let s = within(w.store, store);
+    let after = owned::arrive(card, state, m, &mut store[..s], rows, w.lent, unit, cell);
+    handed(w, after, [238; 1000])
 }
 
-fn hear(w: World, state: &mut [u8; 2048], store: &mut [u8], unit: u8, frame: &[u8]) -> After {
+fn hear(w: World, state: &mut [u8; 2048], store: &mut [u8], unit: u8, frame: &[u8]) -> Deed {
     let card = w.card;
     let rows = w.rows;
-    owned::hear(card, state, store, rows, w.lent, unit, frame)
-}
-
-fn frame(w: World, state: &mut [u8; 2048], store: &mut [u8], buffer: &mut [u8]) -> After {
-    let card = w.card;
-    let rows = w.rows;
-    owned::frame(card, state, store, rows, w.lent, buffer)
-}
-
-fn take(w: World, state: &mut [u8; 2048], store: &[u8], unit: u8, buffer: &mut [u8]) -> After {
-    let card = w.card;
-    let rows = w.rows;
-    owned::take(card, state, store, rows, w.lent, unit, buffer)
-}
-
-fn count(w: World, state: &[u8; 2048], store: &[u8], unit: u8) -> Counted {
-    let card = w.card;
-    let rows = w.rows;
-    owned::count(card, state, store, rows, w.lent, unit)
-}
-
-fn say_load(
-    w: World,
-    state: &mut [u8; 2048],
-    memory: &mut [u8],
-    store: &[u8],
-    text: &[u8],
-    out: &mut [u8],
-    at: usize,
-) -> Step
-    requires { ⌜ at + 20000 ≤ length (now out) ⌝ }
-{
-    let after = load(w, state, memory, store, text);
-    done(w, after, b"load", 0, out, at)
-}
-
-fn say_arrive(
-    w: World,
-    state: &mut [u8; 2048],
-    memory: &[u8],
-    store: &mut [u8],
-    unit: u8,
-    cell: &[u8],
-    out: &mut [u8],
-    at: usize,
-) -> Step
-    requires { ⌜ at + 20000 ≤ length (now out) ⌝ }
-{
-    let after = arrive(w, state, memory, store, unit, cell);
-    done(w, after, b"arrive", unit, out, at)
-}
-
-fn say_hear(
-    w: World,
-    state: &mut [u8; 2048],
-    store: &mut [u8],
-    unit: u8,
-    bytes: &[u8],
-    out: &mut [u8],
-    at: usize,
-) -> Step
-    requires { ⌜ at + 20000 ≤ length (now out) ⌝ }
-{
-    let after = hear(w, state, store, unit, bytes);
-    done(w, after, b"hear", unit, out, at)
-}
-
-// The first so many bytes of a buffer.
-fn put_front(out: &mut [u8], at: usize, buffer: &[u8], wanted: usize) -> usize
-    requires { ⌜ (length (now buffer) ≤ 1000) × (at + 2001 ≤ length (now out)) ⌝ }
-{
-    let n = within(wanted, buffer);
-    shown::put_bytes(out, at, &buffer[..n])
-}
-
-// An answer and the first so many bytes of a buffer behind it.
-fn with_buffer(step: Step, buffer: &[u8], wanted: usize, out: &mut [u8]) -> Step
-    requires { ⌜ (length (now buffer) ≤ 1000) × (step .at + 2001 ≤ length (now out)) ⌝ }
-{
-    let world = step.world;
-    let end = put_front(out, step.at, buffer, wanted);
-    moved(world, end)
+    let s = within(w.store, store);
+    let after = owned::hear(card, state, &mut store[..s], rows, w.lent, unit, frame);
+    handed(w, after, [238; 1000])
 }
 
 fn frame_into(
@@ -299,8 +253,11 @@ fn frame_into(
     buffer: &mut [u8],
     wanted: usize,
 ) -> After {
+    let card = w.card;
+    let rows = w.rows;
+    let s = within(w.store, store);
     let n = within(wanted, buffer);
-    frame(w, state, store, &mut buffer[..n])
+    owned::frame(card, state, &mut store[..s], rows, w.lent, &mut buffer[..n])
 }
 
 fn take_into(
@@ -311,47 +268,170 @@ fn take_into(
     buffer: &mut [u8],
     wanted: usize,
 ) -> After {
+    let card = w.card;
+    let rows = w.rows;
+    let s = part_of(store, 0, w.store);
     let n = within(wanted, buffer);
-    take(w, state, store, unit, &mut buffer[..n])
+    owned::take(card, state, s, rows, w.lent, unit, &mut buffer[..n])
 }
 
 // A frame into the first so many bytes of a buffer.
-fn say_frame(
-    w: World,
-    state: &mut [u8; 2048],
-    store: &mut [u8],
-    wanted: usize,
-    out: &mut [u8],
-    at: usize,
-) -> Step
-    requires { ⌜ at + 20000 ≤ length (now out) ⌝ }
-{
+fn frame(w: World, state: &mut [u8; 2048], store: &mut [u8], wanted: usize) -> Deed {
     let mut buffer = [238u8; 1000];
     let after = frame_into(w, state, store, &mut buffer, wanted);
-    let step = done(w, after, b"frame", 0, out, at);
-    with_buffer(step, &buffer, wanted, out)
+    handed(w, after, buffer)
 }
 
 // A take into the first so many bytes of a buffer.
-fn say_take(
-    w: World,
-    state: &mut [u8; 2048],
-    store: &[u8],
-    unit: u8,
-    wanted: usize,
-    out: &mut [u8],
-    at: usize,
-) -> Step
-    requires { ⌜ at + 20000 ≤ length (now out) ⌝ }
-{
+fn take(w: World, state: &mut [u8; 2048], store: &[u8], unit: u8, wanted: usize) -> Deed {
     let mut buffer = [238u8; 1000];
     let after = take_into(w, state, store, unit, &mut buffer, wanted);
-    let step = done(w, after, b"take", unit, out, at);
-    with_buffer(step, &buffer, wanted, out)
+    handed(w, after, buffer)
 }
 
-fn say_counted(counted: Counted, unit: u8, out: &mut [u8], at: usize) -> usize
-    requires { ⌜ at + 20000 ≤ length (now out) ⌝ }
+// Writes bytes from a place on, if they all lie inside.
+fn poked(b: &mut [u8], to: usize, bytes: &[u8]) -> Reply {
+    if to <= b.len() {
+        if bytes.len() <= b.len() - to {
+            octets::copy(bytes, b, to);
+            return Reply::Poked;
+        }
+    }
+    Reply::Bad
+}
+
+// The same, in what is lent.
+fn poke(w: World, b: &mut [u8], lent: usize, to: usize, bytes: &[u8]) -> Deed {
+    let n = within(lent, b);
+    did(w, poked(&mut b[..n], to, bytes))
+}
+
+fn poke_bank(
+    w: World,
+    memory: &mut [u8; 300000],
+    store: &mut [u8; 300000],
+    bank: Bank,
+    to: usize,
+    bytes: &[u8],
+) -> Deed {
+    match bank {
+        Bank::Memory => poke(w, memory, w.memory, to, bytes),
+        Bank::Store => poke(w, store, w.store, to, bytes),
+    }
+}
+
+// What a command does. From `obey` it goes on to `call` and `set`, each of which is lent less, until one of them knows it: one match over all of them takes the prover too long.
+fn obey(
+    w: World,
+    state: &mut [u8; 2048],
+    memory: &mut [u8; 300000],
+    store: &mut [u8; 300000],
+    bytes: &[u8],
+    command: Command,
+) -> Deed {
+    match command {
+        Command::Lend { bank, length, byte } => {
+            lend_bank(w, memory, store, bank, length as usize, byte)
+        }
+        Command::Load(_) => load(w, state, memory, store, bytes),
+        Command::Arrive { unit, from: _ } => arrive(w, state, memory, store, unit, bytes),
+        Command::Poke { bank, at, from: _ } => {
+            poke_bank(w, memory, store, bank, at as usize, bytes)
+        }
+        _ => call(w, state, store, bytes, command),
+    }
+}
+
+// A command that needs no memory.
+fn call(
+    w: World,
+    state: &mut [u8; 2048],
+    store: &mut [u8; 300000],
+    bytes: &[u8],
+    command: Command,
+) -> Deed {
+    match command {
+        Command::Hear { unit, from: _ } => hear(w, state, store, unit, bytes),
+        Command::Frame(length) => frame(w, state, store, length as usize),
+        Command::Take { unit, length } => take(w, state, store, unit, length as usize),
+        Command::PokeState { at, from: _ } => poke(w, state, 2048, at as usize, bytes),
+        _ => set(w, command),
+    }
+}
+
+// A command that needs nothing that is lent; all others leave everything as it is.
+fn set(w: World, command: Command) -> Deed {
+    match command {
+        Command::Card(card) => set_card(w, card),
+        Command::LendRows { count, value } => lend_rows(w, count as usize, value),
+        _ => did(w, Reply::Shown),
+    }
+}
+
+// The first so many bytes of a buffer.
+fn put_front(out: &mut [u8], at: usize, buffer: &[u8], wanted: usize) -> usize
+    requires { ⌜ (length (now buffer) ≤ 1000) × (at + 2001 ≤ length (now out)) ⌝ }
+{
+    let n = within(wanted, buffer);
+    shown::put_bytes(out, at, &buffer[..n])
+}
+
+// The answer of an event that was handed bytes.
+fn say_event(answer: Answer, command: Command, out: &mut [u8; 200000], at: usize) -> usize
+    requires { ⌜ at ≤ 180000 ⌝ }
+    ensures { λ r. ⌜ r ≤ at + 100 ⌝ }
+{
+    match command {
+        Command::Load(_) => shown::said(out, at, b"load", 0, answer),
+        Command::Arrive { unit, from: _ } => shown::said(out, at, b"arrive", unit, answer),
+        Command::Hear { unit, from: _ } => shown::said(out, at, b"hear", unit, answer),
+        _ => say_handed(answer, command, out, at),
+    }
+}
+
+// The answer of an event that hands bytes out.
+fn say_handed(answer: Answer, command: Command, out: &mut [u8; 200000], at: usize) -> usize
+    requires { ⌜ at ≤ 180000 ⌝ }
+    ensures { λ r. ⌜ r ≤ at + 100 ⌝ }
+{
+    match command {
+        Command::Take { unit, length: _ } => shown::said(out, at, b"take", unit, answer),
+        _ => shown::said(out, at, b"frame", 0, answer),
+    }
+}
+
+// The buffer of an event that hands bytes out, behind its answer.
+fn say_buffer(buffer: [u8; 1000], command: Command, out: &mut [u8; 200000], at: usize) -> usize
+    requires { ⌜ at ≤ 180100 ⌝ }
+{
+    let lent = buffer;
+    match command {
+        Command::Frame(length) => put_front(out, at, &lent, length as usize),
+        Command::Take { unit: _, length } => put_front(out, at, &lent, length as usize),
+        _ => at,
+    }
+}
+
+fn say_reply(reply: Reply, out: &mut [u8; 200000], at: usize) -> usize
+    requires { ⌜ at ≤ 180000 ⌝ }
+{
+    match reply {
+        Reply::Set => words::put(out, at, b"card\tok"),
+        Reply::Lent => words::put(out, at, b"lend\tok"),
+        Reply::Poked => words::put(out, at, b"poke\tok"),
+        _ => words::put(out, at, b"bad"),
+    }
+}
+
+fn count(w: World, state: &[u8; 2048], store: &[u8], unit: u8) -> Counted {
+    let card = w.card;
+    let rows = w.rows;
+    let s = part_of(store, 0, w.store);
+    owned::count(card, state, s, rows, w.lent, unit)
+}
+
+fn say_counted(counted: Counted, unit: u8, out: &mut [u8; 200000], at: usize) -> usize
+    requires { ⌜ at ≤ 180000 ⌝ }
 {
     match counted {
         Counted::Counters(c) => shown::counted(out, at, unit, c),
@@ -361,206 +441,85 @@ fn say_counted(counted: Counted, unit: u8, out: &mut [u8], at: usize) -> usize
     }
 }
 
-// Writes bytes from a place on, if they all lie inside.
-fn say_poke(b: &mut [u8], to: usize, bytes: &[u8], out: &mut [u8], at: usize) -> usize
-    requires { ⌜ at + 20000 ≤ length (now out) ⌝ }
+// The sum of what is lent.
+fn say_sum(b: &[u8], lent: usize, text: &[u8], out: &mut [u8; 200000], at: usize) -> usize
+    requires { ⌜ (length (now text) ≤ 20) × (at ≤ 180000) ⌝ }
 {
-    if to <= b.len() {
-        if bytes.len() <= b.len() - to {
-            octets::copy(bytes, b, to);
-            return words::put(out, at, b"poke\tok");
-        }
-    }
-    words::put(out, at, b"bad")
+    let part = part_of(b, 0, lent);
+    shown::summed(out, at, text, part.len() as u64, sum::fnv(part))
 }
 
-fn say_sum(b: &[u8], text: &[u8], out: &mut [u8], at: usize) -> usize
-    requires { ⌜ (length (now text) ≤ 20) × (at + 20000 ≤ length (now out)) ⌝ }
-{
-    shown::summed(out, at, text, b.len() as u64, sum::fnv(b))
-}
-
-fn say_rows(w: World, out: &mut [u8], at: usize) -> usize
-    requires { ⌜ at + 20000 ≤ length (now out) ⌝ }
+fn say_rows(w: World, out: &mut [u8; 200000], at: usize) -> usize
+    requires { ⌜ at ≤ 180000 ⌝ }
 {
     let n = least(w.lent, 40);
     let rows = w.rows;
     shown::rows(out, at, n, rows)
 }
 
-fn say_card(w: World, card: Card, out: &mut [u8], at: usize) -> Step
-    requires { ⌜ at + 20000 ≤ length (now out) ⌝ }
-{
-    moved(with_card(w, card), words::put(out, at, b"card\tok"))
-}
-
-fn say_lend(
+fn show_bank(
     w: World,
-    memory: &mut [u8],
-    store: &mut [u8],
+    memory: &[u8],
+    store: &[u8],
     bank: Bank,
-    n: usize,
-    byte: u8,
-    out: &mut [u8],
-    at: usize,
-) -> Step
-    requires { ⌜ at + 20000 ≤ length (now out) ⌝ }
-{
-    let lent = with_bank(w, memory, store, bank, n, byte);
-    moved(lent, words::put(out, at, b"lend\tok"))
-}
-
-fn say_lend_rows(w: World, n: usize, value: u32, out: &mut [u8], at: usize) -> Step
-    requires { ⌜ at + 20000 ≤ length (now out) ⌝ }
-{
-    moved(with_rows(w, n, value), words::put(out, at, b"lend\tok"))
-}
-
-// A command. It goes from `act` on to `call`, `hand_out`, `poke` and `tell` until one of them knows it: one match over all of them takes the prover too long.
-fn act(
-    w: World,
-    state: &mut [u8; 2048],
-    memory: &mut [u8],
-    store: &mut [u8],
-    bytes: &[u8],
-    command: Command,
-    out: &mut [u8],
-    at: usize,
-) -> Step
-    requires { ⌜ at + 20000 ≤ length (now out) ⌝ }
-{
-    match command {
-        Command::Card(card) => say_card(w, card, out, at),
-        Command::Lend { bank, length, byte } => {
-            say_lend(w, memory, store, bank, length as usize, byte, out, at)
-        }
-        Command::LendRows { count, value } => { say_lend_rows(w, count as usize, value, out, at) }
-        _ => lend(w, state, memory, store, bytes, command, out, at),
-    }
-}
-
-// All others see of the memory and the store what is lent.
-fn lend(
-    w: World,
-    state: &mut [u8; 2048],
-    memory: &mut [u8],
-    store: &mut [u8],
-    bytes: &[u8],
-    command: Command,
-    out: &mut [u8],
-    at: usize,
-) -> Step
-    requires { ⌜ at + 20000 ≤ length (now out) ⌝ }
-{
-    let m = within(w.memory, memory);
-    let s = within(w.store, store);
-    call(
-        w,
-        state,
-        &mut memory[..m],
-        &mut store[..s],
-        bytes,
-        command,
-        out,
-        at,
-    )
-}
-
-// An event that is handed bytes.
-fn call(
-    w: World,
-    state: &mut [u8; 2048],
-    memory: &mut [u8],
-    store: &mut [u8],
-    bytes: &[u8],
-    command: Command,
-    out: &mut [u8],
-    at: usize,
-) -> Step
-    requires { ⌜ at + 20000 ≤ length (now out) ⌝ }
-{
-    match command {
-        Command::Load(_) => say_load(w, state, memory, store, bytes, out, at),
-        Command::Arrive { unit, from: _ } => {
-            say_arrive(w, state, memory, store, unit, bytes, out, at)
-        }
-        Command::Hear { unit, from: _ } => say_hear(w, state, store, unit, bytes, out, at),
-        _ => hand_out(w, state, memory, store, bytes, command, out, at),
-    }
-}
-
-// An event that hands bytes out.
-fn hand_out(
-    w: World,
-    state: &mut [u8; 2048],
-    memory: &mut [u8],
-    store: &mut [u8],
-    bytes: &[u8],
-    command: Command,
-    out: &mut [u8],
-    at: usize,
-) -> Step
-    requires { ⌜ at + 20000 ≤ length (now out) ⌝ }
-{
-    match command {
-        Command::Frame(length) => say_frame(w, state, store, length as usize, out, at),
-        Command::Take { unit, length } => {
-            say_take(w, state, store, unit, length as usize, out, at)
-        }
-        _ => moved(w, poke(w, state, memory, store, bytes, command, out, at)),
-    }
-}
-
-// What the lab writes.
-fn poke(
-    w: World,
-    state: &mut [u8; 2048],
-    memory: &mut [u8],
-    store: &mut [u8],
-    bytes: &[u8],
-    command: Command,
-    out: &mut [u8],
+    out: &mut [u8; 200000],
     at: usize,
 ) -> usize
-    requires { ⌜ at + 20000 ≤ length (now out) ⌝ }
+    requires { ⌜ at ≤ 180000 ⌝ }
 {
-    match command {
-        Command::Poke {
-            bank,
-            at: to,
-            from: _,
-        } => match bank {
-            Bank::Memory => say_poke(memory, to as usize, bytes, out, at),
-            Bank::Store => say_poke(store, to as usize, bytes, out, at),
-        },
-        Command::PokeState { at: to, from: _ } => say_poke(state, to as usize, bytes, out, at),
-        _ => tell(w, state, memory, store, command, out, at),
+    match bank {
+        Bank::Memory => say_sum(memory, w.memory, b"show\tmemory", out, at),
+        Bank::Store => say_sum(store, w.store, b"show\tstore", out, at),
     }
 }
 
-// What leaves everything as it is.
-fn tell(
+// What a command shows.
+fn show(
     w: World,
     state: &[u8; 2048],
     memory: &[u8],
     store: &[u8],
     command: Command,
-    out: &mut [u8],
+    out: &mut [u8; 200000],
     at: usize,
 ) -> usize
-    requires { ⌜ at + 20000 ≤ length (now out) ⌝ }
+    requires { ⌜ at ≤ 180000 ⌝ }
 {
     match command {
         Command::Count(unit) => say_counted(count(w, state, store, unit), unit, out, at),
-        Command::Show(bank) => match bank {
-            Bank::Memory => say_sum(memory, b"show\tmemory", out, at),
-            Bank::Store => say_sum(store, b"show\tstore", out, at),
-        },
+        Command::Show(bank) => show_bank(w, memory, store, bank, out, at),
         Command::ShowRows => say_rows(w, out, at),
         Command::ShowState => shown::state(out, at, state),
         Command::ShowUnit(unit) => named::unit(out, at, state, unit),
         // all others are done by now
         _ => at,
+    }
+}
+
+// What a command says.
+fn say(
+    deed: Deed,
+    state: &[u8; 2048],
+    memory: &[u8],
+    store: &[u8],
+    command: Command,
+    out: &mut [u8; 200000],
+    at: usize,
+) -> usize
+    requires { ⌜ at ≤ 180000 ⌝ }
+{
+    let reply = deed.reply;
+    match reply {
+        Reply::Answered(answer) => {
+            let buffer = deed.buffer;
+            let end = say_event(answer, command, out, at);
+            say_buffer(buffer, command, out, end)
+        }
+        Reply::Shown => {
+            let w = deed.world;
+            show(w, state, memory, store, command, out, at)
+        }
+        _ => say_reply(reply, out, at),
     }
 }
 
@@ -573,121 +532,78 @@ fn ended(out: &mut [u8], at: usize) -> usize {
     at
 }
 
-// A command and its newline.
-fn obey(
-    w: World,
-    state: &mut [u8; 2048],
-    memory: &mut [u8],
-    store: &mut [u8],
-    bytes: &[u8],
-    command: Command,
-    out: &mut [u8],
-    at: usize,
-) -> Step
-    requires { ⌜ at + 20000 ≤ length (now out) ⌝ }
+// The answers so far are written out.
+fn write_out(out: &[u8; 200000], at: usize) {
+    let answers = part_of(out, 0, at);
+    io::write_all(1, answers);
+}
+
+// Where the next answer goes: what there is is written out if the room is short.
+fn cleared(out: &[u8; 200000], at: usize) -> usize
+    ensures { λ r. ⌜ r ≤ 180000 ⌝ }
 {
-    let step = act(w, state, memory, store, bytes, command, out, at);
-    let world = step.world;
-    moved(world, ended(out, step.at))
+    if FULL < at {
+        write_out(out, at);
+        return 0;
+    }
+    at
+}
+
+// What a command says, and its newline.
+fn say_line(
+    deed: Deed,
+    state: &[u8; 2048],
+    memory: &[u8],
+    store: &[u8],
+    command: Command,
+    out: &mut [u8; 200000],
+) -> World {
+    let mut w = deed.world;
+    let at = cleared(out, w.at);
+    let end = say(deed, state, memory, store, command, out, at);
+    w.at = ended(out, end);
+    w
+}
+
+fn say_bad(mut w: World, out: &mut [u8; 200000]) -> World {
+    let at = cleared(out, w.at);
+    w.at = words::put(out, at, b"bad\n");
+    w
+}
+
+// A line that was too long to be kept is bad.
+fn reading_of(long: bool, line: &[u8]) -> Reading {
+    if long {
+        return Reading::Bad;
+    }
+    command::read(line)
 }
 
 // The answer to one line.
 fn answer_line(
     w: World,
     state: &mut [u8; 2048],
-    memory: &mut [u8],
-    store: &mut [u8],
-    text: &mut [u8],
+    memory: &mut [u8; 300000],
+    store: &mut [u8; 300000],
+    text: &mut [u8; 75000],
     line: &[u8],
-    out: &mut [u8],
-    at: usize,
-) -> Step
-    requires { ⌜ at + 20000 ≤ length (now out) ⌝ }
-{
-    match command::read(line) {
+    out: &mut [u8; 200000],
+) -> World {
+    match reading_of(w.long, line) {
         Reading::Does(command) => {
             let n = unhexed(line, bytes_from(command, line.len()), text);
-            obey(w, state, memory, store, &text[..n], command, out, at)
+            let bytes = part_of(text, 0, n);
+            let deed = obey(w, state, memory, store, bytes, command);
+            say_line(deed, state, memory, store, command, out)
         }
-        Reading::Bad => moved(w, words::put(out, at, b"bad\n")),
+        Reading::Bad => say_bad(w, out),
     }
 }
 
-// Where the next answer goes: what there is is written out if the room is short.
-fn cleared(out: &[u8], at: usize) -> usize {
-    let n = within(at, out);
-    if out.len() - n < ROOM {
-        io::write_all(1, &out[..n]);
-        return 0;
-    }
-    n
-}
-
-// Answers every whole line of the input.
-fn answer_lines(
-    rest: Rest,
-    state: &mut [u8; 2048],
-    memory: &mut [u8],
-    store: &mut [u8],
-    text: &mut [u8],
-    input: &[u8],
-    out: &mut [u8],
-) -> Batch {
-    let mut w = rest.world;
-    let mut long = rest.long;
-    let mut from: usize = 0;
-    let mut at: usize = 0;
-    loop {
-        let e = text::field_end(input, from, NEWLINE);
-        if input.len() <= e {
-            return Batch {
-                world: w,
-                from,
-                at,
-                long,
-            };
-        }
-        let next = e + 1;
-        let done = answer_one(
-            w,
-            long,
-            state,
-            memory,
-            store,
-            text,
-            &input[from..e],
-            out,
-            at,
-        );
-        w = done.world;
-        at = done.at;
-        long = false;
-        from = next;
-    }
-}
-
-// Answers one line, which is bad if it was too long to be kept.
-fn answer_one(
-    w: World,
-    long: bool,
-    state: &mut [u8; 2048],
-    memory: &mut [u8],
-    store: &mut [u8],
-    text: &mut [u8],
-    line: &[u8],
-    out: &mut [u8],
-    at: usize,
-) -> Step {
-    let next = cleared(out, at);
-    if next <= out.len() {
-        if ROOM <= out.len() - next {
-            if long {
-                return moved(w, words::put(out, next, b"bad\n"));
-            }
-            return answer_line(w, state, memory, store, text, line, out, next);
-        }
-    }
-    moved(w, next)
+// Where the first line of what is not answered ends; at the end of it if no newline has come.
+fn line_end(input: &[u8], from: usize, end: usize) -> usize {
+    let e = within(end, input);
+    text::field_end(&input[..e], least(from, e), NEWLINE)
 }
 
 // What stands from a place on comes to the front.
@@ -703,121 +619,19 @@ fn shift(input: &mut [u8], from: usize, end: usize) -> usize {
     i
 }
 
-// All that was read but the start of a line is answered; that goes to the front, unless it is too long already.
-fn turn(
-    rest: Rest,
-    state: &mut [u8; 2048],
-    memory: &mut [u8],
-    store: &mut [u8],
-    text: &mut [u8],
-    input: &mut [u8],
-    end: usize,
-    out: &mut [u8],
-) -> Rest {
-    let e = within(end, input);
-    let done = answer_lines(rest, state, memory, store, text, &input[..e], out);
-    let n = within(done.at, out);
-    io::write_all(1, &out[..n]);
-    rested(done, input, e)
-}
-
-// What is left of the input after a batch.
-fn rested(done: Batch, input: &mut [u8], e: usize) -> Rest {
-    let world = done.world;
-    let from = least(done.from, e);
-    if MOST < e - from {
-        return Rest {
-            world,
-            kept: 0,
-            long: true,
-            open: true,
-        };
+// The start of a line comes to the front, unless it is too long already.
+fn kept(mut w: World, input: &mut [u8]) -> World {
+    let from = least(w.from, w.end);
+    let mut n: usize = 0;
+    if MOST < w.end - from {
+        w.long = true;
+    } else {
+        n = shift(input, from, w.end);
     }
-    let kept = shift(input, from, e);
-    Rest {
-        world,
-        kept,
-        long: done.long,
-        open: true,
-    }
-}
-
-// The last line, if it has no newline.
-fn last(
-    rest: Rest,
-    state: &mut [u8; 2048],
-    memory: &mut [u8],
-    store: &mut [u8],
-    text: &mut [u8],
-    input: &[u8],
-    out: &mut [u8],
-) {
-    let n = within(rest.kept, input);
-    let long = rest.long;
-    let world = rest.world;
-    if n == 0 {
-        if !long {
-            return;
-        }
-    }
-    let done = answer_one(world, long, state, memory, store, text, &input[..n], out, 0);
-    let e = within(done.at, out);
-    io::write_all(1, &out[..e]);
-}
-
-// Reads once, and answers what came.
-fn read_turn(
-    mut rest: Rest,
-    state: &mut [u8; 2048],
-    memory: &mut [u8],
-    store: &mut [u8],
-    text: &mut [u8],
-    input: &mut [u8],
-    out: &mut [u8],
-) -> Rest {
-    let kept = within(rest.kept, input);
-    let n = more(input, kept);
-    if n == 0 {
-        rest.open = false;
-        return rest;
-    }
-    turn(rest, state, memory, store, text, input, kept + n, out)
-}
-
-// One turn less; none after the end of the input.
-fn left(turns: u64, open: bool) -> u64
-    requires { ⌜ 0 < turns ⌝ }
-    ensures { λ r. ⌜ r < turns ⌝ }
-{
-    if open { turns - 1 } else { 0 }
-}
-
-// Nothing is read yet.
-fn begun() -> Rest {
-    Rest {
-        world: fresh(),
-        kept: 0,
-        long: false,
-        open: true,
-    }
-}
-
-// Reads to the end of the input; nothing says that there is one, so turns are counted.
-fn run(
-    state: &mut [u8; 2048],
-    memory: &mut [u8],
-    store: &mut [u8],
-    text: &mut [u8],
-    input: &mut [u8],
-    out: &mut [u8],
-) {
-    let mut rest = begun();
-    let mut turns: u64 = 18446744073709551615;
-    while 0 < turns {
-        rest = read_turn(rest, state, memory, store, text, input, out);
-        turns = left(turns, rest.open);
-    }
-    last(rest, state, memory, store, text, input, out);
+    w.from = 0;
+    w.end = n;
+    w.at = 0;
+    w
 }
 
 // Reads into what is free behind the kept bytes; how many bytes came.
@@ -829,29 +643,57 @@ fn more(input: &mut [u8], kept: usize) -> usize
     io::count(got, &input[kept..])
 }
 
-// Zeros, with the length that lending them asks for.
-fn bank() -> [u8; 300000]
-    ensures { λ r. ⌜ 300000 ≡ length r ⌝ }
-{
-    [0; 300000]
+// More is read behind what is kept; at the end of the input a last line without a newline gets one.
+fn read_on(mut w: World, input: &mut [u8]) -> World {
+    let n = within(w.end, input);
+    let came = more(input, n);
+    w.end = n + came;
+    if came == 0 {
+        w.open = false;
+        if w.long || 0 < n {
+            w.end = ended(input, n);
+        }
+    }
+    w
 }
 
-fn text_room() -> [u8; 75000]
-    ensures { λ r. ⌜ 75000 ≡ length r ⌝ }
-{
-    [0; 75000]
+// The line that ends before a place is answered.
+fn answered(mut w: World, from: usize) -> World {
+    w.from = from;
+    w.long = false;
+    w
 }
 
-fn input_room() -> [u8; 400000]
-    ensures { λ r. ⌜ 400000 ≡ length r ⌝ }
-{
-    [0; 400000]
+// Answers the next line; where no whole one is left, the answers are written and more is read.
+fn turn(
+    w: World,
+    state: &mut [u8; 2048],
+    memory: &mut [u8; 300000],
+    store: &mut [u8; 300000],
+    text: &mut [u8; 75000],
+    input: &mut [u8; 400000],
+    out: &mut [u8; 200000],
+) -> World {
+    let to = line_end(input, w.from, w.end);
+    if to < w.end {
+        let next = to + 1;
+        let line = part_of(input, w.from, to);
+        let done = answer_line(w, state, memory, store, text, line, out);
+        return answered(done, next);
+    }
+    write_out(out, w.at);
+    read_on(kept(w, input), input)
 }
 
-fn out_room() -> [u8; 200000]
-    ensures { λ r. ⌜ 200000 ≡ length r ⌝ }
+// One turn less; none after the end of the input and its last line.
+fn left(turns: u64, w: World) -> u64
+    requires { ⌜ 0 < turns ⌝ }
+    ensures { λ r. ⌜ r < turns ⌝ }
 {
-    [0; 200000]
+    if w.open || w.from < w.end {
+        return turns - 1;
+    }
+    0
 }
 
 // A fresh 16 bus.
@@ -861,19 +703,27 @@ fn state_room() -> [u8; 2048] {
     state
 }
 
+// Reads to the end of the input; nothing says that there is one, so turns are counted.
 fn main() {
     let mut state = state_room();
-    let mut memory = bank();
-    let mut store = bank();
-    let mut text = text_room();
-    let mut input = input_room();
-    let mut out = out_room();
-    run(
-        &mut state,
-        &mut memory,
-        &mut store,
-        &mut text,
-        &mut input,
-        &mut out,
-    );
+    let mut memory = [0; 300000];
+    let mut store = [0; 300000];
+    let mut text = [0; 75000];
+    let mut input = [0; 400000];
+    let mut out = [0; 200000];
+    let mut w = begun();
+    let mut turns: u64 = 18446744073709551615;
+    while 0 < turns {
+        w = turn(
+            w,
+            &mut state,
+            &mut memory,
+            &mut store,
+            &mut text,
+            &mut input,
+            &mut out,
+        );
+        turns = left(turns, w);
+    }
+    write_out(&out, w.at);
 }

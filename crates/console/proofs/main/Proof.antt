@@ -1,0 +1,55 @@
+-- `console::main` meets its contract. Assumes nothing.
+use Prim.Native.Nat.{_≤_}
+use borrow.Author.Needs.{needs}
+use Rattle.console.proofs.main.Statement.{statement}
+use Rattle.console.proofs.main.Tie as tie
+
+-- Nothing is carried from turn to turn but the turns that are left.
+abbrev Inv-loop : tie.InvT-loop
+Inv-loop state₀ memory₀ store₀ text₀ input₀ out₀ w₀ turns₀ state memory store text input out w turns = 0 ≤ turns
+
+abbrev μ-loop : tie.MeasureT-loop
+μ-loop state₀ memory₀ store₀ text₀ input₀ out₀ w₀ turns₀ state memory store text input out w turns = turns
+
+state-room-requires : tie.Need-state-room-requires Inv-loop μ-loop
+state-room-requires c κs = search needs
+
+begun-requires : tie.Need-begun-requires Inv-loop μ-loop
+begun-requires c κs = search needs
+
+loop-holds : tie.Need-loop-holds Inv-loop μ-loop
+loop-holds c = search needs
+
+turn-requires : tie.Need-turn-requires Inv-loop μ-loop
+turn-requires c κs = search needs
+
+left-requires : tie.Need-left-requires Inv-loop μ-loop
+left-requires c κs = search needs
+
+loop-less : tie.Need-loop-less Inv-loop μ-loop
+loop-less c = search needs
+
+loop-again : tie.Need-loop-again Inv-loop μ-loop
+loop-again c = search needs
+
+write-out-requires : tie.Need-write-out-requires Inv-loop μ-loop
+write-out-requires c κs = search needs
+
+returns : tie.Need-returns Inv-loop μ-loop
+returns c = search needs
+
+pub main-spec : {M : Type 1} → statement M
+main-spec =
+    tie.close
+    (tie.spec
+    Inv-loop
+    μ-loop
+    state-room-requires
+    begun-requires
+    loop-holds
+    turn-requires
+    left-requires
+    loop-less
+    loop-again
+    write-out-requires
+    returns)
