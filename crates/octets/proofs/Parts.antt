@@ -1,12 +1,12 @@
 -- What a splice keeps and what it leaves alone; and a list of things of one size in bytes, one after the other: what stands at a thing's
 -- place, and what a splice there makes of it. It holds for any size and any layout. Assumes nothing.
 use mathlib.Core.Path.{_≡_, refl, sym, ap, ap₂, _∙_}
-use mathlib.Core.List.{List, [], _∷_, _++_, append-assoc}
+use mathlib.Core.List.{List, [], _∷_, _++_, append-assoc, append-nil}
 use Prim.Native.Nat.{ℕ, zero, suc, _+_, _*_, _≤_, _<_, _-_}
 use native.Mathlib.Nat.{le-of-suc-le-suc, not-suc-le-zero, mul-suc, mul-zero, add-comm, add-assoc, zero-add, add-zero}
 use native.Mathlib.Omega.{arith}
-use lib.ListN.{length, getD, take, drop, set, length-append, length-drop, take-append-drop}
-use lib.Seq.{take-at, drop-at, take-append-add, drop-append-add, take-append-le, drop-append-le, length-take-le, drop-drop}
+use lib.ListN.{length, getD, take, drop, set, length-append, length-drop, drop-of-length-le, take-append-drop}
+use lib.Seq.{take-all, take-at, drop-at, take-append-add, drop-append-add, take-append-le, drop-append-le, length-take-le, drop-drop}
 use Rattle.octets.specs.Octets.{splice, part, cat}
 
 module _ {A : Type 0} (b : List A) (k : ℕ) (v : List A) (fits : k + length v ≤ length b) where
@@ -56,6 +56,12 @@ splice-behind p q v n =
     rw (add-assoc, take-append-add, drop-append-add)
     (append-assoc (p ++ take n q) v (drop (n + length v) q) ∙ append-assoc p (take n q) (v ++ drop (n + length v) q)
     ∙ ap (λ x. p ++ x) (sym (append-assoc (take n q) v (drop (n + length v) q))))
+
+-- a list that is copied over one of its length
+pub copied : {A : Type 0} (n : ℕ) (b v : List A) → length b ≡ n → length v ≡ n → splice b 0 (take n v) ≡ v
+copied n b v lb lv =
+    ap (splice b 0) (take-all n v (omega (arith, lv)))
+    ∙ rw zero-add (ap (λ x. v ++ x) (drop-of-length-le b {i = length v} (omega (arith, lb, lv))) ∙ append-nil v)
 
 -- a list written from the front: what stands in b up to place k, then v
 pub written : {A : Type 0} (b p q v : List A) (k : ℕ) → b ≡ p ++ q → length p ≡ k → splice b k v ≡ (p ++ v) ++ drop (length v) q

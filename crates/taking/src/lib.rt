@@ -16,14 +16,17 @@ ghost use Rattle.state.specs.Bytes.{unitIn, shelfIn};
 ghost use Rattle.taking.specs.Takes.{lineCell, outward, doneAt, bufferAt};
 ghost use Rattle.taking.specs.InPlace.{stateAt, takeOut, takeState, takeBufferIn};
 
-// Writes a line cell: header, check, payload.
+// Writes a line cell: header, check, payload. The payload goes by way of a local array: the compiler then knows that the
+// two do not overlap, and copies in words.
 fn write_cell(header: u32, payload: &[u8], buffer: &mut [u8])
     requires { ⌜ (length (now payload) ≡ 48) × (length (now buffer) ≡ 53) ⌝ }
     ensures { λ _. ⌜ now (buffer .exit) ≡ lineCell header (now (payload .entry)) ⌝ }
 {
     octets::put_four(buffer, 0, header);
     buffer[4] = header::check(header);
-    octets::copy(payload, buffer, 5);
+    let mut bytes = [0; 48];
+    octets::copy(&payload[..48], &mut bytes, 0);
+    octets::copy(&bytes, buffer, 5);
 }
 
 // Writes a cell of the outlet as it leaves on the unit's link.
