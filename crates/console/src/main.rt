@@ -562,12 +562,14 @@ fn say_line(
     let at = cleared(out, w.at);
     let end = say(deed, state, memory, store, command, out, at);
     w.at = ended(out, end);
+    w.long = false;
     w
 }
 
 fn say_bad(mut w: World, out: &mut [u8; 200000]) -> World {
     let at = cleared(out, w.at);
     w.at = words::put(out, at, b"bad\n");
+    w.long = false;
     w
 }
 
@@ -577,27 +579,6 @@ fn reading_of(long: bool, line: &[u8]) -> Reading {
         return Reading::Bad;
     }
     command::read(line)
-}
-
-// The answer to one line.
-fn answer_line(
-    w: World,
-    state: &mut [u8; 2048],
-    memory: &mut [u8; 300000],
-    store: &mut [u8; 300000],
-    text: &mut [u8; 75000],
-    line: &[u8],
-    out: &mut [u8; 200000],
-) -> World {
-    match reading_of(w.long, line) {
-        Reading::Does(command) => {
-            let n = unhexed(line, bytes_from(command, line.len()), text);
-            let bytes = part_of(text, 0, n);
-            let deed = obey(w, state, memory, store, bytes, command);
-            say_line(deed, state, memory, store, command, out)
-        }
-        Reading::Bad => say_bad(w, out),
-    }
 }
 
 // Where the first line of what is not answered ends; at the end of it if no newline has come.
@@ -657,16 +638,15 @@ fn read_on(mut w: World, input: &mut [u8]) -> World {
     w
 }
 
-// The line that ends before a place is answered.
-fn answered(mut w: World, from: usize) -> World {
-    w.from = from;
-    w.long = false;
-    w
+// The answers are written, and more is read.
+fn refilled(w: World, input: &mut [u8; 400000], out: &[u8; 200000]) -> World {
+    write_out(out, w.at);
+    read_on(kept(w, input), input)
 }
 
-// Answers the next line; where no whole one is left, the answers are written and more is read.
+// Answers the next line; where no whole one is left, more is read.
 fn turn(
-    w: World,
+    mut w: World,
     state: &mut [u8; 2048],
     memory: &mut [u8; 300000],
     store: &mut [u8; 300000],
@@ -675,14 +655,21 @@ fn turn(
     out: &mut [u8; 200000],
 ) -> World {
     let to = line_end(input, w.from, w.end);
-    if to < w.end {
-        let next = to + 1;
-        let line = part_of(input, w.from, to);
-        let done = answer_line(w, state, memory, store, text, line, out);
-        return answered(done, next);
+    if w.end <= to {
+        return refilled(w, input, out);
     }
-    write_out(out, w.at);
-    read_on(kept(w, input), input)
+    let next = to + 1;
+    let line = part_of(input, w.from, to);
+    w.from = next;
+    match reading_of(w.long, line) {
+        Reading::Does(command) => {
+            let n = unhexed(line, bytes_from(command, line.len()), text);
+            let bytes = part_of(text, 0, n);
+            let deed = obey(w, state, memory, store, bytes, command);
+            say_line(deed, state, memory, store, command, out)
+        }
+        Reading::Bad => say_bad(w, out),
+    }
 }
 
 // One turn less; none after the end of the input and its last line.
@@ -704,6 +691,23 @@ fn state_room() -> [u8; 2048] {
 }
 
 // Reads to the end of the input; nothing says that there is one, so turns are counted.
+fn run(
+    state: &mut [u8; 2048],
+    memory: &mut [u8; 300000],
+    store: &mut [u8; 300000],
+    text: &mut [u8; 75000],
+    input: &mut [u8; 400000],
+    out: &mut [u8; 200000],
+) {
+    let mut w = begun();
+    let mut turns: u64 = 18446744073709551615;
+    while 0 < turns {
+        w = turn(w, state, memory, store, text, input, out);
+        turns = left(turns, w);
+    }
+    write_out(out, w.at);
+}
+
 fn main() {
     let mut state = state_room();
     let mut memory = [0; 300000];
@@ -711,19 +715,12 @@ fn main() {
     let mut text = [0; 75000];
     let mut input = [0; 400000];
     let mut out = [0; 200000];
-    let mut w = begun();
-    let mut turns: u64 = 18446744073709551615;
-    while 0 < turns {
-        w = turn(
-            w,
-            &mut state,
-            &mut memory,
-            &mut store,
-            &mut text,
-            &mut input,
-            &mut out,
-        );
-        turns = left(turns, w);
-    }
-    write_out(&out, w.at);
+    run(
+        &mut state,
+        &mut memory,
+        &mut store,
+        &mut text,
+        &mut input,
+        &mut out,
+    );
 }

@@ -1,8 +1,8 @@
--- `console::main` meets its contract. Assumes nothing.
+-- `console::run` meets its contract. Assumes nothing.
 use Prim.Native.Nat.{_≤_}
 use borrow.Author.Needs.{needs}
-use Rattle.console.proofs.main.Statement.{statement}
-use Rattle.console.proofs.main.Tie as tie
+use Rattle.console.proofs.run.Statement.{statement}
+use Rattle.console.proofs.run.Tie as tie
 
 -- Nothing is carried from turn to turn but the turns that are left.
 abbrev Inv-loop : tie.InvT-loop
@@ -10,9 +10,6 @@ Inv-loop state₀ memory₀ store₀ text₀ input₀ out₀ w₀ turns₀ state
 
 abbrev μ-loop : tie.MeasureT-loop
 μ-loop state₀ memory₀ store₀ text₀ input₀ out₀ w₀ turns₀ state memory store text input out w turns = turns
-
-state-room-requires : tie.Need-state-room-requires Inv-loop μ-loop
-state-room-requires c κs = search needs
 
 begun-requires : tie.Need-begun-requires Inv-loop μ-loop
 begun-requires c κs = search needs
@@ -38,13 +35,12 @@ write-out-requires c κs = search needs
 returns : tie.Need-returns Inv-loop μ-loop
 returns c = search needs
 
-pub main-spec : {M : Type 1} → statement M
-main-spec =
+pub run-spec : {M : Type 1} → statement M
+run-spec =
     tie.close
     (tie.spec
     Inv-loop
     μ-loop
-    state-room-requires
     begun-requires
     loop-holds
     turn-requires
