@@ -1,6 +1,6 @@
 -- What a function says of the rest of a line is what is said of more of it, and of the whole. Assumes nothing.
 use Prim.Native.Nat.{ℕ}
-use mathlib.Core.Path.{_≡_}
+use mathlib.Core.Path.{_≡_, _∙_}
 use mathlib.Core.List.{List, [], _∷_}
 use Rattle.line.specs.declared.Kind.{Kind}
 use Rattle.line.specs.declared.Way.{Way}
@@ -16,19 +16,19 @@ abbrev first3 : List (List ℕ) → ℕ → ℕ → ℕ → Way
 first3 fs a b c = waySaid (at fs 0) (at fs 1) (at fs 2) a b c
 
 -- from field 5 on, of what stands from field 4 on
-pub vc-way-rest : (t s : List ℕ) → t ≡ afterOf s → first3 (fieldsOf t) 5 6 7 ≡ wayOf (from4 (fieldsOf s)) 5 6 7
+pub vc-way-rest : (t s : List ℕ) → t ≡ afterOf s → {r : Way} → r ≡ first3 (fieldsOf t) 5 6 7 → r ≡ wayOf (from4 (fieldsOf s)) 5 6 7
 unfolding wayOf
-vc-way-rest t s e =
+vc-way-rest t s e q =
     let p = after-fields t s e in
-    λ i. waySaid (p 0 i) (p 1 i) (p 2 i) 5 6 7
+    q ∙ λ i. waySaid (p 0 i) (p 1 i) (p 2 i) 5 6 7
 
 -- from field 4 on, of what stands from field 2 on
 module _ (t u s : List ℕ) (d : t ≡ afterOf u) (e : u ≡ afterOf s) where
-  pub vp-way-rest : first3 (fieldsOf t) 4 5 6 ≡ wayOf (from2 (fieldsOf s)) 4 5 6
+  pub vp-way-rest : {r : Way} → r ≡ first3 (fieldsOf t) 4 5 6 → r ≡ wayOf (from2 (fieldsOf s)) 4 5 6
   unfolding wayOf
-  vp-way-rest =
+  vp-way-rest q =
       let p = second-fields t u s d e in
-      λ i. waySaid (p 0 i) (p 1 i) (p 2 i) 4 5 6
+      q ∙ λ i. waySaid (p 0 i) (p 1 i) (p 2 i) 4 5 6
 
   pub vc-on-rest : (unit vpi : ℕ) → vcOn (from4 (fieldsOf t)) unit vpi ≡ vcOn (from2 (fieldsOf s)) unit vpi
   unfolding vcOn wayOf

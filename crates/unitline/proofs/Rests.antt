@@ -6,6 +6,7 @@ use Rattle.header.specs.declared.Link.{Link}
 use Rattle.outlet.specs.declared.Mode.{Mode}
 use Rattle.text.specs.Text.{at, fieldsOf, afterOf, from2, from4, from6, from7, from9}
 use Rattle.text.proofs.Split.{after-fields}
+use Rattle.unitline.specs.declared.Back.{Back}
 use Rattle.unitline.specs.Units.{settingsOn, limitsAfter, limitsIn, limitsOf}
 
 -- one field further, two, and four
@@ -24,8 +25,8 @@ module _ (t u s : List ℕ) (d : t ≡ afterOf u) (e : u ≡ afterOf s) where
   unfolding settingsOn
   settings-on-rest number link = λ i. settingsOn ([] ∷ [] ∷ [] ∷ second-fields 0 i ∷ second-fields 1 i ∷ []) number link
 
-  pub limits-after-rest : (mode : Mode) (cbrlength cbrlimit : ℕ) → limitsAfter (from9 (fieldsOf t)) mode cbrlength cbrlimit ≡ limitsAfter (from7 (fieldsOf s)) mode cbrlength cbrlimit
-  limits-after-rest mode cbrlength cbrlimit = λ i. limitsAfter (from9 (second-fields 0 i ∷ second-fields 1 i ∷ [])) mode cbrlength cbrlimit
+  pub limits-after-rest : {r : Back} (mode : Mode) (cbrlength cbrlimit : ℕ) → r ≡ limitsAfter (from9 (fieldsOf t)) mode cbrlength cbrlimit → r ≡ limitsAfter (from7 (fieldsOf s)) mode cbrlength cbrlimit
+  limits-after-rest mode cbrlength cbrlimit q = q ∙ λ i. limitsAfter (from9 (second-fields 0 i ∷ second-fields 1 i ∷ [])) mode cbrlength cbrlimit
 
 module _ (t u v w s : List ℕ) (a : t ≡ afterOf u) (b : u ≡ afterOf v) (c : v ≡ afterOf w) (d : w ≡ afterOf s) where
   pub fourth-fields : (k : ℕ) → at (fieldsOf t) k ≡ at (fieldsOf s) (suc (suc (suc (suc k))))

@@ -34,13 +34,13 @@ returns : tie.Need-returns
 unfolding vpLine
 returns c =
     let p1 = c .before .before .before .before .before .before .before in
-    simp (sym (p1 .before .before .key-of .ensures) ∙ p1 .unit .given .1, sym (c .before .before .before .way-of .ensures ∙ vp-way-rest _ _ _ (c .before .before .before .before .after2 .ensures) (c .before .before .before .before .before .after .ensures)) ∙ c .before .target .given .1)
+    simp (sym (p1 .before .before .key-of .ensures) ∙ p1 .unit .given .1, sym (vp-way-rest _ _ _ (c .before .before .before .before .after2 .ensures) (c .before .before .before .before .before .after .ensures) (c .before .before .before .way-of .ensures)) ∙ c .before .target .given .1)
 
 returns-2 : tie.Need-returns-2
 unfolding vpLine
 returns-2 c =
     let p1 = c .before .before .before .before .before .before .before in
-    simp (sym (p1 .before .before .key-of .ensures) ∙ p1 .unit .given .1, sym (c .before .before .before .way-of .ensures ∙ vp-way-rest _ _ _ (c .before .before .before .before .after2 .ensures) (c .before .before .before .before .before .after .ensures)) ∙ c .before .wrong .given .1)
+    simp (sym (p1 .before .before .key-of .ensures) ∙ p1 .unit .given .1, sym (vp-way-rest _ _ _ (c .before .before .before .before .after2 .ensures) (c .before .before .before .before .before .after .ensures) (c .before .before .before .way-of .ensures)) ∙ c .before .wrong .given .1)
 
 returns-3 : tie.Need-returns-3
 unfolding vpLine

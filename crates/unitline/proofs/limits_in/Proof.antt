@@ -64,7 +64,7 @@ returns-2 : tie.Need-returns-2
 unfolding limitsIn
 returns-2 c =
     let p = c .before in
-    c .limits-after .ensures ∙ limits-after-rest _ _ _ (p .after2 .ensures) (p .before .before .before .before .before .before .after .ensures) (p .before .before .before .before .before .before .before .before .before .before .before .before .before .before .args .mode) (p .before .before .before .before .before .before .before .before .length .given .0 .0) (p .before .before .limit .given .0 .0) ∙ simp (sym (rw (p .before .before .before .before .before .before .before .before .before .before .before .before .least .ensures, p .before .before .before .before .before .before .before .before .before .before .before .most-length .ensures) at (p .before .before .before .before .before .before .before .before .before .before .number-at .ensures)) ∙ p .before .before .before .before .before .before .before .before .length .given .1, sym (rw (p .before .before .before .before .before .before .before .before .before .before .before .before .least .ensures, p .before .before .before .before .before .most-limit .ensures) at (p .before .before .before .before .number-at2 .ensures) ∙ ap (ranged _ _ _) (after-fields _ _ (p .before .before .before .before .before .before .after .ensures) 0)) ∙ p .before .before .limit .given .1)
+    limits-after-rest _ _ _ (p .after2 .ensures) (p .before .before .before .before .before .before .after .ensures) (p .before .before .before .before .before .before .before .before .before .before .before .before .before .before .args .mode) (p .before .before .before .before .before .before .before .before .length .given .0 .0) (p .before .before .limit .given .0 .0) (c .limits-after .ensures) ∙ simp (sym (rw (p .before .before .before .before .before .before .before .before .before .before .before .before .least .ensures, p .before .before .before .before .before .before .before .before .before .before .before .most-length .ensures) at (p .before .before .before .before .before .before .before .before .before .before .number-at .ensures)) ∙ p .before .before .before .before .before .before .before .before .length .given .1, sym (rw (p .before .before .before .before .before .before .before .before .before .before .before .before .least .ensures, p .before .before .before .before .before .most-limit .ensures) at (p .before .before .before .before .number-at2 .ensures) ∙ ap (ranged _ _ _) (after-fields _ _ (p .before .before .before .before .before .before .after .ensures) 0)) ∙ p .before .before .limit .given .1)
 
 returns-3 : tie.Need-returns-3
 unfolding limitsIn
