@@ -1,2 +1,3 @@
+pub mod Rests
 pub mod Ranges
 pub mod Examples

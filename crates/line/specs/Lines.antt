@@ -25,7 +25,7 @@ use Rattle.unitline.specs.declared.Back.{Back}
 use Rattle.unitline.specs.declared.Back.the-variants.{Held, NoBack}
 use Rattle.ranged.specs.Words.{wBus, wUnit, wVp, wDrop, wPage, wVc, wMc}
 use Rattle.text.specs.Text.{fieldsOf, fieldOf, same}
-use Rattle.ranged.specs.Ranged.{num, aim, numberIn, aimIn}
+use Rattle.ranged.specs.Ranged.{ranged, aimOf, num, aim, numberIn}
 use Rattle.unitline.specs.Units.{settingsOf, limitsOf}
 
 -- Each kind of line; 02, W5: "leftmost fault first". "`bus` 16 or 32."
@@ -53,13 +53,17 @@ abbrev pub key : Key → (ℕ → ℕ → Reading) → Reading
 key (On unit vpi) good = good unit vpi
 key (NoKey wrong) good = Bad wrong
 
--- target, class and outgoing VPI, in the fields a, b and c
-unfoldable pub wayOf : List (List ℕ) → ℕ → ℕ → ℕ → Way
-wayOf fs a b c =
-    aim (aimIn fs a) NoWay λ target.
-    num (numberIn fs b 0 3) NoWay λ class.
-    num (numberIn fs c 0 4095) NoWay λ outvpi.
+-- target, class and outgoing VPI, as the texts x, y and z of the fields a, b and c say them
+abbrev pub waySaid : List ℕ → List ℕ → List ℕ → ℕ → ℕ → ℕ → Way
+waySaid x y z a b c =
+    aim (aimOf a x) NoWay λ target.
+    num (ranged b 0 3 y) NoWay λ class.
+    num (ranged c 0 4095 z) NoWay λ outvpi.
     To target class outvpi
+
+-- in the fields a, b and c
+unfoldable pub wayOf : List (List ℕ) → ℕ → ℕ → ℕ → Way
+wayOf fs a b c = waySaid (fieldOf a fs) (fieldOf b fs) (fieldOf c fs) a b c
 
 abbrev pub way : Way → (Target → ℕ → ℕ → Reading) → Reading
 way (To target class outvpi) good = good target class outvpi

@@ -8,8 +8,8 @@ use shelf::Settings;
 use unitline::Back;
 use unitline::Front;
 ghost use mathlib.Core.Path.{_≡_};
-ghost use Rattle.text.specs.Text.{fieldsOf};
-ghost use Rattle.line.specs.Lines.{busLine, unitLine, keyOf, wayOf, vpLine, dropLine, pageLine, vcOn, vcLine, mcLine, lineOf, countOf, wordAfter, wordOf, readingOf};
+ghost use Rattle.text.specs.Text.{fieldsOf, at, from2, from4};
+ghost use Rattle.line.specs.Lines.{busLine, unitLine, keyOf, waySaid, vpLine, dropLine, pageLine, vcOn, vcLine, mcLine, lineOf, countOf, wordAfter, wordOf, readingOf};
 
 pub enum Line {
     Bus(u8),
@@ -85,9 +85,10 @@ pub enum Word {
     Unknown,
 }
 
-// Each kind of line: its fields from the left, so that the first faulty one decides.
+// Each kind of line: its fields from the left, so that the first faulty one decides. Where nothing else is said, s is the line from
+// field 2 on.
 fn bus_line(s: &[u8]) -> Reading
-    ensures { λ r. ⌜ r ≡ busLine (fieldsOf (now (s .entry))) ⌝ }
+    ensures { λ r. ⌜ r ≡ busLine (from2 (fieldsOf (now (s .entry)))) ⌝ }
 {
     match ranged::number_at(s, 2, 16, 32) {
         Num::Is(units) => {
@@ -105,7 +106,7 @@ fn bus_line(s: &[u8]) -> Reading
 
 // The unit and the VPI.
 fn key_of(s: &[u8]) -> Key
-    ensures { λ r. ⌜ r ≡ keyOf (fieldsOf (now (s .entry))) ⌝ }
+    ensures { λ r. ⌜ r ≡ keyOf (from2 (fieldsOf (now (s .entry)))) ⌝ }
 {
     let unit = match ranged::number_at(s, 2, 0, 31) {
         Num::Is(unit) => unit as u8,
@@ -113,14 +114,14 @@ fn key_of(s: &[u8]) -> Key
             return Key::NoKey(wrong);
         }
     };
-    match ranged::number_at(s, 3, 0, 4095) {
+    match ranged::number_at(text::after(s), 3, 0, 4095) {
         Num::Is(vpi) => Key::On { unit, vpi },
         Num::NoNum(wrong) => Key::NoKey(wrong),
     }
 }
 
 fn unit_line(s: &[u8]) -> Reading
-    ensures { λ r. ⌜ r ≡ unitLine (fieldsOf (now (s .entry))) ⌝ }
+    ensures { λ r. ⌜ r ≡ unitLine (from2 (fieldsOf (now (s .entry)))) ⌝ }
 {
     let settings = match unitline::settings_of(s) {
         Front::Set(settings) => settings,
@@ -128,29 +129,30 @@ fn unit_line(s: &[u8]) -> Reading
             return Reading::Bad(wrong);
         }
     };
-    match unitline::limits_of(s) {
+    match unitline::limits_of(text::after(text::after(text::after(text::after(s))))) {
         Back::Held(limits) => Reading::Good(Line::Unit { settings, limits }),
         Back::NoBack(wrong) => Reading::Bad(wrong),
     }
 }
 
-// Target, class and outgoing VPI, which stand in the fields first, second and third.
+// Target, class and outgoing VPI, which stand in the fields first, second and third; s is the line from the first of them on.
 fn way_of(s: &[u8], first: u8, second: u8, third: u8) -> Way
-    ensures { λ r. ⌜ r ≡ wayOf (fieldsOf (now (s .entry))) first second third ⌝ }
+    ensures { λ r. ⌜ r ≡ waySaid (at (fieldsOf (now (s .entry))) 0) (at (fieldsOf (now (s .entry))) 1) (at (fieldsOf (now (s .entry))) 2) first second third ⌝ }
 {
-    let target = match ranged::aimed(text::field(s, first), first) {
+    let target = match ranged::aimed(text::field(s, 1), first) {
         Aim::At(target) => target,
         Aim::NoAim(wrong) => {
             return Way::NoWay(wrong);
         }
     };
-    let class = match ranged::number_at(s, second, 0, 3) {
+    let rest = text::after(s);
+    let class = match ranged::number_at(rest, second, 0, 3) {
         Num::Is(class) => class as u8,
         Num::NoNum(wrong) => {
             return Way::NoWay(wrong);
         }
     };
-    match ranged::number_at(s, third, 0, 4095) {
+    match ranged::number_at(text::after(rest), third, 0, 4095) {
         Num::Is(outvpi) => Way::To {
             target,
             class,
@@ -161,10 +163,10 @@ fn way_of(s: &[u8], first: u8, second: u8, third: u8) -> Way
 }
 
 fn vp_line(s: &[u8]) -> Reading
-    ensures { λ r. ⌜ r ≡ vpLine (fieldsOf (now (s .entry))) ⌝ }
+    ensures { λ r. ⌜ r ≡ vpLine (from2 (fieldsOf (now (s .entry)))) ⌝ }
 {
     match key_of(s) {
-        Key::On { unit, vpi } => match way_of(s, 4, 5, 6) {
+        Key::On { unit, vpi } => match way_of(text::after(text::after(s)), 4, 5, 6) {
             Way::To {
                 target,
                 class,
@@ -183,7 +185,7 @@ fn vp_line(s: &[u8]) -> Reading
 }
 
 fn drop_line(s: &[u8]) -> Reading
-    ensures { λ r. ⌜ r ≡ dropLine (fieldsOf (now (s .entry))) ⌝ }
+    ensures { λ r. ⌜ r ≡ dropLine (from2 (fieldsOf (now (s .entry)))) ⌝ }
 {
     match key_of(s) {
         Key::On { unit, vpi } => Reading::Good(Line::Drop { unit, vpi }),
@@ -192,10 +194,10 @@ fn drop_line(s: &[u8]) -> Reading
 }
 
 fn page_line(s: &[u8]) -> Reading
-    ensures { λ r. ⌜ r ≡ pageLine (fieldsOf (now (s .entry))) ⌝ }
+    ensures { λ r. ⌜ r ≡ pageLine (from2 (fieldsOf (now (s .entry)))) ⌝ }
 {
     match key_of(s) {
-        Key::On { unit, vpi } => match ranged::number_at(s, 4, 0, 65535) {
+        Key::On { unit, vpi } => match ranged::number_at(text::after(text::after(s)), 4, 0, 65535) {
             Num::Is(top) => Reading::Good(Line::Page { unit, vpi, top }),
             Num::NoNum(wrong) => Reading::Bad(wrong),
         },
@@ -203,9 +205,9 @@ fn page_line(s: &[u8]) -> Reading
     }
 }
 
-// A `vc` line whose unit and VPI are read.
+// A `vc` line whose unit and VPI are read; s is the line from field 4 on.
 fn vc_on(s: &[u8], unit: u8, vpi: u16) -> Reading
-    ensures { λ r. ⌜ r ≡ vcOn (fieldsOf (now (s .entry))) unit vpi ⌝ }
+    ensures { λ r. ⌜ r ≡ vcOn (from4 (fieldsOf (now (s .entry)))) unit vpi ⌝ }
 {
     let vci = match ranged::number_at(s, 4, 0, 65535) {
         Num::Is(vci) => vci,
@@ -213,12 +215,13 @@ fn vc_on(s: &[u8], unit: u8, vpi: u16) -> Reading
             return Reading::Bad(wrong);
         }
     };
-    match way_of(s, 5, 6, 7) {
+    let fifth = text::after(s);
+    match way_of(fifth, 5, 6, 7) {
         Way::To {
             target,
             class,
             outvpi,
-        } => match ranged::number_at(s, 8, 0, 65535) {
+        } => match ranged::number_at(text::after(text::after(text::after(fifth))), 8, 0, 65535) {
             Num::Is(outvci) => Reading::Good(Line::Vc {
                 unit,
                 vpi,
@@ -235,16 +238,16 @@ fn vc_on(s: &[u8], unit: u8, vpi: u16) -> Reading
 }
 
 fn vc_line(s: &[u8]) -> Reading
-    ensures { λ r. ⌜ r ≡ vcLine (fieldsOf (now (s .entry))) ⌝ }
+    ensures { λ r. ⌜ r ≡ vcLine (from2 (fieldsOf (now (s .entry)))) ⌝ }
 {
     match key_of(s) {
-        Key::On { unit, vpi } => vc_on(s, unit, vpi),
+        Key::On { unit, vpi } => vc_on(text::after(text::after(s)), unit, vpi),
         Key::NoKey(wrong) => Reading::Bad(wrong),
     }
 }
 
 fn mc_line(s: &[u8]) -> Reading
-    ensures { λ r. ⌜ r ≡ mcLine (fieldsOf (now (s .entry))) ⌝ }
+    ensures { λ r. ⌜ r ≡ mcLine (from2 (fieldsOf (now (s .entry)))) ⌝ }
 {
     let unit = match ranged::number_at(s, 2, 0, 31) {
         Num::Is(unit) => unit as u8,
@@ -252,7 +255,7 @@ fn mc_line(s: &[u8]) -> Reading
             return Reading::Bad(wrong);
         }
     };
-    match ranged::number_at(s, 3, 0, 255) {
+    match ranged::number_at(text::after(s), 3, 0, 255) {
         Num::Is(n) => {
             let session = n as u8;
             Reading::Good(Line::Mc { unit, session })
@@ -311,9 +314,9 @@ fn fields_in(kind: Kind) -> usize
     }
 }
 
-// The line of this kind that has the fields of s.
+// The line of this kind; s is what stands after its word.
 fn line_of(kind: Kind, s: &[u8]) -> Reading
-    ensures { λ r. ⌜ r ≡ lineOf kind (fieldsOf (now (s .entry))) ⌝ }
+    ensures { λ r. ⌜ r ≡ lineOf kind (from2 (fieldsOf (now (s .entry)))) ⌝ }
 {
     match kind {
         Kind::Bus => bus_line(s),
@@ -338,7 +341,7 @@ pub fn read(text: &[u8], ended: bool) -> Reading
             if text::count(text) != fields_in(kind) {
                 return Reading::Bad(Wrong::Fields);
             }
-            line_of(kind, text)
+            line_of(kind, text::after(text))
         }
         Word::Unknown => Reading::Bad(Wrong::Word),
     }

@@ -39,9 +39,6 @@ abbrev pub aim : {R : Type 0} → Aim → (Wrong → R) → (Target → R) → R
 aim (At target) bad good = good target
 aim (NoAim wrong) bad good = bad wrong
 
--- the number in field f, from lo to hi; and the target in field f
+-- the number in field f, from lo to hi
 abbrev pub numberIn : List (List ℕ) → ℕ → ℕ → ℕ → Num
 numberIn fs f lo hi = ranged f lo hi (fieldOf f fs)
-
-abbrev pub aimIn : List (List ℕ) → ℕ → Aim
-aimIn fs f = aimOf f (fieldOf f fs)

@@ -1,8 +1,8 @@
 // A number in its range, or a target, in a field of a table's line; or what is wrong with it and in which field.
 use routing::Target;
 ghost use mathlib.Core.Path.{_≡_};
-ghost use Rattle.text.specs.Text.{fieldsOf};
-ghost use Rattle.ranged.specs.Ranged.{ranged as rangedOf, num as numGives, aimOf, numberIn};
+ghost use Rattle.text.specs.Text.{fieldsOf, at};
+ghost use Rattle.ranged.specs.Ranged.{ranged as rangedOf, num as numGives, aimOf};
 
 // What is wrong with a line, and in which field, counted from the word as 1.
 pub enum Wrong {
@@ -48,11 +48,11 @@ pub fn number(s: &[u8], f: u8, lo: u16, hi: u16) -> Num
     Num::Is(v as u16)
 }
 
-// The number in field f.
+// The number in the first field of s, which is field f of its line.
 pub fn number_at(s: &[u8], f: u8, lo: u16, hi: u16) -> Num
-    ensures { λ r. ⌜ r ≡ numberIn (fieldsOf (now (s .entry))) f lo hi ⌝ }
+    ensures { λ r. ⌜ r ≡ rangedOf f lo hi (at (fieldsOf (now (s .entry))) 0) ⌝ }
 {
-    number(text::field(s, f), f, lo, hi)
+    number(text::field(s, 1), f, lo, hi)
 }
 
 // The unit that stands after `u` in field f.

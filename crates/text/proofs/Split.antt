@@ -6,11 +6,11 @@ use Prim.Native.Nat.{ℕ, zero, suc, _+_, _-_, _≤_, _<_}
 use native.Mathlib.Nat.{le-of-suc-le-suc}
 use native.Mathlib.Numerals.{add-one, sub-one}
 use native.Mathlib.Omega.{arith}
-use lib.Dec.{eqb}
+use lib.Dec.{eqb, leb}
 use lib.ListN.{length, getD, take, drop, drop-of-length-le, length-drop}
-use lib.Seq.{drop-cons, drop-drop}
-use borrow.Author.Tests.{eq-eqb, ne-eqb}
-use Rattle.text.specs.Text.{split, push, at}
+use lib.Seq.{drop-cons, drop-drop, take-all}
+use borrow.Author.Tests.{eq-eqb, ne-eqb, leb-true, leb-false}
+use Rattle.text.specs.Text.{split, push, at, afterOf}
 
 -- one byte
 module _ (tab : ℕ) (s : List ℕ) (i : ℕ) (h : i < length s) where
@@ -136,3 +136,34 @@ module _ (tab : ℕ) (s : List ℕ) (from e : ℕ) (q : e ≡ from + length (at 
   pub field-none : (k : ℕ) → 0 < k → length s ≤ e → at (split tab (drop from s)) k ≡ []
   field-none zero g h = absurd (omega arith)
   field-none (suc k) g h = sym (at-tail (split tab (drop from s)) k) ∙ rw (last-tail h)
+
+-- what stands after the first field, as the code lends it, where the field ends in a tab and where it ends the text
+module _ (s : List ℕ) (e : ℕ) (q : e ≡ 0 + length (at (split 9 (drop 0 s)) 0)) where
+  pub after-tab : take (length s - (e + 1)) (drop (e + 1) s) ≡ afterOf s
+  unfolding afterOf
+  after-tab = take-all (length s - (e + 1)) (drop (e + 1) s) (rw length-drop (omega arith)) ∙ ap (λ n. drop n s) sums
+    where
+      sums : e + 1 ≡ suc (length (at (split 9 s) 0))
+      sums = omega arith
+
+  pub after-end : length s ≤ e → [] ≡ afterOf s
+  unfolding afterOf
+  after-end h = sym (drop-of-length-le s {i = suc (length (at (split 9 s) 0))} (omega arith))
+
+-- its fields are those of the whole from the second on
+after-tail : (s : List ℕ) (k : ℕ) → at (split 9 (afterOf s)) k ≡ at (tail (split 9 s)) k
+unfolding afterOf
+after-tail s k = by (leb (length s) (length (at (split 9 s) 0))) refl
+  where
+    none : (k : ℕ) → at ([] ∷ []) k ≡ []
+    none zero = refl
+    none (suc k) = refl
+
+    by : (t : Bool) → leb (length s) (length (at (split 9 s) 0)) ≡ t → at (split 9 (drop (suc (length (at (split 9 s) 0))) s)) k ≡ at (tail (split 9 s)) k
+    by true t =
+        let h = leb-true _ _ t in
+        ap (λ fs. at fs k) (split-end 9 s (suc (length (at (split 9 s) 0))) (omega arith)) ∙ none k ∙ ap (λ fs. at fs k) (sym (no-fields 9 s h))
+    by false t = ap (λ fs. at fs k) (sym (next-fields 9 s (leb-false _ _ t)))
+
+pub after-fields : (t s : List ℕ) → t ≡ afterOf s → (k : ℕ) → at (split 9 t) k ≡ at (split 9 s) (suc k)
+after-fields t s e k = ap (λ t. at (split 9 t) k) e ∙ after-tail s k ∙ at-tail (split 9 s) k

@@ -1,8 +1,8 @@
 -- A line's text: fields parted by one byte, and words. Assumes nothing.
-use Prim.Native.Nat.{ℕ, _-_}
+use Prim.Native.Nat.{ℕ, suc, _-_}
 use mathlib.Core.Bool.{Bool, true, false, _&&_, cond}
 use mathlib.Core.List.{List, [], _∷_, tail}
-use lib.ListN.{getD}
+use lib.ListN.{length, getD, drop}
 use lib.Dec.{eqb}
 
 -- the field at place k, and the empty text where there is none
@@ -25,6 +25,26 @@ fieldsOf text = split 9 text
 -- field f; 02, W5: "counted from the word as 1"
 abbrev pub fieldOf : ℕ → List (List ℕ) → List ℕ
 fieldOf f fs = at fs (f - 1)
+
+-- what stands after the first field and its tab: `proofs.Split.after-fields` says that the fields of that are those from the second on
+unfoldable pub afterOf : List ℕ → List ℕ
+afterOf text = drop (suc (length (at (fieldsOf text) 0))) text
+
+-- a line's fields, given those from field 2, 4, 6, 7 or 9 on: those in front of them are empty, and nobody looks at them
+abbrev pub from2 : List (List ℕ) → List (List ℕ)
+from2 fs = [] ∷ fs
+
+abbrev pub from4 : List (List ℕ) → List (List ℕ)
+from4 fs = [] ∷ [] ∷ from2 fs
+
+abbrev pub from6 : List (List ℕ) → List (List ℕ)
+from6 fs = [] ∷ [] ∷ from4 fs
+
+abbrev pub from7 : List (List ℕ) → List (List ℕ)
+from7 fs = [] ∷ from6 fs
+
+abbrev pub from9 : List (List ℕ) → List (List ℕ)
+from9 fs = [] ∷ [] ∷ from7 fs
 
 -- whether two texts are the same
 unfoldable pub same : List ℕ → List ℕ → Bool

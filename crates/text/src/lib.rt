@@ -2,7 +2,7 @@
 ghost use mathlib.Core.Path.{_≡_};
 ghost use Prim.Native.Nat.{_+_, _≤_};
 ghost use lib.ListN.{length, drop};
-ghost use Rattle.text.specs.Text.{at, split, fieldsOf, fieldOf, same};
+ghost use Rattle.text.specs.Text.{at, split, fieldsOf, fieldOf, afterOf, same};
 ghost use Rattle.text.specs.Digits.{digits as digitsOf, decimalOf};
 
 const TAB: u8 = b'\t';
@@ -38,6 +38,17 @@ pub fn field(s: &[u8], f: u8) -> &[u8]
     }
     let e = field_end(s, from, TAB);
     &s[from..e]
+}
+
+// What stands after the first field, and the empty text where nothing does.
+pub fn after(s: &[u8]) -> &[u8]
+    ensures { λ r. ⌜ now r ≡ afterOf (now (s .entry)) ⌝ }
+{
+    let e = field_end(s, 0, TAB);
+    if e < s.len() {
+        return &s[e + 1..];
+    }
+    &s[e..e]
 }
 
 // How many fields s has.

@@ -7,7 +7,7 @@ use ranged::Num;
 use ranged::Wrong;
 use shelf::Settings;
 ghost use mathlib.Core.Path.{_≡_};
-ghost use Rattle.text.specs.Text.{fieldsOf};
+ghost use Rattle.text.specs.Text.{fieldsOf, from2, from4, from6, from7, from9};
 ghost use Rattle.unitline.specs.Units.{settingsOn, settingsOf, least as leastOf, mostLength, mostLimit, mostVbr, limitsAfter, limitsIn, limitsOf};
 
 // The front of a `unit` line: its settings.
@@ -22,9 +22,9 @@ pub enum Back {
     NoBack(Wrong),
 }
 
-// The settings of a `unit` line whose number and link are read.
+// The settings of a `unit` line whose number and link are read; s is the line from field 4 on.
 fn settings_on(s: &[u8], number: u8, link: Link) -> Front
-    ensures { λ r. ⌜ r ≡ settingsOn (fieldsOf (now (s .entry))) number link ⌝ }
+    ensures { λ r. ⌜ r ≡ settingsOn (from4 (fieldsOf (now (s .entry)))) number link ⌝ }
 {
     let top = match ranged::number_at(s, 4, 0, header::highest(link)) {
         Num::Is(top) => top,
@@ -32,7 +32,7 @@ fn settings_on(s: &[u8], number: u8, link: Link) -> Front
             return Front::NoFront(wrong);
         }
     };
-    match ranged::number_at(s, 5, 1, 3) {
+    match ranged::number_at(text::after(s), 5, 1, 3) {
         Num::Is(n) => {
             let priority = n as u8;
             Front::Set(Settings {
@@ -46,9 +46,9 @@ fn settings_on(s: &[u8], number: u8, link: Link) -> Front
     }
 }
 
-// The settings of a `unit` line.
+// The settings of a `unit` line; s is the line from field 2 on.
 pub fn settings_of(s: &[u8]) -> Front
-    ensures { λ r. ⌜ r ≡ settingsOf (fieldsOf (now (s .entry))) ⌝ }
+    ensures { λ r. ⌜ r ≡ settingsOf (from2 (fieldsOf (now (s .entry)))) ⌝ }
 {
     let number = match ranged::number_at(s, 2, 0, 31) {
         Num::Is(number) => number as u8,
@@ -56,12 +56,14 @@ pub fn settings_of(s: &[u8]) -> Front
             return Front::NoFront(wrong);
         }
     };
-    let link = text::field(s, 3);
+    let third = text::after(s);
+    let link = text::field(third, 1);
+    let fourth = text::after(third);
     if text::is(link, b"uni") {
-        return settings_on(s, number, Link::Uni);
+        return settings_on(fourth, number, Link::Uni);
     }
     if text::is(link, b"nni") {
-        return settings_on(s, number, Link::Nni);
+        return settings_on(fourth, number, Link::Nni);
     }
     Front::NoFront(Wrong::Range(3))
 }
@@ -109,9 +111,9 @@ fn most_vbr(mode: Mode, cbrlength: u16) -> u16
     }
 }
 
-// The limits of a `unit` line whose mode and CBR limits are read.
+// The limits of a `unit` line whose mode and CBR limits are read; s is the line from field 9 on.
 fn limits_after(s: &[u8], mode: Mode, cbrlength: u8, cbrlimit: u8) -> Back
-    ensures { λ r. ⌜ r ≡ limitsAfter (fieldsOf (now (s .entry))) mode cbrlength cbrlimit ⌝ }
+    ensures { λ r. ⌜ r ≡ limitsAfter (from9 (fieldsOf (now (s .entry)))) mode cbrlength cbrlimit ⌝ }
 {
     let vbr = match ranged::number_at(s, 9, 1, most_vbr(mode, cbrlength as u16)) {
         Num::Is(vbr) => vbr,
@@ -119,7 +121,7 @@ fn limits_after(s: &[u8], mode: Mode, cbrlength: u8, cbrlimit: u8) -> Back
             return Back::NoBack(wrong);
         }
     };
-    match ranged::number_at(s, 10, 0, 1) {
+    match ranged::number_at(text::after(s), 10, 0, 1) {
         Num::Is(mark) => Back::Held(Limits {
             mode,
             cbrlength,
@@ -131,9 +133,9 @@ fn limits_after(s: &[u8], mode: Mode, cbrlength: u8, cbrlimit: u8) -> Back
     }
 }
 
-// The limits of a `unit` line whose mode is read.
+// The limits of a `unit` line whose mode is read; s is the line from field 7 on.
 fn limits_in(s: &[u8], mode: Mode) -> Back
-    ensures { λ r. ⌜ r ≡ limitsIn (fieldsOf (now (s .entry))) mode ⌝ }
+    ensures { λ r. ⌜ r ≡ limitsIn (from7 (fieldsOf (now (s .entry)))) mode ⌝ }
 {
     let low = least(mode);
     let length = match ranged::number_at(s, 7, low, most_length(mode)) {
@@ -142,22 +144,24 @@ fn limits_in(s: &[u8], mode: Mode) -> Back
             return Back::NoBack(wrong);
         }
     };
-    match ranged::number_at(s, 8, low, most_limit(mode, length)) {
-        Num::Is(limit) => limits_after(s, mode, length as u8, limit as u8),
+    let eighth = text::after(s);
+    match ranged::number_at(eighth, 8, low, most_limit(mode, length)) {
+        Num::Is(limit) => limits_after(text::after(eighth), mode, length as u8, limit as u8),
         Num::NoNum(wrong) => Back::NoBack(wrong),
     }
 }
 
-// The limits of a `unit` line.
+// The limits of a `unit` line; s is the line from field 6 on.
 pub fn limits_of(s: &[u8]) -> Back
-    ensures { λ r. ⌜ r ≡ limitsOf (fieldsOf (now (s .entry))) ⌝ }
+    ensures { λ r. ⌜ r ≡ limitsOf (from6 (fieldsOf (now (s .entry)))) ⌝ }
 {
-    let mode = text::field(s, 6);
+    let mode = text::field(s, 1);
+    let seventh = text::after(s);
     if text::is(mode, b"one") {
-        return limits_in(s, Mode::One);
+        return limits_in(seventh, Mode::One);
     }
     if text::is(mode, b"four") {
-        return limits_in(s, Mode::Four);
+        return limits_in(seventh, Mode::Four);
     }
     Back::NoBack(Wrong::Range(6))
 }

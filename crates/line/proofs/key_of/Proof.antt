@@ -1,7 +1,9 @@
 -- `line::key_of` meets its contract. Assumes nothing.
-use mathlib.Core.Path.{sym, _∙_}
+use mathlib.Core.Path.{sym, ap, _∙_}
 use Rattle.ranged.proofs.Numbers.{ranged-in}
 use Rattle.line.specs.Lines.{keyOf}
+use Rattle.text.proofs.Split.{after-fields}
+use Rattle.ranged.specs.Ranged.{ranged}
 use native.Mathlib.Omega.{arith}
 use borrow.Author.Needs.{needs}
 use Rattle.line.proofs.key_of.Statement.{statement}
@@ -23,6 +25,9 @@ returns : tie.Need-returns
 unfolding keyOf
 returns c = simp (sym (c .before .before .before .number-at .ensures) ∙ c .before .wrong .given .1)
 
+after-requires : tie.Need-after-requires
+after-requires c κs = search needs
+
 number-at-requires-2 : tie.Need-number-at-requires-2
 number-at-requires-2 c κs = search needs
 
@@ -35,14 +40,14 @@ enum-known-wrong-2 c = search needs
 returns-2 : tie.Need-returns-2
 unfolding keyOf
 returns-2 c =
-    let p1 = c .before .before .before .before .before in
-    simp (sym (p1 .before .before .number-at .ensures) ∙ p1 .unit .given .1, sym (c .before .before .before .number-at2 .ensures) ∙ c .before .vpi .given .1)
+    let p1 = c .before .before .before .before .before .before in
+    simp (sym (p1 .before .before .number-at .ensures) ∙ p1 .unit .given .1, sym (c .before .before .before .number-at2 .ensures ∙ ap (ranged _ _ _) (after-fields _ _ (c .before .before .before .before .after .ensures) 0)) ∙ c .before .vpi .given .1)
 
 returns-3 : tie.Need-returns-3
 unfolding keyOf
 returns-3 c =
-    let p1 = c .before .before .before .before .before in
-    simp (sym (p1 .before .before .number-at .ensures) ∙ p1 .unit .given .1, sym (c .before .before .before .number-at2 .ensures) ∙ c .before .wrong2 .given .1)
+    let p1 = c .before .before .before .before .before .before in
+    simp (sym (p1 .before .before .number-at .ensures) ∙ p1 .unit .given .1, sym (c .before .before .before .number-at2 .ensures ∙ ap (ranged _ _ _) (after-fields _ _ (c .before .before .before .before .after .ensures) 0)) ∙ c .before .wrong2 .given .1)
 
 pub key-of-spec : {M : Type 1} → statement M
 key-of-spec =
@@ -53,6 +58,7 @@ key-of-spec =
     cast-unit
     enum-known-wrong
     returns
+    after-requires
     number-at-requires-2
     enum-known-vpi
     enum-known-wrong-2

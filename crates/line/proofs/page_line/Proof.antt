@@ -1,6 +1,8 @@
 -- `line::page_line` meets its contract. Assumes nothing.
-use mathlib.Core.Path.{sym, _∙_}
+use mathlib.Core.Path.{sym, ap, _∙_}
 use Rattle.line.specs.Lines.{pageLine}
+use Rattle.ranged.specs.Ranged.{ranged}
+use Rattle.unitline.proofs.Rests.{second-fields}
 use borrow.Author.Needs.{needs}
 use Rattle.line.proofs.page_line.Statement.{statement}
 use Rattle.line.proofs.page_line.Tie as tie
@@ -10,6 +12,12 @@ key-of-requires c κs = search needs
 
 enum-known-unit : tie.Need-enum-known-unit
 enum-known-unit c = search needs
+
+after-requires : tie.Need-after-requires
+after-requires c κs = search needs
+
+after-requires-2 : tie.Need-after-requires-2
+after-requires-2 c κs = search needs
 
 number-at-requires : tie.Need-number-at-requires
 number-at-requires c κs = search needs
@@ -26,14 +34,14 @@ enum-known-wrong-2 c = search needs
 returns : tie.Need-returns
 unfolding pageLine
 returns c =
-    let p1 = c .before .before .before .before .before in
-    simp (sym (p1 .before .before .key-of .ensures) ∙ p1 .unit .given .1, sym (c .before .before .before .number-at .ensures) ∙ c .before .top .given .1)
+    let p1 = c .before .before .before .before .before .before .before in
+    simp (sym (p1 .before .before .key-of .ensures) ∙ p1 .unit .given .1, sym (c .before .before .before .number-at .ensures ∙ ap (ranged _ _ _) (second-fields _ _ _ (c .before .before .before .before .after2 .ensures) (c .before .before .before .before .before .after .ensures) 0)) ∙ c .before .top .given .1)
 
 returns-2 : tie.Need-returns-2
 unfolding pageLine
 returns-2 c =
-    let p1 = c .before .before .before .before .before in
-    simp (sym (p1 .before .before .key-of .ensures) ∙ p1 .unit .given .1, sym (c .before .before .before .number-at .ensures) ∙ c .before .wrong .given .1)
+    let p1 = c .before .before .before .before .before .before .before in
+    simp (sym (p1 .before .before .key-of .ensures) ∙ p1 .unit .given .1, sym (c .before .before .before .number-at .ensures ∙ ap (ranged _ _ _) (second-fields _ _ _ (c .before .before .before .before .after2 .ensures) (c .before .before .before .before .before .after .ensures) 0)) ∙ c .before .wrong .given .1)
 
 returns-3 : tie.Need-returns-3
 unfolding pageLine
@@ -45,6 +53,8 @@ page-line-spec =
     (tie.spec
     key-of-requires
     enum-known-unit
+    after-requires
+    after-requires-2
     number-at-requires
     enum-known-top
     enum-known-wrong

@@ -2,6 +2,7 @@
 use mathlib.Core.Path.{sym, ap, _∙_}
 use borrow.Author.Tests.{not-true, not-false, eq-eqb, ne-eqb}
 use Rattle.line.specs.Lines.{wordOf, readingOf, spoken}
+use Rattle.line.proofs.Rests.{line-rest}
 use borrow.Author.Needs.{needs}
 use Rattle.line.proofs.read.Statement.{statement}
 use Rattle.line.proofs.read.Tie as tie
@@ -32,6 +33,9 @@ returns-2 c =
     let p2 = p1 .before .before .before .before .before .before in
     simp (not-false (p2 .args .ended) (p1 .before .before .before .before .if1 .left), sym (p1 .before .before .word-of .ensures ∙ ap wordOf (p1 .before .before .before .field .ensures)) ∙ p1 .kind .given .1, ne-eqb _ _ (λ e. c .if2 .taken (c .before .before .count .ensures ∙ e ∙ sym (c .before .fields-in .ensures))))
 
+after-requires : tie.Need-after-requires
+after-requires c κs = search needs
+
 line-of-requires : tie.Need-line-of-requires
 line-of-requires c κs = search needs
 
@@ -41,9 +45,9 @@ enum-told c = search needs
 returns-3 : tie.Need-returns-3
 unfolding readingOf spoken
 returns-3 c =
-    let p1 = c .before .before .before .before .before in
+    let p1 = c .before .before .before .before .before .before in
     let p2 = p1 .before .before .before .before .before .before in
-    c .line-of .ensures ∙ simp (not-false (p2 .args .ended) (p1 .before .before .before .before .if1 .left), sym (p1 .before .before .word-of .ensures ∙ ap wordOf (p1 .before .before .before .field .ensures)) ∙ p1 .kind .given .1, eq-eqb _ _ (sym (c .before .before .before .count .ensures) ∙ c .before .if2 .left ∙ c .before .before .fields-in .ensures))
+    c .line-of .ensures ∙ line-rest _ _ _ (c .before .after .ensures) ∙ simp (not-false (p2 .args .ended) (p1 .before .before .before .before .if1 .left), sym (p1 .before .before .word-of .ensures ∙ ap wordOf (p1 .before .before .before .field .ensures)) ∙ p1 .kind .given .1, eq-eqb _ _ (sym (c .before .before .before .before .count .ensures) ∙ c .before .before .if2 .left ∙ c .before .before .before .fields-in .ensures))
 
 returns-4 : tie.Need-returns-4
 unfolding readingOf spoken
@@ -62,6 +66,7 @@ read-spec =
     count-requires
     fields-in-requires
     returns-2
+    after-requires
     line-of-requires
     enum-told
     returns-3

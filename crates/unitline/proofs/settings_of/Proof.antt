@@ -4,6 +4,8 @@ use Rattle.text.specs.Text.{same}
 use Rattle.ranged.specs.Words.{wUni, wNni}
 use Rattle.ranged.proofs.Numbers.{ranged-in}
 use Rattle.unitline.specs.Units.{settingsOf}
+use Rattle.text.proofs.Split.{after-fields}
+use Rattle.unitline.proofs.Rests.{settings-on-rest}
 use native.Mathlib.Omega.{arith}
 use borrow.Author.Needs.{needs}
 use Rattle.unitline.proofs.settings_of.Statement.{statement}
@@ -25,8 +27,14 @@ returns : tie.Need-returns
 unfolding settingsOf
 returns c = simp (sym (c .before .before .before .number-at .ensures) ∙ c .before .wrong .given .1)
 
+after-requires : tie.Need-after-requires
+after-requires c κs = search needs
+
 field-requires : tie.Need-field-requires
 field-requires c κs = search needs
+
+after-requires-2 : tie.Need-after-requires-2
+after-requires-2 c κs = search needs
 
 slice-aggregate-is : tie.Need-slice-aggregate-is
 slice-aggregate-is c = search needs
@@ -39,9 +47,7 @@ settings-on-requires c κs = search needs
 
 returns-2 : tie.Need-returns-2
 unfolding settingsOf
-returns-2 c =
-    let p1 = c .before .before .before .before in
-    c .settings-on .ensures ∙ simp (sym (p1 .before .before .before .before .number-at .ensures) ∙ p1 .before .before .number .given .1, ap (λ x. same x wUni) (sym (p1 .field .ensures)) ∙ sym (c .before .before .is .ensures) ∙ c .before .if1 .taken)
+returns-2 c = c .settings-on .ensures ∙ settings-on-rest _ _ _ (c .before .before .before .before .after2 .ensures) (c .before .before .before .before .before .before .after .ensures) _ _ ∙ simp (sym (c .before .before .before .before .before .before .before .before .before .before .number-at .ensures) ∙ c .before .before .before .before .before .before .before .before .number .given .1, ap (λ x. same x wUni) (sym (c .before .before .before .before .before .field .ensures ∙ after-fields _ _ (c .before .before .before .before .before .before .after .ensures) 0)) ∙ sym (c .before .before .is .ensures) ∙ c .before .if1 .taken)
 
 slice-aggregate-is-2 : tie.Need-slice-aggregate-is-2
 slice-aggregate-is-2 c = search needs
@@ -54,17 +60,11 @@ settings-on-requires-2 c κs = search needs
 
 returns-3 : tie.Need-returns-3
 unfolding settingsOf
-returns-3 c =
-    let p1 = c .before .before .before .before in
-    let p2 = p1 .before .before .before .before .before in
-    c .settings-on2 .ensures ∙ simp (sym (p2 .before .before .number-at .ensures) ∙ p2 .number .given .1, ap (λ x. same x wUni) (sym (p1 .before .before .before .field .ensures)) ∙ sym (p1 .before .is .ensures) ∙ p1 .if1 .left, ap (λ x. same x wNni) (sym (p1 .before .before .before .field .ensures)) ∙ sym (c .before .before .is2 .ensures) ∙ c .before .if2 .taken)
+returns-3 c = c .settings-on2 .ensures ∙ settings-on-rest _ _ _ (c .before .before .before .before .before .before .before .after2 .ensures) (c .before .before .before .before .before .before .before .before .before .after .ensures) _ _ ∙ simp (sym (c .before .before .before .before .before .before .before .before .before .before .before .before .before .number-at .ensures) ∙ c .before .before .before .before .before .before .before .before .before .before .before .number .given .1, ap (λ x. same x wUni) (sym (c .before .before .before .before .before .before .before .before .field .ensures ∙ after-fields _ _ (c .before .before .before .before .before .before .before .before .before .after .ensures) 0)) ∙ sym (c .before .before .before .before .before .is .ensures) ∙ c .before .before .before .before .if1 .left, ap (λ x. same x wNni) (sym (c .before .before .before .before .before .before .before .before .field .ensures ∙ after-fields _ _ (c .before .before .before .before .before .before .before .before .before .after .ensures) 0)) ∙ sym (c .before .before .is2 .ensures) ∙ c .before .if2 .taken)
 
 returns-4 : tie.Need-returns-4
 unfolding settingsOf
-returns-4 c =
-    let p1 = c .before .before .before .before in
-    let p2 = p1 .before .before .before .before .before .before in
-    simp (sym (p2 .number-at .ensures) ∙ p1 .before .before .before .before .number .given .1, ap (λ x. same x wUni) (sym (p1 .before .before .field .ensures)) ∙ sym (p1 .is .ensures) ∙ c .before .before .before .if1 .left, ap (λ x. same x wNni) (sym (p1 .before .before .field .ensures)) ∙ sym (c .before .is2 .ensures) ∙ c .if2 .left)
+returns-4 c = simp (sym (c .before .before .before .before .before .before .before .before .before .before .before .before .number-at .ensures) ∙ c .before .before .before .before .before .before .before .before .before .before .number .given .1, ap (λ x. same x wUni) (sym (c .before .before .before .before .before .before .before .field .ensures ∙ after-fields _ _ (c .before .before .before .before .before .before .before .before .after .ensures) 0)) ∙ sym (c .before .before .before .before .is .ensures) ∙ c .before .before .before .if1 .left, ap (λ x. same x wNni) (sym (c .before .before .before .before .before .before .before .field .ensures ∙ after-fields _ _ (c .before .before .before .before .before .before .before .before .after .ensures) 0)) ∙ sym (c .before .is2 .ensures) ∙ c .if2 .left)
 
 pub settings-of-spec : {M : Type 1} → statement M
 settings-of-spec =
@@ -75,7 +75,9 @@ settings-of-spec =
     cast-number
     enum-known-wrong
     returns
+    after-requires
     field-requires
+    after-requires-2
     slice-aggregate-is
     is-requires
     settings-on-requires

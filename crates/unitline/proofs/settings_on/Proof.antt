@@ -1,7 +1,9 @@
 -- `unitline::settings_on` meets its contract. Assumes nothing.
-use mathlib.Core.Path.{sym, _∙_}
+use mathlib.Core.Path.{sym, ap, _∙_}
 use Rattle.ranged.proofs.Numbers.{ranged-in}
 use Rattle.unitline.specs.Units.{settingsOn}
+use Rattle.text.proofs.Split.{after-fields}
+use Rattle.ranged.specs.Ranged.{ranged}
 use native.Mathlib.Omega.{arith}
 use borrow.Author.Needs.{needs}
 use Rattle.unitline.proofs.settings_on.Statement.{statement}
@@ -25,6 +27,9 @@ returns c =
     let p1 = c .before .before .before .before in
     simp (sym (rw (p1 .highest .ensures) at (c .before .before .before .number-at .ensures)) ∙ c .before .wrong .given .1)
 
+after-requires : tie.Need-after-requires
+after-requires c κs = search needs
+
 number-at-requires-2 : tie.Need-number-at-requires-2
 number-at-requires-2 c κs = search needs
 
@@ -40,14 +45,14 @@ enum-known-wrong-2 c = search needs
 returns-2 : tie.Need-returns-2
 unfolding settingsOn
 returns-2 c =
-    let p1 = c .before .before .before .before .before in
-    simp (sym (rw (p1 .before .before .before .highest .ensures) at (p1 .before .before .number-at .ensures)) ∙ p1 .top .given .1, sym (c .before .before .before .number-at2 .ensures) ∙ c .before .n .given .1)
+    let p1 = c .before .before .before .before .before .before in
+    simp (sym (rw (p1 .before .before .before .highest .ensures) at (p1 .before .before .number-at .ensures)) ∙ p1 .top .given .1, sym (c .before .before .before .number-at2 .ensures ∙ ap (ranged _ _ _) (after-fields _ _ (c .before .before .before .before .after .ensures) 0)) ∙ c .before .n .given .1)
 
 returns-3 : tie.Need-returns-3
 unfolding settingsOn
 returns-3 c =
-    let p1 = c .before .before .before .before .before in
-    simp (sym (rw (p1 .before .before .before .highest .ensures) at (p1 .before .before .number-at .ensures)) ∙ p1 .top .given .1, sym (c .before .before .before .number-at2 .ensures) ∙ c .before .wrong2 .given .1)
+    let p1 = c .before .before .before .before .before .before in
+    simp (sym (rw (p1 .before .before .before .highest .ensures) at (p1 .before .before .number-at .ensures)) ∙ p1 .top .given .1, sym (c .before .before .before .number-at2 .ensures ∙ ap (ranged _ _ _) (after-fields _ _ (c .before .before .before .before .after .ensures) 0)) ∙ c .before .wrong2 .given .1)
 
 pub settings-on-spec : {M : Type 1} → statement M
 settings-on-spec =
@@ -58,6 +63,7 @@ settings-on-spec =
     enum-known-top
     enum-known-wrong
     returns
+    after-requires
     number-at-requires-2
     enum-known-n
     cast-priority
