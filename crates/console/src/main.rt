@@ -106,18 +106,15 @@ fn bytes_from(command: Command, end: usize) -> usize {
 }
 
 // The bytes that a field of hex says, to the front of text; how many there are.
-fn unhexed(line: &[u8], from: usize, text: &mut [u8]) -> usize
-    ensures { λ r. ⌜ Counts r (now (text .exit)) ⌝ }
-{
-    let f = least(from, line.len());
-    let hex = &line[f..];
-    if hex.len() / 2 <= text.len() {
+fn unhexed(line: &[u8], from: usize, text: &mut [u8; 75000]) -> usize {
+    let hex = part_of(line, from, line.len());
+    if hex.len() / 2 <= 75000 {
         if hex::is_hex(hex) {
             hex::unhex(hex, text, 0);
-            return within(hex.len() / 2, text);
+            return hex.len() / 2;
         }
     }
-    within(0, text)
+    0
 }
 
 // What a command leaves that is lent no buffer.
@@ -412,14 +409,22 @@ fn say_buffer(buffer: [u8; 1000], command: Command, out: &mut [u8; 200000], at: 
     }
 }
 
+// What is said of a command that was done and answers nothing else.
+fn ok_text(reply: Reply) -> [u8; 7] {
+    match reply {
+        Reply::Set => *b"card\tok",
+        Reply::Lent => *b"lend\tok",
+        _ => *b"poke\tok",
+    }
+}
+
 fn say_reply(reply: Reply, out: &mut [u8; 200000], at: usize) -> usize
     requires { ⌜ at ≤ 180000 ⌝ }
 {
+    let text = ok_text(reply);
     match reply {
-        Reply::Set => words::put(out, at, b"card\tok"),
-        Reply::Lent => words::put(out, at, b"lend\tok"),
-        Reply::Poked => words::put(out, at, b"poke\tok"),
-        _ => words::put(out, at, b"bad"),
+        Reply::Bad => words::put(out, at, b"bad"),
+        _ => words::put(out, at, &text),
     }
 }
 
@@ -430,10 +435,17 @@ fn count(w: World, state: &[u8; 2048], store: &[u8], unit: u8) -> Counted {
     owned::count(card, state, s, rows, w.lent, unit)
 }
 
-fn say_counted(counted: Counted, unit: u8, out: &mut [u8; 200000], at: usize) -> usize
+fn say_count(
+    w: World,
+    state: &[u8; 2048],
+    store: &[u8],
+    unit: u8,
+    out: &mut [u8; 200000],
+    at: usize,
+) -> usize
     requires { ⌜ at ≤ 180000 ⌝ }
 {
-    match counted {
+    match count(w, state, store, unit) {
         Counted::Counters(c) => shown::counted(out, at, unit, c),
         Counted::Refused(number) => {
             shown::said(
@@ -492,7 +504,7 @@ fn show(
     requires { ⌜ at ≤ 180000 ⌝ }
 {
     match command {
-        Command::Count(unit) => say_counted(count(w, state, store, unit), unit, out, at),
+        Command::Count(unit) => say_count(w, state, store, unit, out, at),
         Command::Show(bank) => show_bank(w, memory, store, bank, out, at),
         Command::ShowRows => say_rows(w, out, at),
         Command::ShowState => shown::state(out, at, state),
