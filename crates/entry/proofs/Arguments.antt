@@ -1,6 +1,6 @@
 -- The arguments of an entry point, and what its walk says of them: types, values, tokens, locals. All of it computes from the list of the arguments.
 --     Got, Lent, Whole    plain data with its machine value; a slice, where it lies and what it holds; the state likewise
---     Arg              an argument: plain data, the state, bytes that are read or written, the rows that are written or read, an array of them
+--     Arg              an argument: plain data, the state, bytes that are read or written, the rows that are written or read, an array of them, the room for what rises at each unit
 --     kinds, args, valss, tokens-of, machine     of a list of them, the lifetimes numbered on from j
 --     numbered         the same for the covered function: the number of the rows in place of the rows.        lending    the rows of an array that is lent in place of the array
 -- Assumes nothing, but for the laws `typed`, which take `Given`.
@@ -22,7 +22,7 @@ use denote.RattleType.{RattleType, Denots, Valss}
 use denote.Laws.{Is, Tells}
 use denote.Memory.{pointee}
 use denote.Plain.{uint-lawful}
-use denote.Builtin.{u8, usize}
+use denote.Builtin.{u8, u16, usize}
 use denote.Ref.{RefT, MutRef, ShrRef}
 use denote.Array.{Array}
 use denote.Slice.{sliceTy, sliceVal, MutSlice, ShrSlice, Room}
@@ -91,6 +91,13 @@ finally-state γ ys = fres γ (State .coded .code ys)
 abbrev pub bytes : Ty
 bytes = pointee (State .written)
 
+-- what rises at each unit: 32 sets of counters behind one pointer
+abbrev pub Each : RattleType
+Each = Array u16 32
+
+abbrev pub sets : Ty
+sets = pointee (Each .written)
+
 -- types of locals: a byte, a number, a row; a slice of bytes that is shared, a slice that is lent, a reference to lend it again
 abbrev pub byte : Ty
 byte = tyInt w8
@@ -122,6 +129,7 @@ pub data Arg : Type 0 where
   the-rows : Lft → Share → Lent T.the-row → Arg
   rows-read : Lft → Share → Lent T.the-row → Arg
   the-array : Got R.Row40 → Arg
+  the-each : Lft → Share → Whole → Arg
 
 -- the next lifetime's number
 abbrev on : ℕ → Arg → ℕ
@@ -135,6 +143,7 @@ on j (is-written κ q x) = suc j
 on j (the-rows κ q x) = suc j
 on j (rows-read κ q x) = suc j
 on j (the-array x) = j
+on j (the-each κ q x) = suc j
 
 abbrev type : ℕ → Arg → RattleType
 type j (the-card x) = C.the-row
@@ -147,6 +156,7 @@ type j (is-written κ q x) = MutSlice (named j) κ u8
 type j (the-rows κ q x) = MutSlice (named j) κ T.the-row
 type j (rows-read κ q x) = ShrSlice (named j) κ T.the-row
 type j (the-array x) = R.Row40
+type j (the-each κ q x) = MutRef (named j) κ Each
 
 abbrev arg : (j : ℕ) (x : Arg) → type j x .Denot
 arg j (the-card x) = x .x
@@ -159,6 +169,7 @@ arg j (is-written κ q x) = ref x
 arg j (the-rows κ q x) = ref x
 arg j (rows-read κ q x) = ref x
 arg j (the-array x) = x .x
+arg j (the-each κ q x) = whole-ref x
 
 abbrev value : Arg → Val
 value (the-card x) = x .v
@@ -171,6 +182,7 @@ value (is-written κ q x) = val x
 value (the-rows κ q x) = val x
 value (rows-read κ q x) = val x
 value (the-array x) = x .v
+value (the-each κ q x) = vptr (x .b) (x .o)
 
 abbrev token : Arg → List (Lft × Share)
 token (the-card x) = []
@@ -183,6 +195,7 @@ token (is-written κ q x) = (κ, q) ∷ []
 token (the-rows κ q x) = (κ, q) ∷ []
 token (rows-read κ q x) = (κ, q) ∷ []
 token (the-array x) = []
+token (the-each κ q x) = (κ, q) ∷ []
 
 abbrev pub kinds : ℕ → List Arg → List RattleType
 kinds j [] = []
@@ -226,6 +239,7 @@ number (is-written κ q x) = is-written κ q x
 number (the-rows κ q x) = the-number (many x)
 number (rows-read κ q x) = the-number (many x)
 number (the-array x) = the-array x
+number (the-each κ q x) = the-each κ q x
 
 abbrev pub numbered : List Arg → List Arg
 numbered xs = map number xs
@@ -242,6 +256,7 @@ lend κ s y (is-written κ′ q x) = is-written κ′ q x
 lend κ s y (the-rows κ′ q x) = the-rows κ′ q x
 lend κ s y (rows-read κ′ q x) = rows-read κ′ q x
 lend κ s y (the-array x) = the-rows κ s y
+lend κ s y (the-each κ′ q x) = the-each κ′ q x
 
 abbrev pub lending : Lft → Share → Lent T.the-row → List Arg → List Arg
 lending κ s y xs = map (lend κ s y) xs

@@ -1,8 +1,9 @@
-// The six functions that others call, with the state lent. Each has a covered function do all but the counters, and `counters::settle` or `counters::raise` write those.
+// The six functions that others call, with the state lent. Each has a covered function do all but the counters, and `counters` writes those.
 use admit::Place;
 use answer::Answer;
 use card::Card;
 use counters::Counters;
+use framing::Framed;
 ghost use mathlib.Core.Path.{_≡_};
 ghost use lib.ListN.{length};
 ghost use Rattle.entry.specs.declared.Counted.the-variants as counted;
@@ -44,7 +45,20 @@ pub fn arrive(
     counters::answer_by(done)
 }
 
-// A frame on the bus.
+// The parts of what a frame comes to: up to which row counters rise; what is given back.
+fn framed_to(done: Framed) -> usize
+    ensures { λ r. ⌜ r ≡ done .to ⌝ }
+{
+    done.to
+}
+
+fn framed_answer(done: Framed) -> Answer
+    ensures { λ r. ⌜ r ≡ done .answer ⌝ }
+{
+    done.answer
+}
+
+// A frame on the bus. What rises at each unit is written into an array of its own, and read back from there.
 pub fn frame(
     card: Card,
     state: &mut [u8; 2048],
@@ -55,10 +69,11 @@ pub fn frame(
     ensures { λ r. ⌜ LeavesAll (frames card (now (state .entry)) (now (store .entry)) (now (rows .entry)) (length (now (rows .entry))) (now (buffer .entry))) r (now (state .exit)) (now (store .exit)) (now (buffer .exit)) (now (rows .exit)) ⌝ }
 {
     let n = rows.len();
-    let done = framing::frame(card, state, store, n, buffer);
-    let rises = counters::rises_of(done);
-    counters::settle(rows, rises);
-    counters::answer_of(done)
+    let mut each = [0; 32];
+    let done = framing::frame(card, state, store, n, buffer, &mut each);
+    let to = framed_to(done);
+    counters::raise_each(rows, &each, to);
+    framed_answer(done)
 }
 
 // A frame is handed in to a unit.

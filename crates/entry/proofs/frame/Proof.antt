@@ -1,33 +1,55 @@
--- `entry::frame` meets its contract: a walk of its MIR, by hand. It is four calls, and all that it knows of the callees is that each meets its contract. Assumes nothing.
-use Rattle.entry.proofs.Walking.{_≡_, refl, subst, none, ℕ, _≤_, List, [], _∷_, _++_, length, URA, named, mut, w64, tyUnit, tyRef, Val, vunit, vint, vptr, SProp, ent, emp, id⊢, via, fst∗, Lft, Share, flft, Memory, Routine, Heap, Env, WpFn, Tables, Atoms, toks, Fun, givenOf, tables, tablesOf, Given, Item, ‵, raw, runs, atRet, Sq, _$_, _∵_, !, qed, by, move, keep, drop, join, use1, fsplit, fjoin, feqL, suffices, frame, done, ⋆, look, init, stop, hop, fld, from, load, addr, of-opd, and-then, no-more, assigns, land, returns, enter, alloc1, alloc0, params1, pass1, pass0, agg, whole, sub, look-in, fmOf, WpFn-mono, owns, Is, uint-makes, u8, usize, sliceTy, finally, slice-vals, mut-slice-tells, owned, nothing, ptr-vals, mut-tells, onEntry, Meets, tripleOf, Contract, Triple, entered, cited, says, Stays, stay-dropped, gave-slice, gave-ref, walkOf, goes-dropped, goes-gave-slice, goes-gave-ref, Walks, ends-at, walked, walk-meets, yes, plain}
-use Rattle.entry.proofs.Arguments.{Got, Lent, taken, val, byte, word, row, lent, again, Arg, the-card, the-state, State, Whole, all-of, finally-state, bytes, is-written, the-rows, kinds, args, valss, machine, tokens-of, lifetimes, shares, numbered, Cell, cells, passed, card-vals, card-tells, card-typed, done-typed, rises-typed, answer-typed}
-use Rattle.entry.proofs.Entering.{each, tokens, held, parted, packed, untied, tied, living, lived, freed, told, unasked, places, answer-owned, Risen, Replied, Settle, risen, replied, settles}
-use Rattle.counters.proofs.Calls.{Of, calls-of}
+-- `entry::frame` meets its contract: a walk of its MIR, by hand. It is four calls, and all that it knows of the callees is that each meets its contract. What rises at each unit stands in a local array, which is lent to
+-- the covered function to be written and then to `counters::raise_each` to be read, each time for a lifetime that the walk makes. Assumes nothing.
+use Rattle.entry.proofs.Walking.{_≡_, refl, _∙_, ap, subst, none, ℕ, _≤_, List, [], _∷_, _++_, length, URA, fullShare, Ty, named, imm, mut, w64, tyUnit, tyRef, Val, vunit, vint, vptr, SProp, ent, emp, id⊢, via, fst∗, Lft, Share, flft, Memory, Routine, Heap, Env, WpFn, Tables, Atoms, toks, Fun, givenOf, tables, tablesOf, Given, Item, ‵, raw, runs, atRet, Sq, _$_, _∵_, !, qed, by, move, keep, drop, join, use1, fsplit, fjoin, feqL, suffices, frame, done, ⋆, look, init, stop, hop, fld, from, load, addr, of-opd, and-then, no-more, assigns, land, returns, enter, alloc1, alloc0, params1, pass1, pass0, agg, whole, sub, look-in, fmOf, WpFn-mono, owns, Is, shows, uint-makes, uint-lawful, u8, usize, sliceTy, finally, slice-vals, mut-slice-tells, owned, facts, nothing, ptr-vals, mut-tells, onEntry, Meets, tripleOf, Contract, Triple, entered, cited, says, Stays, stay-dropped, gave-slice, gave-ref, walkOf, goes-dropped, goes-gave-slice, goes-gave-ref, Walks, ends-at, walked, walk-meets, yes, plain}
+use Rattle.entry.proofs.Arguments.{Got, Lent, Whole, taken, val, byte, word, row, lent, again, Arg, the-card, the-state, the-each, State, Each, all-of, finally-state, bytes, sets, is-written, the-rows, kinds, args, valss, machine, tokens-of, lifetimes, shares, numbered, Cell, cells, passed, Typed, card-vals, card-tells, card-typed, answer-typed}
+use Rattle.entry.proofs.Entering.{each, tokens, held, parted, packed, untied, tied, living, lived, freed, told, asking, answer-owned, Raise-each, raises-each}
+use Prim.Native.Nat.{_<_, _^_}
+use mathlib.Core.Path.{sym}
+use lib.ListN.{replicate}
+use lib.Dec.{lit<}
+use mir.Syntax.{erased, w16, tyInt, tyArray}
+use base.Fml.{GName, fat}
+use types.Kit.{rewrite}
+use types.Run.{lit}
+use types.Part.{rep}
+use types.Tokens.{lft-new, lft-end}
+use denote.Builtin.{u16}
+use denote.Plain.{uint-copy}
+use denote.Array.{arrayVal, array-lawful, array-makes, array-repeat}
+use denote.Laws.{Makes}
+use denote.Slice.{sliceVal, Room}
+use denote.Steps.{only}
+use denote.Struct.Laws as LL
+use Rattle.counters.proofs.Calls.{Of, calls-of, calls-plain}
+use Rattle.counters.proofs.Arrays.{lends-whole, whole-back, shares-array, shared-back}
 use Rattle.counters.specs.declared.Counters.{Counters}
+use Rattle.answer.specs.declared.Answer.{Answer}
 use Rattle.answer.specs.declared.Outcome.{Outcome}
+use Rattle.framing.specs.declared.Framed.{Framed}
 use Rattle.counters.specs.Counting.{settled}
-use Rattle.framing.specs.InPlace.{frameOut, frameState, frameStoreIn, frameBufferIn}
+use Rattle.framing.specs.InPlace.{framedBy, frameOut, frameState, frameStoreIn, frameBufferIn}
 use Rattle.card.proofs.Card as C
 use Rattle.card.proofs.Card.Laws as C′
 use Rattle.counters.proofs.Counters as T
-use Rattle.answer.proofs.Outcome as D
-use Rattle.answer.proofs.Outcome.Laws as D′
+use Rattle.framing.proofs.Framed as F
+use Rattle.framing.proofs.Framed.Laws as F′
 use Rattle.answer.proofs.Answer as N
 use Rattle.answer.proofs.Answer.Laws as N′
 use Rattle.framing.proofs.frame as core
 use Rattle.framing.proofs.frame.Symbol as core-def
 use Rattle.framing.proofs.frame.Symbol.{name as #core}
 use Rattle.framing.proofs.frame.Met as core-thm
-use Rattle.answer.proofs.Rises.Laws as R′
-use Rattle.counters.proofs.rises_of.Symbol as rises-def
-use Rattle.counters.proofs.rises_of.Symbol.{name as #rises}
-use Rattle.counters.proofs.rises_of.Met as rises-thm
-use Rattle.counters.proofs.answer_of.Symbol as reply-def
-use Rattle.counters.proofs.answer_of.Symbol.{name as #reply}
-use Rattle.counters.proofs.answer_of.Met as reply-thm
-use Rattle.counters.proofs.settle.Symbol as settle-def
-use Rattle.counters.proofs.settle.Symbol.{name as #settle}
-use Rattle.counters.proofs.settle.Met as settle-thm
+use Rattle.entry.proofs.framed_to as last
+use Rattle.entry.proofs.framed_to.Symbol as last-def
+use Rattle.entry.proofs.framed_to.Symbol.{name as #last}
+use Rattle.entry.proofs.framed_to.Met as last-thm
+use Rattle.entry.proofs.framed_answer as reply
+use Rattle.entry.proofs.framed_answer.Symbol as reply-def
+use Rattle.entry.proofs.framed_answer.Symbol.{name as #reply}
+use Rattle.entry.proofs.framed_answer.Met as reply-thm
+use Rattle.counters.proofs.raise_each.Symbol as raise-def
+use Rattle.counters.proofs.raise_each.Symbol.{name as #raise}
+use Rattle.counters.proofs.raise_each.Met as raise-thm
 use Rattle.entry.proofs.frame.Key.{name as #frame}
 use Rattle.entry.proofs.frame as frame
 use Rattle.entry.proofs.frame.Statement as stated
@@ -37,9 +59,28 @@ use Rattle.entry.proofs.frame.Code.Mir as body
 abbrev stayed : Stays (frame.ended .signature .params) (frame.ended .kept)
 stayed = (stay-dropped (plain (λ _. C.the-row)) yes, (gave-ref (0 ∷ []) tt (plain (λ _. State)), (gave-slice (1 ∷ []) tt (plain (λ _. u8)), (gave-slice (2 ∷ []) tt (plain (λ _. T.the-row)), (gave-slice (3 ∷ []) tt (plain (λ _. u8)), tt)))))
 
+abbrev half : Ty
+half = tyInt w16
+
+abbrev array : Ty
+array = tyArray half 32
+
+-- the array at first, and its machine value
+abbrev zeroed : List ℕ
+zeroed = replicate 32 0
+
+abbrev zeros : Val
+zeros = arrayVal (replicate 32 (vint w16 0))
+
 module _ {M : Type 1} (𝓤 : URA M) (H : Heap 𝓤) (A : Atoms 𝓤) (mem : Memory → SProp 𝓤) (run : Routine → Fun 𝓤) where
   abbrev Core : Contract 𝓤
   Core = Of 𝓤 H A core.ended (core.clauses 𝓤 H A mem run)
+
+  abbrev Last : Contract 𝓤
+  Last = Of 𝓤 H A last.ended (last.clauses 𝓤 H A mem run)
+
+  abbrev Reply : Contract 𝓤
+  Reply = Of 𝓤 H A reply.ended (reply.clauses 𝓤 H A mem run)
 
 module _ {M : Type 1} (𝓤 : URA M) (H : Heap 𝓤) (A : Atoms 𝓤) (W : Given 𝓤 H A) (mem : Memory → SProp 𝓤) (run : Routine → Fun 𝓤) (κ₀ κ₁ κ₂ κ₃ : Lft) (q₀ q₁ q₂ q₃ : Share) (card : Got C.the-row) (state : Whole) (store : Lent u8) (rows : Lent T.the-row) (buffer : Lent u8) where
   abbrev n : ℕ
@@ -67,15 +108,33 @@ module _ {M : Type 1} (𝓤 : URA M) (H : Heap 𝓤) (A : Atoms 𝓤) (W : Given
   abbrev ts : List (Lft × Share)
   ts = tokens-of xs
 
-  -- what the covered function is called with
-  abbrev xs′ : List Arg
-  xs′ = numbered xs
+  -- what the covered function is called with: the array too, which lies at l and is lent for α under the name γ
+  abbrev xs′ : ℕ → ℕ → GName → List Arg
+  xs′ l α γ = numbered xs ++ (the-each (α ∷ []) fullShare (record { b = l; o = 0; γ = γ; at = zeroed }) ∷ [])
 
-  abbrev ts′ : List (Lft × Share)
-  ts′ = tokens-of xs′
+  abbrev ts′ : ℕ → ℕ → GName → List (Lft × Share)
+  ts′ l α γ = tokens-of (xs′ l α γ)
 
-  abbrev to-core : Core 𝓤 H A mem run .Ghost
-  to-core = ((lifetimes ts′, shares ts′, tt, args 0 xs′, valss 0 xs′), tt)
+  abbrev to-core : ℕ → ℕ → GName → Core 𝓤 H A mem run .Ghost
+  to-core l α γ = ((lifetimes (ts′ l α γ), shares (ts′ l α γ), tt, args 0 (xs′ l α γ), valss 0 (xs′ l α γ)), tt)
+
+  abbrev to-last : Framed → Val → Last 𝓤 H A mem run .Ghost
+  to-last r rv = ((tt, tt, tt, (r, tt), (rv ∷ [], tt)), tt)
+
+  goes-last : (r : Framed) (rv : Val) → Is F.the-row r (rv ∷ []) → ent 𝓤 (emp 𝓤) (Last 𝓤 H A mem run .pre (to-last r rv))
+  goes-last r rv ok = qed W [] ∵ nothing ! $ owned ! F.the-row (Is F.the-row) (LL.makes F.the-type F′.the-plain 𝓤 H A) r _ ok $ fjoin ! $ nothing ! $ join ! $ frame ! $ done !
+
+  abbrev to-reply : Framed → Val → Reply 𝓤 H A mem run .Ghost
+  to-reply r rv = ((tt, tt, tt, (r, tt), (rv ∷ [], tt)), tt)
+
+  goes-reply : (r : Framed) (rv : Val) → Is F.the-row r (rv ∷ []) → ent 𝓤 (emp 𝓤) (Reply 𝓤 H A mem run .pre (to-reply r rv))
+  goes-reply r rv ok = qed W [] ∵ nothing ! $ owned ! F.the-row (Is F.the-row) (LL.makes F.the-type F′.the-plain 𝓤 H A) r _ ok $ fjoin ! $ nothing ! $ join ! $ frame ! $ done !
+
+  makes-each : Makes 𝓤 H A Each (Is Each)
+  makes-each = array-makes 𝓤 H A W u16 (uint-makes 𝓤 H A W w16) 32
+
+  each-typed : (es : List ℕ) (v : Val) → Is Each es (v ∷ []) → Typed array v
+  each-typed es v ok = array-lawful 𝓤 H A W u16 (uint-lawful 𝓤 H A W w16) 32 .typed es (v ∷ []) ok .0
 
   abbrev bound : walkOf 𝓤 H A frame.ended stayed (frame.clauses 𝓤 H A mem run) .Ghost
   bound = ((lifetimes ts, shares ts, tt, args 0 xs, valss 0 xs), tt)
@@ -95,64 +154,82 @@ module _ {M : Type 1} (𝓤 : URA M) (H : Heap 𝓤) (A : Atoms 𝓤) (W : Given
       -- what is had of the parameters, the last first
       nothing ! $ move ! (1 ∷ 0 ∷ []) $ fjoin ! $ move ! (1 ∷ 0 ∷ []) $ fjoin ! $ move ! (1 ∷ 0 ∷ []) $ fjoin ! $ move ! (1 ∷ 0 ∷ []) $ fjoin ! $ nothing ! $ fjoin ! $ answer-owned ! (d .answer) _ ok $ move ! (1 ∷ 0 ∷ []) $ done !
 
-  module _ (𝓣 : Tables 𝓤 H) (known-core : Triple 𝓤 (𝓣 .C #core) (Core 𝓤 H A mem run)) (known-rises : Triple 𝓤 (𝓣 .C #rises) (Risen 𝓤 H A mem run)) (known-settle : Triple 𝓤 (𝓣 .C #settle) (Settle 𝓤 H A mem run)) (known-reply : Triple 𝓤 (𝓣 .C #reply) (Replied 𝓤 H A mem run)) where
-    module _ (l₀ l₁ l₂ l₃ l₄ l₅ l₆ l₇ l₈ l₉ l₁₀ l₁₁ l₁₂ l₁₃ l₁₄ l₁₅ l₁₆ : ℕ) where
+  module _ (𝓣 : Tables 𝓤 H) (known-core : Triple 𝓤 (𝓣 .C #core) (Core 𝓤 H A mem run)) (known-last : Triple 𝓤 (𝓣 .C #last) (Last 𝓤 H A mem run)) (known-raise : Triple 𝓤 (𝓣 .C #raise) (Raise-each 𝓤 H A mem run)) (known-reply : Triple 𝓤 (𝓣 .C #reply) (Reply 𝓤 H A mem run)) where
+    module _ (l₀ l₁ l₂ l₃ l₄ l₅ l₆ l₇ l₈ l₉ l₁₀ l₁₁ l₁₂ l₁₃ l₁₄ l₁₅ l₁₆ l₁₇ l₁₈ l₁₉ l₂₀ : ℕ) where
       abbrev En : Env 𝓤 H
-      En = (N′.mir, l₀) ∷ (C′.mir, l₁) ∷ (tyRef (named 0) mut bytes, l₂) ∷ (lent 1 byte, l₃) ∷ (lent 2 row, l₄) ∷ (lent 3 byte, l₅) ∷ (word, l₆) ∷ (D′.mir, l₇) ∷ (R′.mir, l₈) ∷ (again bytes, l₉) ∷ (again byte, l₁₀) ∷ (sliceTy (again byte), l₁₁) ∷ (again byte, l₁₂) ∷ (sliceTy (again byte), l₁₃) ∷ (tyUnit, l₁₄) ∷ (again row, l₁₅) ∷ (sliceTy (again row), l₁₆) ∷ []
+      En = (N′.mir, l₀) ∷ (C′.mir, l₁) ∷ (tyRef (named 0) mut bytes, l₂) ∷ (lent 1 byte, l₃) ∷ (lent 2 row, l₄) ∷ (lent 3 byte, l₅) ∷ (word, l₆) ∷ (array, l₇) ∷ (F′.mir, l₈) ∷ (word, l₉) ∷ (again bytes, l₁₀) ∷ (again byte, l₁₁) ∷ (sliceTy (again byte), l₁₂) ∷ (again byte, l₁₃) ∷ (sliceTy (again byte), l₁₄) ∷ (again sets, l₁₅) ∷ (tyUnit, l₁₆) ∷ (again row, l₁₇) ∷ (sliceTy (again row), l₁₈) ∷ (tyRef erased imm sets, l₁₉) ∷ (sliceTy (tyRef erased imm half), l₂₀) ∷ []
 
       -- the locals at the end
-      abbrev locals : Val → Val → Val → List Cell
-      locals v dv rv = cells En (v ∷ machine xs ++ (vint w64 n ∷ dv ∷ rv ∷ vptr (state .b) (state .o) ∷ vptr (store .b) (store .o) ∷ val store ∷ vptr (buffer .b) (buffer .o) ∷ val buffer ∷ vunit ∷ vptr (rows .b) (rows .o) ∷ val rows ∷ []))
+      abbrev locals : Val → Val → Val → ℕ → ℕ → List Cell
+      locals v ev dv to long = cells En (v ∷ machine xs ++ (vint w64 n ∷ ev ∷ dv ∷ vint w64 to ∷ vptr (state .b) (state .o) ∷ vptr (store .b) (store .o) ∷ val store ∷ vptr (buffer .b) (buffer .o) ∷ val buffer ∷ vptr l₇ 0 ∷ vunit ∷ vptr (rows .b) (rows .o) ∷ val rows ∷ vptr l₇ 0 ∷ sliceVal (l₇, 0) long ∷ []))
 
-      -- where the walk begins: the tokens; what the parameters own; then the locals, _16 @2 … _0 @34
+      -- where the walk begins: the tokens; what the parameters own; then the locals, _20 @2 … _0 @42
       abbrev Begun : List (Item 𝓤)
-      Begun = tokens ts ∷ ‵ (owns (kinds 0 xs) (args 0 xs) (valss 0 xs)) ∷ held En (none ∷ passed xs 11) []
+      Begun = tokens ts ∷ ‵ (owns (kinds 0 xs) (args 0 xs) (valss 0 xs)) ∷ held En (none ∷ passed xs 15) []
 
       begins : Sq W Begun (runs (𝓣 .C) (𝓣 .Λ) En body.t-1 (atRet En Post))
       begins =
-          assigns ! (of-opd ! (load ! (from ! (fld ! refl (stop !))) (look-in ! 26 (sub ! 1 refl (whole !))))) (from ! (stop !)) (init ! 22 refl (tt, record { fits = rows .room .0 })) $
-          assigns ! (addr ! (from ! (hop ! (look ! 30 refl) (stop !)))) (from ! (stop !)) (init ! 16 refl (tt, tt)) $
-          assigns ! (addr ! (from ! (fld ! refl (hop ! (look-in ! 28 (sub ! 0 refl (whole !))) (stop !))))) (from ! (stop !)) (init ! 14 refl (tt, tt)) $
-          assigns ! (agg ! (and-then ! (load ! (from ! (stop !)) (look ! 14 refl)) (and-then ! (load ! (from ! (fld ! refl (stop !))) (look-in ! 28 (sub ! 1 refl (whole !)))) (no-more !)))) (from ! (stop !)) (init ! 12 refl (tt, (tt, (record { fits = store .room .0 }, tt)))) $
-          assigns ! (addr ! (from ! (fld ! refl (hop ! (look-in ! 24 (sub ! 0 refl (whole !))) (stop !))))) (from ! (stop !)) (init ! 10 refl (tt, tt)) $
-          assigns ! (agg ! (and-then ! (load ! (from ! (stop !)) (look ! 10 refl)) (and-then ! (load ! (from ! (fld ! refl (stop !))) (look-in ! 24 (sub ! 1 refl (whole !)))) (no-more !)))) (from ! (stop !)) (init ! 8 refl (tt, (tt, (record { fits = buffer .room .0 }, tt)))) $
-          -- what the parameters own, the last first; the tokens, the last first; the locals
-          untied ! ts $ move ! (4 ∷ []) $ parted ! (each (kinds 0 xs) (args 0 xs) (valss 0 xs)) $ owned ! usize (Is usize) (uint-makes 𝓤 H A W w64) n _ (refl, rows .room .0) $ move ! (1 ∷ 0 ∷ 3 ∷ 4 ∷ 5 ∷ []) $ packed ! (each (kinds 0 xs′) (args 0 xs′) (valss 0 xs′)) $ move ! (2 ∷ 4 ∷ 5 ∷ 0 ∷ 3 ∷ 1 ∷ []) $ tied ! ts′ $ use1 W (raw (toks 𝓤 A (length ts′) (lifetimes ts′) (shares ts′))) (living 𝓤 H A ts′) $ join ! $
-          -- the covered function: [what it asks; the rows' token; the rows; _16 @3 … _0 @35]
-          calls-of ! (fmOf 𝓤 H (W .laws) 𝓣) core.ended (core.clauses 𝓤 H A mem run) known-core to-core (unasked 𝓤 _)
-          (and-then ! (load ! (from ! (stop !)) (look ! 33 refl)) (and-then ! (load ! (from ! (stop !)) (look ! 17 refl)) (and-then ! (load ! (from ! (stop !)) (look ! 13 refl)) (and-then ! (load ! (from ! (stop !)) (look ! 23 refl)) (and-then ! (load ! (from ! (stop !)) (look ! 9 refl)) (no-more !)))))) (λ dv r ws.
-          told ! ts′ D.the-row r dv ((r ≡ d) × ((ws .1 .0 ≡ state′) × ((ws .1 .1 .0 ≡ store′) × (ws .1 .1 .1 .1 .0 ≡ buffer′)))) ((r .rises .to ≤ 32) × (r .rises .to ≤ n)) (lived 𝓤 H A ts′) (id⊢ 𝓤 _) (λ e fits r-ok.
-          let d-ok : Is D.the-row d (dv ∷ []) = subst (λ (h : Outcome). Is D.the-row h (dv ∷ [])) (e .0) r-ok in
-          -- [the tokens; the last values; the rows' token; the rows; _16 @6 … _0 @38]
-          land ! (from ! (stop !)) (init ! 24 refl (done-typed W d _ d-ok)) $
-          move ! (3 ∷ []) $ fsplit ! $ drop ! $ fsplit ! $ move ! (1 ∷ []) $ fsplit ! $ fsplit ! $ move ! (1 ∷ []) $ feqL ! (λ m₁. move ! (1 ∷ []) $ fsplit ! $ drop ! $ fsplit ! $ fsplit ! $ move ! (1 ∷ []) $ feqL ! (λ m₃. move ! (1 ∷ []) $ drop ! $
-          -- [the last lists; the tokens; the rows' token; the rows; _16 @8 … _0 @40]
-          risen ! (fmOf 𝓤 H (W .laws) 𝓣) mem run known-rises d dv d-ok (and-then ! (load ! (from ! (stop !)) (look ! 27 refl)) (no-more !)) (λ rv rises-ok.
-          land ! (from ! (stop !)) (init ! 24 refl (rises-typed W (d .rises) _ rises-ok)) $
-          assigns ! (addr ! (from ! (fld ! refl (hop ! (look-in ! 32 (sub ! 0 refl (whole !))) (stop !))))) (from ! (stop !)) (init ! 10 refl (tt, tt)) $
-          assigns ! (agg ! (and-then ! (load ! (from ! (stop !)) (look ! 10 refl)) (and-then ! (load ! (from ! (fld ! refl (stop !))) (look-in ! 32 (sub ! 1 refl (whole !)))) (no-more !)))) (from ! (stop !)) (init ! 8 refl (tt, (tt, (record { fits = rows .room .0 }, tt)))) $
-          move ! (6 ∷ 7 ∷ []) $ settles ! (fmOf 𝓤 H (W .laws) 𝓣) mem run known-settle κ₂ q₂ (rows .b) (rows .o) (rows .γ) (rows .at) (d .rises) rv rises-ok (subst (λ (h : Outcome). (h .rises .to ≤ 32) × (h .rises .to ≤ n)) (e .0) fits)
-          (and-then ! (load ! (from ! (stop !)) (look ! 7 refl)) (and-then ! (load ! (from ! (stop !)) (look ! 23 refl)) (no-more !))) (λ zs₂ e₂ m₂.
-          -- [the rows' token; their last list; the other last lists; the tokens; _16 @8 … _0 @40]
-          land ! (from ! (stop !)) (init ! 12 refl (tt, tt)) $
-          replied ! (fmOf 𝓤 H (W .laws) 𝓣) mem run known-reply d dv d-ok (and-then ! (load ! (from ! (stop !)) (look ! 27 refl)) (no-more !)) (λ v ok.
-          land ! (from ! (stop !)) (init ! 40 refl (answer-typed W (d .answer) _ ok)) $ returns ! (look ! 40 refl) $ move ! (places 8 17) $ freed ! (locals v dv rv) $
-          keep ! (5 ∷ 0 ∷ 6 ∷ 7 ∷ 2 ∷ 1 ∷ 3 ∷ 4 ∷ []) $ by ! (exits v ok (ws .1 .0) (e .1 .0) (ws .1 .1 .0) (e .1 .1 .0) m₁ zs₂ e₂ m₂ (ws .1 .1 .1 .1 .0) (e .1 .1 .1) m₃))))))))
+          assigns ! (of-opd ! (load ! (from ! (fld ! refl (stop !))) (look-in ! 34 (sub ! 1 refl (whole !))))) (from ! (stop !)) (init ! 30 refl (tt, record { fits = rows .room .0 })) $
+          owned ! u16 (Is u16) (uint-makes 𝓤 H A W w16) 0 _ (refl, lit< tt) $ use1 W (‵ (Each .own zeroed (zeros ∷ []))) (array-repeat 𝓤 H A W u16 (uint-copy 𝓤 H A W w16) 32 0 (vint w16 0)) $ facts ! Each (Is Each) (shows 𝓤 H A Each) zeroed (zeros ∷ []) (λ z-ok.
+          assigns ! (rep ! 32 (lit ! tt)) (from ! (stop !)) (init ! 28 refl (each-typed zeroed zeros z-ok)) $
+          assigns ! (addr ! (from ! (hop ! (look ! 38 refl) (stop !)))) (from ! (stop !)) (init ! 22 refl (tt, tt)) $
+          assigns ! (addr ! (from ! (fld ! refl (hop ! (look-in ! 36 (sub ! 0 refl (whole !))) (stop !))))) (from ! (stop !)) (init ! 20 refl (tt, tt)) $
+          assigns ! (agg ! (and-then ! (load ! (from ! (stop !)) (look ! 20 refl)) (and-then ! (load ! (from ! (fld ! refl (stop !))) (look-in ! 36 (sub ! 1 refl (whole !)))) (no-more !)))) (from ! (stop !)) (init ! 18 refl (tt, (tt, (record { fits = store .room .0 }, tt)))) $
+          assigns ! (addr ! (from ! (fld ! refl (hop ! (look-in ! 32 (sub ! 0 refl (whole !))) (stop !))))) (from ! (stop !)) (init ! 16 refl (tt, tt)) $
+          assigns ! (agg ! (and-then ! (load ! (from ! (stop !)) (look ! 16 refl)) (and-then ! (load ! (from ! (fld ! refl (stop !))) (look-in ! 32 (sub ! 1 refl (whole !)))) (no-more !)))) (from ! (stop !)) (init ! 14 refl (tt, (tt, (record { fits = buffer .room .0 }, tt)))) $
+          assigns ! (addr ! (from ! (stop !))) (from ! (stop !)) (init ! 12 refl (tt, tt)) $
+          -- what the parameters own, the last first; the tokens, the last first; the locals. The array is lent: [it; what the lender keeps; the new token; ..; the locals, but for the array's cell]
+          untied ! ts $ move ! (4 ∷ []) $ parted ! (each (kinds 0 xs) (args 0 xs) (valss 0 xs)) $ lft-new ! tt (λ α. move ! (36 ∷ []) $
+          lends-whole ! tt u16 32 makes-each (named 3) (α ∷ []) zeroed zeros l₇ z-ok (λ γ.
+          owned ! usize (Is usize) (uint-makes 𝓤 H A W w64) n _ (refl, rows .room .0) $ move ! (1 ∷ 4 ∷ 0 ∷ 6 ∷ 7 ∷ 8 ∷ []) $ packed ! (each (kinds 0 (xs′ l₇ α γ)) (args 0 (xs′ l₇ α γ)) (valss 0 (xs′ l₇ α γ))) $ move ! (2 ∷ 4 ∷ 6 ∷ 7 ∷ 0 ∷ 5 ∷ 3 ∷ 1 ∷ []) $ tied ! (ts′ l₇ α γ) $ use1 W (raw (toks 𝓤 A (length (ts′ l₇ α γ)) (lifetimes (ts′ l₇ α γ)) (shares (ts′ l₇ α γ)))) (living 𝓤 H A (ts′ l₇ α γ)) $ join ! $
+          -- the covered function: [what it asks; the rows' token; the rows; what the lender keeps; _20 @4 … _0 @43]
+          calls-of ! (fmOf 𝓤 H (W .laws) 𝓣) core.ended (core.clauses 𝓤 H A mem run) known-core (to-core l₇ α γ) (asking 𝓤 (zeroed ≡ zeroed) refl _)
+          (and-then ! (load ! (from ! (stop !)) (look ! 41 refl)) (and-then ! (load ! (from ! (stop !)) (look ! 24 refl)) (and-then ! (load ! (from ! (stop !)) (look ! 20 refl)) (and-then ! (load ! (from ! (stop !)) (look ! 31 refl)) (and-then ! (load ! (from ! (stop !)) (look ! 16 refl)) (and-then ! (load ! (from ! (stop !)) (look ! 14 refl)) (no-more !))))))) (λ dv r ws.
+          told ! (ts′ l₇ α γ) F.the-row r dv ((framedBy r (ws .1 .1 .1 .1 .1 .0) ≡ d) × ((ws .1 .0 ≡ state′) × ((ws .1 .1 .0 ≡ store′) × (ws .1 .1 .1 .1 .0 ≡ buffer′)))) ((r .to ≤ 32) × (r .to ≤ n)) (lived 𝓤 H A (ts′ l₇ α γ)) (id⊢ 𝓤 _) (λ e fits r-ok.
+          let es : List ℕ = ws .1 .1 .1 .1 .1 .0 in
+          -- [the tokens; the last values; the rows' token; the rows; what the lender keeps; _20 @8 … _0 @47]
+          land ! (from ! (stop !)) (init ! 32 refl (LL.lawful F.the-type F′.the-laws 𝓤 H A W .typed r _ r-ok .0)) $
+          move ! (4 ∷ []) $ fsplit ! $ drop ! $ fsplit ! $ move ! (1 ∷ []) $ fsplit ! $ fsplit ! $ move ! (1 ∷ []) $ feqL ! (λ m₁. move ! (1 ∷ []) $ fsplit ! $ drop ! $ fsplit ! $ fsplit ! $ move ! (1 ∷ []) $ feqL ! (λ m₃. move ! (1 ∷ []) $ fsplit ! $ move ! (1 ∷ []) $ drop ! $
+          -- [the array's last list, the buffer's, the store's, the state's; the tokens; the rows' token; the rows; what the lender keeps; _20 @11 … _0 @50]
+          calls-plain ! (fmOf 𝓤 H (W .laws) 𝓣) last.ended (last.clauses 𝓤 H A mem run) known-last (to-last r dv) (goes-last r dv r-ok) (λ h. h ≡ r .to) (λ h _. id⊢ 𝓤 _) (and-then ! (load ! (from ! (stop !)) (look ! 36 refl)) (no-more !)) (λ tv to at to-ok.
+          let to-fits : r .to < 2 ^ 64 = subst (λ (k : ℕ). k < 2 ^ 64) at (to-ok .1) in
+          land ! (from ! (stop !)) (init ! 33 refl (uint-lawful 𝓤 H A W w64 .typed to _ to-ok .0)) $
+          rewrite ! 33 (λ (u : Val). ‵ (fat fullShare word l₉ 0 u)) (ap only (to-ok .0) ∙ ap (vint w64) at) refl $
+          -- the lifetime ends, and the array is back: [the array; the last lists; the tokens; the rows' token; the rows; _20 @9 … _0 @48]
+          move ! (4 ∷ []) $ lft-end ! tt $ move ! (0 ∷ 10 ∷ 1 ∷ []) $ whole-back ! tt u16 32 (α ∷ []) γ es l₇ (λ ev e-ok.
+          let long : length es ≡ 32 = e-ok .1 .0 .1 in
+          assigns ! (addr ! (from ! (fld ! refl (hop ! (look-in ! 40 (sub ! 0 refl (whole !))) (stop !))))) (from ! (stop !)) (init ! 15 refl (tt, tt)) $
+          assigns ! (agg ! (and-then ! (load ! (from ! (stop !)) (look ! 15 refl)) (and-then ! (load ! (from ! (fld ! refl (stop !))) (look-in ! 40 (sub ! 1 refl (whole !)))) (no-more !)))) (from ! (stop !)) (init ! 13 refl (tt, (tt, (record { fits = rows .room .0 }, tt)))) $
+          assigns ! (addr ! (from ! (stop !))) (from ! (stop !)) (init ! 11 refl (tt, tt)) $
+          assigns ! (agg ! (and-then ! (load ! (from ! (stop !)) (look ! 11 refl)) (and-then ! (lit ! tt) (no-more !)))) (from ! (stop !)) (init ! 9 refl (tt, (tt, (record { fits = lit< tt }, tt)))) $
+          rewrite ! 9 (λ (m : ℕ). ‵ (fat fullShare (sliceTy (tyRef erased imm half)) l₂₀ 0 (sliceVal (l₇, 0) m))) (sym long) refl $
+          -- it is lent again, to be read
+          lft-new ! tt (λ β. move ! (1 ∷ []) $ shares-array ! tt u16 tt 32 makes-each (named 1) (β ∷ []) es ev l₇ e-ok (subst (Room u16) (sym long) (lit< tt, lit< tt)) (λ γ₁. move ! (2 ∷ 0 ∷ 9 ∷ 10 ∷ []) $
+          raises-each ! (fmOf 𝓤 H (W .laws) 𝓣) mem run known-raise κ₂ (β ∷ []) q₂ fullShare (rows .b) (rows .o) (rows .γ) (rows .at) l₇ 0 γ₁ es (r .to) to-fits (subst (λ (m : ℕ). r .to ≤ m) (sym long) (fits .0), fits .1)
+          (and-then ! (load ! (from ! (stop !)) (look ! 12 refl)) (and-then ! (load ! (from ! (stop !)) (look ! 8 refl)) (and-then ! (load ! (from ! (stop !)) (look ! 30 refl)) (no-more !)))) (λ zs₂ e₂ m₂.
+          -- [its token; the rows' token; their last list; what the lender keeps; the other last lists; the tokens; _20 @10 … _0 @49]
+          land ! (from ! (stop !)) (init ! 18 refl (tt, tt)) $ lft-end ! tt $ move ! (0 ∷ 3 ∷ []) $ shared-back ! tt u16 32 (β ∷ []) es l₇ long (λ ev′ _.
+          -- [the array; the rows' token; their last list; the other last lists; the tokens; _20 @9 … _0 @48]
+          calls-plain ! (fmOf 𝓤 H (W .laws) 𝓣) reply.ended (reply.clauses 𝓤 H A mem run) known-reply (to-reply r dv) (goes-reply r dv r-ok) (λ h. h ≡ r .answer) (λ h _. id⊢ 𝓤 _) (and-then ! (load ! (from ! (stop !)) (look ! 34 refl)) (no-more !)) (λ v h said h-ok.
+          let ok : Is N.the-row (d .answer) (v ∷ []) = subst (λ (g : Answer). Is N.the-row g (v ∷ [])) (said ∙ ap (λ (g : Outcome). g .answer) (e .0)) h-ok in
+          land ! (from ! (stop !)) (init ! 48 refl (answer-typed W (d .answer) _ ok)) $ returns ! (look ! 48 refl) $
+          move ! (48 ∷ 49 ∷ 46 ∷ 47 ∷ 44 ∷ 45 ∷ 42 ∷ 43 ∷ 40 ∷ 41 ∷ 38 ∷ 39 ∷ 36 ∷ 37 ∷ 0 ∷ 35 ∷ 33 ∷ 34 ∷ 31 ∷ 32 ∷ 29 ∷ 30 ∷ 27 ∷ 28 ∷ 25 ∷ 26 ∷ 23 ∷ 24 ∷ 21 ∷ 22 ∷ 19 ∷ 20 ∷ 17 ∷ 18 ∷ 15 ∷ 16 ∷ 13 ∷ 14 ∷ 11 ∷ 12 ∷ 9 ∷ 10 ∷ []) $ freed ! (locals v ev′ dv (r .to) (length es)) $
+          keep ! (5 ∷ 0 ∷ 6 ∷ 7 ∷ 2 ∷ 1 ∷ 3 ∷ 4 ∷ []) $ by ! (exits v ok (ws .1 .0) (e .1 .0) (ws .1 .1 .0) (e .1 .1 .0) m₁ zs₂ (e₂ ∙ ap (λ (g : Outcome). settled (rows .at) (g .rises)) (e .0)) m₂ (ws .1 .1 .1 .1 .0) (e .1 .1 .1) m₃)))))))))))))))
 
     walk : ent 𝓤 (onEntry 𝓤 H A frame.signature (lifetimes ts) (shares ts) (args 0 xs) (valss 0 xs)) (WpFn 𝓤 H (𝓣 .C) (𝓣 .Λ) code.function (machine xs) Post)
     walk =
         qed W (tokens ts ∷ ‵ (owns (kinds 0 xs) (args 0 xs) (valss 0 xs)) ∷ []) ∵ enter ! (𝓣 .C) (𝓣 .Λ) code.function (machine xs) _ $
-        alloc1 ! (λ l₀. alloc1 ! (λ l₁. alloc1 ! (λ l₂. alloc1 ! (λ l₃. alloc1 ! (λ l₄. alloc1 ! (λ l₅. alloc1 ! (λ l₆. alloc1 ! (λ l₇. alloc1 ! (λ l₈. alloc1 ! (λ l₉. alloc1 ! (λ l₁₀. alloc1 ! (λ l₁₁. alloc1 ! (λ l₁₂. alloc1 ! (λ l₁₃. alloc1 ! (λ l₁₄. alloc1 ! (λ l₁₅. alloc1 ! (λ l₁₆. alloc0 ! $ params1 ! $
-        pass1 ! (init ! 30 refl (card-typed W (card .x) (card .v) (card .ok))) $ pass1 ! (init ! 28 refl (tt, tt)) $ pass1 ! (init ! 26 refl (tt, (tt, (record { fits = store .room .0 }, tt)))) $ pass1 ! (init ! 24 refl (tt, (tt, (record { fits = rows .room .0 }, tt)))) $ pass1 ! (init ! 22 refl (tt, (tt, (record { fits = buffer .room .0 }, tt)))) $ pass0 ! $
-        move ! (34 ∷ 35 ∷ []) $ begins l₀ l₁ l₂ l₃ l₄ l₅ l₆ l₇ l₈ l₉ l₁₀ l₁₁ l₁₂ l₁₃ l₁₄ l₁₅ l₁₆)))))))))))))))))
+        alloc1 ! (λ l₀. alloc1 ! (λ l₁. alloc1 ! (λ l₂. alloc1 ! (λ l₃. alloc1 ! (λ l₄. alloc1 ! (λ l₅. alloc1 ! (λ l₆. alloc1 ! (λ l₇. alloc1 ! (λ l₈. alloc1 ! (λ l₉. alloc1 ! (λ l₁₀. alloc1 ! (λ l₁₁. alloc1 ! (λ l₁₂. alloc1 ! (λ l₁₃. alloc1 ! (λ l₁₄. alloc1 ! (λ l₁₅. alloc1 ! (λ l₁₆. alloc1 ! (λ l₁₇. alloc1 ! (λ l₁₈. alloc1 ! (λ l₁₉. alloc1 ! (λ l₂₀. alloc0 ! $ params1 ! $
+        pass1 ! (init ! 38 refl (card-typed W (card .x) (card .v) (card .ok))) $ pass1 ! (init ! 36 refl (tt, tt)) $ pass1 ! (init ! 34 refl (tt, (tt, (record { fits = store .room .0 }, tt)))) $ pass1 ! (init ! 32 refl (tt, (tt, (record { fits = rows .room .0 }, tt)))) $ pass1 ! (init ! 30 refl (tt, (tt, (record { fits = buffer .room .0 }, tt)))) $ pass0 ! $
+        move ! (42 ∷ 43 ∷ []) $ begins l₀ l₁ l₂ l₃ l₄ l₅ l₆ l₇ l₈ l₉ l₁₀ l₁₁ l₁₂ l₁₃ l₁₄ l₁₅ l₁₆ l₁₇ l₁₈ l₁₉ l₂₀)))))))))))))))))))))
 
-module _ {M : Type 1} (𝓤 : URA M) (H : Heap 𝓤) (A : Atoms 𝓤) (W : Given 𝓤 H A) (mem : Memory → SProp 𝓤) (run : Routine → Fun 𝓤) (𝓣 : Tables 𝓤 H) (known-core : Triple 𝓤 (𝓣 .C #core) (Core 𝓤 H A mem run)) (known-rises : Triple 𝓤 (𝓣 .C #rises) (Risen 𝓤 H A mem run)) (known-settle : Triple 𝓤 (𝓣 .C #settle) (Settle 𝓤 H A mem run)) (known-reply : Triple 𝓤 (𝓣 .C #reply) (Replied 𝓤 H A mem run)) where
+module _ {M : Type 1} (𝓤 : URA M) (H : Heap 𝓤) (A : Atoms 𝓤) (W : Given 𝓤 H A) (mem : Memory → SProp 𝓤) (run : Routine → Fun 𝓤) (𝓣 : Tables 𝓤 H) (known-core : Triple 𝓤 (𝓣 .C #core) (Core 𝓤 H A mem run)) (known-last : Triple 𝓤 (𝓣 .C #last) (Last 𝓤 H A mem run)) (known-raise : Triple 𝓤 (𝓣 .C #raise) (Raise-each 𝓤 H A mem run)) (known-reply : Triple 𝓤 (𝓣 .C #reply) (Reply 𝓤 H A mem run)) where
   frame-walks : Walks 𝓤 H A frame.ended stayed (WpFn 𝓤 H (𝓣 .C) (𝓣 .Λ) code.function) (frame.clauses 𝓤 H A mem run)
   frame-walks = walked 𝓤 H A frame.ended stayed (frame.clauses 𝓤 H A mem run) (WpFn 𝓤 H (𝓣 .C) (𝓣 .Λ) code.function)
       (λ κs. (card-vals, (ptr-vals, (slice-vals, (slice-vals, (slice-vals, tt))))))
       (λ κs. (card-tells, (mut-tells (named 0) (κs .0) State, (mut-slice-tells (named 1) (κs .1 .0) u8, (mut-slice-tells (named 2) (κs .1 .1 .0) T.the-row, (mut-slice-tells (named 3) (κs .1 .1 .1 .0) u8, tt))))))
       (λ κs qs bounds a g are. via 𝓤 _ (fst∗ 𝓤 _ (emp 𝓤)) (walk 𝓤 H A W mem run (κs .0) (κs .1 .0) (κs .1 .1 .0) (κs .1 .1 .1 .0) (qs .0) (qs .1 .0) (qs .1 .1 .0) (qs .1 .1 .1 .0)
-      (record { x = a .0; v = _; ok = are .0 }) (all-of (a .1 .0)) (taken (a .1 .1 .0) (are .1 .1 .0 .0 .1)) (taken (a .1 .1 .1 .0) (are .1 .1 .1 .0 .0 .1)) (taken (a .1 .1 .1 .1 .0) (are .1 .1 .1 .1 .0 .0 .1)) 𝓣 known-core known-rises known-settle known-reply))
+      (record { x = a .0; v = _; ok = are .0 }) (all-of (a .1 .0)) (taken (a .1 .1 .0) (are .1 .1 .0 .0 .1)) (taken (a .1 .1 .1 .0) (are .1 .1 .1 .0 .0 .1)) (taken (a .1 .1 .1 .1 .0) (are .1 .1 .1 .1 .0 .0 .1)) 𝓣 known-core known-last known-raise known-reply))
 
   frame-meets : Meets 𝓤 H A frame.signature (WpFn 𝓤 H (𝓣 .C) (𝓣 .Λ) code.function) (frame.spec 𝓤 H A mem run)
   frame-meets =
@@ -166,6 +243,6 @@ frame-spec 𝓤 H 𝓜 𝓖 𝓡 =
     (tables 𝓤 H 𝓜 𝓡 code.env .C) (tables 𝓤 H 𝓜 𝓡 code.env .Λ) #frame code.function (code.unfolded 𝓤 H 𝓜 𝓡)
     (frame-meets 𝓤 H (𝓖 .A) (givenOf 𝓤 H 𝓜 𝓖) (𝓜 .mem) (𝓡 .run) (tablesOf 𝓤 H 𝓜 (tables 𝓤 H 𝓜 𝓡 code.env))
     (cited 𝓤 H (Core 𝓤 H (𝓖 .A) (𝓜 .mem) (𝓡 .run)) 𝓜 𝓡 code.env #core core-def.routine code.calls-framing·frame (core-thm.met 𝓤 H 𝓜 𝓖 𝓡))
-    (cited 𝓤 H (Risen 𝓤 H (𝓖 .A) (𝓜 .mem) (𝓡 .run)) 𝓜 𝓡 code.env #rises rises-def.routine code.calls-counters·rises-of (rises-thm.met 𝓤 H 𝓜 𝓖 𝓡))
-    (cited 𝓤 H (Settle 𝓤 H (𝓖 .A) (𝓜 .mem) (𝓡 .run)) 𝓜 𝓡 code.env #settle settle-def.routine code.calls-counters·settle (settle-thm.met 𝓤 H 𝓜 𝓖 𝓡))
-    (cited 𝓤 H (Replied 𝓤 H (𝓖 .A) (𝓜 .mem) (𝓡 .run)) 𝓜 𝓡 code.env #reply reply-def.routine code.calls-counters·answer-of (reply-thm.met 𝓤 H 𝓜 𝓖 𝓡)))
+    (cited 𝓤 H (Last 𝓤 H (𝓖 .A) (𝓜 .mem) (𝓡 .run)) 𝓜 𝓡 code.env #last last-def.routine code.calls-entry·framed-to (last-thm.met 𝓤 H 𝓜 𝓖 𝓡))
+    (cited 𝓤 H (Raise-each 𝓤 H (𝓖 .A) (𝓜 .mem) (𝓡 .run)) 𝓜 𝓡 code.env #raise raise-def.routine code.calls-counters·raise-each (raise-thm.met 𝓤 H 𝓜 𝓖 𝓡))
+    (cited 𝓤 H (Reply 𝓤 H (𝓖 .A) (𝓜 .mem) (𝓡 .run)) 𝓜 𝓡 code.env #reply reply-def.routine code.calls-entry·framed-answer (reply-thm.met 𝓤 H 𝓜 𝓖 𝓡)))
