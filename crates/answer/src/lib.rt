@@ -1,6 +1,6 @@
 // What an event answers, and which counters of which units rise by it.
 ghost use mathlib.Core.Path.{_≡_};
-ghost use Rattle.answer.specs.Answers.{none, arrivalRises, hearingRises, refusedWith, uncountedWith, countedWith};
+ghost use Rattle.answer.specs.Answers.{arrivalRises, hearingRises, uncountedWith, countedWith};
 
 // The fates of an arriving cell.
 pub enum Arrival {
@@ -96,20 +96,6 @@ pub struct Single {
     pub counters: u16,
 }
 
-impl Rises {
-    // No row changes.
-    pub fn none() -> Rises
-        ensures { λ r. ⌜ r ≡ none ⌝ }
-    {
-        Rises {
-            from: 0,
-            to: 0,
-            anew: false,
-            each: [0; 32],
-        }
-    }
-}
-
 // The counters that rise by an arrival with this fate.
 pub fn arrival_rises(fate: Arrival) -> u16
     ensures { λ r. ⌜ r ≡ arrivalRises fate ⌝ }
@@ -134,17 +120,6 @@ pub fn hearing_rises(fate: Hearing) -> u16
         Hearing::Full => FULL,
         Hearing::Clp => CLP,
         Hearing::Queued => QUEUED,
-    }
-}
-
-// An event is refused: nothing changes.
-pub fn refused(number: u8) -> Outcome
-    ensures { λ r. ⌜ r ≡ refusedWith number ⌝ }
-{
-    let rises = Rises::none();
-    Outcome {
-        answer: Answer::Refused(number),
-        rises,
     }
 }
 

@@ -1,7 +1,7 @@
 // A unit's outlet: its limits as a `unit` line gives them, its queues, their capacities.
 ghost use mathlib.Core.Path.{_≡_};
 ghost use Prim.Native.Nat.{_-_};
-ghost use Rattle.outlet.specs.Outlets.{empty as emptyOf, fresh as freshOf, one as oneOf, four as fourOf, capacity as capacityOf, queue as queueOf, given as givenBy, Given, within as isWithin, nothing as isNothing, outletFits};
+ghost use Rattle.outlet.specs.Outlets.{empty as emptyOf, fresh as freshOf, one as oneOf, four as fourOf, capacity as capacityOf, queue as queueOf, Given};
 
 pub enum Mode {
     One,
@@ -146,63 +146,5 @@ pub fn queue(outlet: Outlet, q: u8) -> Ring
         2 => queues[2],
         3 => queues[3],
         _ => empty(),
-    }
-}
-
-// Whether a `unit` line could give these limits.
-pub fn given(limits: Limits) -> bool
-    ensures { λ r. ⌜ r ≡ givenBy limits ⌝ }
-{
-    let mode = limits.mode;
-    match mode {
-        Mode::One => {
-            (limits.cbrlength == 0)
-                & (limits.cbrlimit == 0)
-                & ((1 <= limits.vbrlimit) & (limits.vbrlimit <= Outlet::ONE))
-        }
-        Mode::Four => {
-            ((1 <= limits.cbrlength) & (limits.cbrlength <= Outlet::SHARED - 1))
-                & ((1 <= limits.cbrlimit) & (limits.cbrlimit <= limits.cbrlength))
-                & ((1 <= limits.vbrlimit) & (limits.vbrlimit <= rest(limits.cbrlength)))
-        }
-    }
-}
-
-// Whether the position and the count of a queue that has places are within its capacity.
-pub fn within(ring: Ring, capacity: u8) -> bool
-    ensures { λ r. ⌜ r ≡ isWithin ring capacity ⌝ }
-{
-    (ring.head < capacity) & (ring.count <= capacity)
-}
-
-// Whether those of a queue that has no place are 0.
-fn nothing(ring: Ring) -> bool
-    ensures { λ r. ⌜ r ≡ isNothing ring ⌝ }
-{
-    (ring.head == 0) & (ring.count == 0)
-}
-
-// Whether a `unit` line could give an outlet's limits, and each of its queues fits.
-pub fn fits(outlet: Outlet) -> bool
-    ensures { λ r. ⌜ r ≡ outletFits outlet ⌝ }
-{
-    let limits = outlet.limits;
-    let queues = outlet.queues;
-    let mode = limits.mode;
-    match mode {
-        Mode::One => {
-            given(limits)
-                & (within(queues[0], Outlet::ONE)
-                    & nothing(queues[1])
-                    & nothing(queues[2])
-                    & nothing(queues[3]))
-        }
-        Mode::Four => {
-            given(limits)
-                & (within(queues[0], Outlet::CONTROL)
-                    & within(queues[1], limits.cbrlength)
-                    & within(queues[2], rest(limits.cbrlength))
-                    & within(queues[3], Outlet::ABR))
-        }
     }
 }

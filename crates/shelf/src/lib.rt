@@ -4,7 +4,7 @@ use outlet::Outlet;
 use outlet::Ring;
 ghost use mathlib.Core.Path.{_≡_};
 ghost use Prim.Native.Nat.{min};
-ghost use Rattle.shelf.specs.Sessions.{hears as hearsIt, withSession};
+ghost use Rattle.shelf.specs.Sessions.{hears as hearsIt};
 
 // The first four settings of a `unit` line.
 pub struct Settings {
@@ -49,14 +49,4 @@ pub fn hears(sessions: [u8; 32], session: u8) -> bool
     let at = (session / 8) as usize;
     let bit = session % 8;
     (sessions[at] >> bit) % 2 == 1
-}
-
-// The sessions with this one.
-pub fn with_session(mut sessions: [u8; 32], session: u8) -> [u8; 32]
-    ensures { λ r. ⌜ r ≡ withSession sessions session ⌝ }
-{
-    let at = (session / 8) as usize;
-    let bit = session % 8;
-    sessions[at] = sessions[at] | (1u8 << bit);
-    sessions
 }
