@@ -86,7 +86,10 @@ fn count(tally: Tally, state: &[u8; 2048], store: &[u8], event: Event, unit: u8)
     let rows = tally.rows;
     match owned::count(Card::Wide, state, store, rows, 40, unit) {
         Counted::Counters(c) => say(event, Outcome::Counted(c), b""),
-        Counted::Refused(number) => say(event, Outcome::Answered(Answer::Refused(number)), b""),
+        Counted::Refused(number) => {
+            let number = (number % 256) as u8;
+            say(event, Outcome::Answered(Answer::Refused(number)), b"");
+        }
     }
 }
 

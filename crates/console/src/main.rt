@@ -356,7 +356,13 @@ fn say_counted(counted: Counted, unit: u8, out: &mut [u8], at: usize) -> usize
     match counted {
         Counted::Counters(c) => shown::counted(out, at, unit, c),
         Counted::Refused(number) => {
-            shown::said(out, at, b"count", unit, Answer::Refused(number))
+            shown::said(
+                out,
+                at,
+                b"count",
+                unit,
+                Answer::Refused((number % 256) as u8),
+            )
         }
     }
 }

@@ -122,13 +122,14 @@ fn raise(rows: [Counters; 40], done: Single) -> After
     requires { ⌜ outcomeBy done .rises .to ≤ 32 ⌝ }
     ensures { λ r. ⌜ (r .answer ≡ outcomeBy done .answer) × (r .rows ≡ settled rows (outcomeBy done .rises)) ⌝ }
 {
-    let mut rs = rows;
     if done.counted {
+        let mut rs = rows;
         let i = done.place;
         let c = rs[i];
         rs[i] = c.raised(done.counters);
+        return joined(counters::answer_by(done), rs);
     }
-    joined(done.answer, rs)
+    joined(counters::answer_by(done), rows)
 }
 
 pub fn load(

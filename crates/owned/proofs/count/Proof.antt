@@ -1,9 +1,10 @@
 -- `owned::count` meets its contract. Assumes nothing.
 use mathlib.Core.Path.{_≡_, _∙_}
+use Prim.Native.Nat.{_<_}
 use native.Mathlib.Omega.{arith}
 use lib.ListN.{length}
 use Rattle.outlet.proofs.Laws.{length-mapped}
-use Rattle.owned.proofs.Found.{found, past}
+use Rattle.owned.proofs.Found.{refused, found, below}
 use borrow.Author.Needs.{needs}
 use Rattle.owned.proofs.count.Statement.{statement}
 use Rattle.owned.proofs.count.Tie as tie
@@ -11,45 +12,47 @@ use Rattle.owned.proofs.count.Tie as tie
 counted-requires : tie.Need-counted-requires
 counted-requires c κs = search needs
 
+number-of-requires : tie.Need-number-of-requires
+number-of-requires c κs = search needs
+
+refusal-requires : tie.Need-refusal-requires
+refusal-requires c κs = search needs
+
+returns : tie.Need-returns
+returns c = c .refusal .ensures ∙ refused _ _ (c .before .before .before .counted .ensures) _ (c .before .before .number-of .ensures) (c .before .before .before .before .before .args .t4) (c .before .if1 .taken)
+
 row-at-requires : tie.Need-row-at-requires
 row-at-requires c κs = search needs
 
 mul-row : tie.Need-mul-row
-mul-row c = search needs
+mul-row c =
+    let h : c .row-at .result < 32 = below _ _ _ _ _ _ (c .before .before .before .counted .ensures) _ (c .before .before .number-of .ensures) _ (c .row-at .ensures) (c .before .if1 .left) in
+    search (needs, h)
 
 array-copy-out-row : tie.Need-array-copy-out-row
-array-copy-out-row c = search needs
+array-copy-out-row c =
+    let h : c .row-at .result < 32 = below _ _ _ _ _ _ (c .before .before .before .counted .ensures) _ (c .before .before .number-of .ensures) _ (c .row-at .ensures) (c .before .if1 .left) in
+    search (needs, h)
 
-counted-at-requires : tie.Need-counted-at-requires
-counted-at-requires c κs = search needs
-
-returns : tie.Need-returns
-returns c =
-    c .counted-at .ensures ∙
-    found (c .before .before .before .before .before .before .args .t4) _ _ (c .before .before .before .before .counted .ensures) _ (c .before .before .before .row-at .ensures)
-
-zero-requires : tie.Need-zero-requires
-zero-requires c κs = search needs
-
-counted-at-requires-2 : tie.Need-counted-at-requires-2
-counted-at-requires-2 c κs = search needs
+found-requires : tie.Need-found-requires
+found-requires c κs = search needs
 
 returns-2 : tie.Need-returns-2
 returns-2 c =
-    let long : length (c .before .before .before .before .before .before .args .t4) ≡ 40 = search (needs, length-mapped) in
-    c .counted-at2 .ensures ∙
-    past (c .before .before .before .before .before .before .args .t4) _ _ (c .before .before .before .before .counted .ensures) _ (c .before .before .before .row-at .ensures) (omega arith) _ (c .before .zero .ensures)
+    let h : c .before .before .row-at .result < 32 = below _ _ _ _ _ _ (c .before .before .before .before .before .counted .ensures) _ (c .before .before .before .before .number-of .ensures) _ (c .before .before .row-at .ensures) (c .before .before .before .if1 .left) in
+    let long : length (c .before .before .before .before .before .before .before .args .t4) ≡ 40 = search (needs, length-mapped) in
+    c .found .ensures ∙ found _ _ (c .before .before .before .before .before .counted .ensures) _ (c .before .before .before .before .number-of .ensures) _ (c .before .before .row-at .ensures) (c .before .before .before .before .before .before .before .args .t4) _ (omega arith) (c .before .before .before .if1 .left)
 
 pub count-spec : {M : Type 1} → statement M
 count-spec =
     tie.close
     (tie.spec
     counted-requires
+    number-of-requires
+    refusal-requires
+    returns
     row-at-requires
     mul-row
     array-copy-out-row
-    counted-at-requires
-    returns
-    zero-requires
-    counted-at-requires-2
+    found-requires
     returns-2)
