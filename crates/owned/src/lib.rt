@@ -6,10 +6,11 @@ use answer::Single;
 use card::Card;
 use counters::Counters;
 use entry::Counted;
+use framing::Framed;
 ghost use mathlib.Core.Path.{_≡_};
 ghost use Prim.Native.Nat.{_≤_};
 ghost use Rattle.answer.specs.Answers.{outcomeBy};
-ghost use Rattle.counters.specs.Counting.{settled};
+ghost use Rattle.counters.specs.Counting.{settled, risesTo};
 ghost use Rattle.entry.specs.Outcomes.{arrives, frames, hears, takes, countsOf, loads, LeavesStore, LeavesAll, LeavesBytes, LeavesMemory};
 
 // What is given back, and the rows afterwards.
@@ -100,7 +101,7 @@ fn take_by_entry(
     joined(answer, rs)
 }
 
-// The rows after a load or a frame: by value what `counters::settle` does to lent ones.
+// The rows after a load: by value what `counters::settle` does to lent ones.
 fn settle(rows: [Counters; 40], o: Outcome) -> After
     requires { ⌜ o .rises .to ≤ 32 ⌝ }
     ensures { λ r. ⌜ (r .answer ≡ o .answer) × (r .rows ≡ settled rows (o .rises)) ⌝ }
@@ -130,6 +131,23 @@ fn raise(rows: [Counters; 40], done: Single) -> After
         return joined(counters::answer_by(done), rs);
     }
     joined(counters::answer_by(done), rows)
+}
+
+// The rows after a frame: by value what `counters::raise_each` does to lent ones.
+fn raise_each(rows: [Counters; 40], each: [u16; 32], done: Framed) -> After
+    requires { ⌜ done .to ≤ 32 ⌝ }
+    ensures { λ r. ⌜ (r .answer ≡ done .answer) × (r .rows ≡ settled rows (risesTo (done .to) each)) ⌝ }
+{
+    let answer = done.answer;
+    let n = done.to;
+    let mut rs = rows;
+    let mut i: usize = 0;
+    while i < n {
+        let c = rs[i];
+        rs[i] = counters::risen(c, each[i]);
+        i += 1;
+    }
+    joined(answer, rs)
 }
 
 pub fn load(
@@ -183,7 +201,9 @@ pub fn frame(
     if lent == 40 {
         return frame_by_entry(card, state, store, rows, buffer);
     }
-    settle(rows, framing::frame(card, state, store, lent, buffer))
+    let mut each = [0; 32];
+    let done = framing::frame(card, state, store, lent, buffer, &mut each);
+    raise_each(rows, each, done)
 }
 
 pub fn hear(

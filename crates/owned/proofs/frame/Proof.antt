@@ -21,8 +21,8 @@ returns c = rw (c .before .before .before .before .before .before .before .befor
 frame-requires : tie.Need-frame-requires
 frame-requires c κs = search needs
 
-settle-requires : tie.Need-settle-requires
-settle-requires c κs = c .before .before .before .before .frame .ensures .1 .0
+raise-each-requires : tie.Need-raise-each-requires
+raise-each-requires c κs = search needs
 
 same-length-3 : tie.Need-same-length-3
 same-length-3 c = search needs
@@ -33,7 +33,7 @@ same-length-4 c = search needs
 returns-2 : tie.Need-returns-2
 returns-2 c =
     let d = c .before .before .before .before .before .frame .ensures .0 in
-    (c .settle .ensures .0 ∙ ap (λ (o : Outcome). o .answer) (d .0), (d .1 .0, (d .1 .1 .0, (d .1 .1 .1, c .settle .ensures .1 ∙ ap (λ (o : Outcome). settled (c .before .before .before .before .before .before .before .before .before .before .before .before .args .rows) (o .rises)) (d .0)))))
+    (c .raise-each .ensures .0 ∙ ap (λ (o : Outcome). o .answer) (d .0), (d .1 .0, (d .1 .1 .0, (d .1 .1 .1, c .raise-each .ensures .1 ∙ ap (λ (o : Outcome). settled (c .before .before .before .before .before .before .before .before .before .before .before .before .before .args .rows) (o .rises)) (d .0)))))
 
 pub frame-spec : {M : Type 1} → statement M
 frame-spec =
@@ -44,7 +44,7 @@ frame-spec =
     same-length-2
     returns
     frame-requires
-    settle-requires
+    raise-each-requires
     same-length-3
     same-length-4
     returns-2)
