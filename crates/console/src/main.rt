@@ -29,23 +29,6 @@ struct World {
     open: bool,
 }
 
-// What a command has to say: that it set the card, lent or poked, that it could not, the answer of an event, or what it is to show.
-enum Reply {
-    Set,
-    Lent,
-    Poked,
-    Bad,
-    Answered(Answer),
-    Shown,
-}
-
-// The world after a command, what it has to say, and the buffer that a frame or a take was lent.
-struct Deed {
-    world: World,
-    reply: Reply,
-    buffer: [u8; 1000],
-}
-
 const NEWLINE: u8 = b'\n';
 
 // The most that a line has, and where there is no room left for the longest answer.
@@ -117,30 +100,60 @@ fn unhexed(line: &[u8], from: usize, text: &mut [u8; 75000]) -> usize {
     0
 }
 
-// What a command leaves that is lent no buffer.
-fn did(world: World, reply: Reply) -> Deed {
-    let buffer = [238u8; 1000];
-    Deed {
-        world,
-        reply,
-        buffer,
-    }
+// The answers so far are written out.
+fn write_out(out: &[u8; 200000], at: usize) {
+    let answers = part_of(out, 0, at);
+    io::write_all(1, answers);
 }
 
-// What an event leaves.
-fn handed(mut w: World, after: After, buffer: [u8; 1000]) -> Deed {
-    let rows = after.rows;
+// The world before an answer: what there is is written out if the room is short.
+fn cleared(mut w: World, out: &[u8; 200000]) -> World
+    ensures { λ r. ⌜ r .at ≤ 180000 ⌝ }
+{
+    if FULL < w.at {
+        write_out(out, w.at);
+        w.at = 0;
+    }
+    w
+}
+
+// The world after an answer that ends at a place.
+fn said(mut w: World, at: usize) -> World
+    ensures { λ r. ⌜ r .at ≡ at ⌝ }
+{
+    w.at = at;
+    w
+}
+
+fn say(w: World, text: &[u8], out: &mut [u8; 200000]) -> World
+    requires { ⌜ (w .at ≤ 180000) × (length (now text) ≤ 20) ⌝ }
+{
+    said(w, words::put(out, w.at, text))
+}
+
+// The world after an event, and its answer but for its buffer.
+fn answered(mut w: World, after: After, word: &[u8], unit: u8, out: &mut [u8; 200000]) -> World
+    requires { ⌜ (w .at ≤ 180000) × (length (now word) ≤ 20) ⌝ }
+    ensures { λ r. ⌜ r .at ≤ w .at + 100 ⌝ }
+{
     let answer = after.answer;
+    let rows = after.rows;
+    let end = shown::said(out, w.at, word, unit, answer);
     w.rows = rows;
-    let reply = Reply::Answered(answer);
-    Deed {
-        world: w,
-        reply,
-        buffer,
-    }
+    said(w, end)
 }
 
-fn set_card(w: World, card: Card) -> Deed {
+// The first so many bytes of a buffer.
+fn put_front(w: World, buffer: &[u8], wanted: usize, out: &mut [u8; 200000]) -> World
+    requires { ⌜ (w .at ≤ 180100) × (length (now buffer) ≤ 1000) ⌝ }
+{
+    let n = within(wanted, buffer);
+    said(w, shown::put_bytes(out, w.at, &buffer[..n]))
+}
+
+fn set_card(w: World, card: Card, out: &mut [u8; 200000]) -> World
+    requires { ⌜ w .at ≤ 180000 ⌝ }
+{
     let rows = w.rows;
     let world = World {
         card,
@@ -154,7 +167,7 @@ fn set_card(w: World, card: Card) -> Deed {
         long: w.long,
         open: w.open,
     };
-    did(world, Reply::Set)
+    say(world, b"card\tok", out)
 }
 
 // The first n bytes of b, each with this value.
@@ -174,7 +187,9 @@ fn lend_bank(
     bank: Bank,
     n: usize,
     byte: u8,
-) -> Deed {
+) -> World
+    ensures { λ r. ⌜ r .at ≡ w .at ⌝ }
+{
     match bank {
         Bank::Memory => {
             fill(memory, n, byte);
@@ -185,10 +200,27 @@ fn lend_bank(
             w.store = n;
         }
     }
-    did(w, Reply::Lent)
+    w
 }
 
-fn lend_rows(mut w: World, n: usize, value: u32) -> Deed {
+fn say_lend(
+    w: World,
+    memory: &mut [u8; 300000],
+    store: &mut [u8; 300000],
+    bank: Bank,
+    n: usize,
+    byte: u8,
+    out: &mut [u8; 200000],
+) -> World
+    requires { ⌜ w .at ≤ 180000 ⌝ }
+{
+    let lent = lend_bank(w, memory, store, bank, n, byte);
+    say(lent, b"lend\tok", out)
+}
+
+fn lend_rows(mut w: World, n: usize, value: u32, out: &mut [u8; 200000]) -> World
+    requires { ⌜ w .at ≤ 180000 ⌝ }
+{
     let row = Counters {
         arrived: value,
         hec: value,
@@ -206,17 +238,26 @@ fn lend_rows(mut w: World, n: usize, value: u32) -> Deed {
     };
     w.rows = [row; 40];
     w.lent = n;
-    did(w, Reply::Lent)
+    say(w, b"lend\tok", out)
 }
 
 // The events see of the memory and the store what is lent.
-fn load(w: World, state: &mut [u8; 2048], memory: &mut [u8], store: &[u8], text: &[u8]) -> Deed {
+fn load(
+    w: World,
+    state: &mut [u8; 2048],
+    memory: &mut [u8],
+    store: &[u8],
+    text: &[u8],
+    out: &mut [u8; 200000],
+) -> World
+    requires { ⌜ w .at ≤ 180000 ⌝ }
+{
     let card = w.card;
     let rows = w.rows;
     let m = within(w.memory, memory);
     let s = part_of(store, 0, w.store);
     let after = owned::load(card, text, &mut memory[..m], state, s, rows, w.lent);
-    handed(w, after, [238; 1000])
+    answered(w, after, b"load", 0, out)
 }
 
 fn arrive(
@@ -226,21 +267,33 @@ fn arrive(
     store: &mut [u8],
     unit: u8,
     cell: &[u8],
-) -> Deed {
+    out: &mut [u8; 200000],
+) -> World
+    requires { ⌜ w .at ≤ 180000 ⌝ }
+{
     let card = w.card;
     let rows = w.rows;
     let m = part_of(memory, 0, w.memory);
     let s = within(w.store, store);
     let after = owned::arrive(card, state, m, &mut store[..s], rows, w.lent, unit, cell);
-    handed(w, after, [238; 1000])
+    answered(w, after, b"arrive", unit, out)
 }
 
-fn hear(w: World, state: &mut [u8; 2048], store: &mut [u8], unit: u8, frame: &[u8]) -> Deed {
+fn hear(
+    w: World,
+    state: &mut [u8; 2048],
+    store: &mut [u8],
+    unit: u8,
+    frame: &[u8],
+    out: &mut [u8; 200000],
+) -> World
+    requires { ⌜ w .at ≤ 180000 ⌝ }
+{
     let card = w.card;
     let rows = w.rows;
     let s = within(w.store, store);
     let after = owned::hear(card, state, &mut store[..s], rows, w.lent, unit, frame);
-    handed(w, after, [238; 1000])
+    answered(w, after, b"hear", unit, out)
 }
 
 fn frame_into(
@@ -273,34 +326,65 @@ fn take_into(
 }
 
 // A frame into the first so many bytes of a buffer.
-fn frame(w: World, state: &mut [u8; 2048], store: &mut [u8], wanted: usize) -> Deed {
+fn frame(
+    w: World,
+    state: &mut [u8; 2048],
+    store: &mut [u8; 300000],
+    wanted: usize,
+    out: &mut [u8; 200000],
+) -> World
+    requires { ⌜ w .at ≤ 180000 ⌝ }
+{
     let mut buffer = [238u8; 1000];
     let after = frame_into(w, state, store, &mut buffer, wanted);
-    handed(w, after, buffer)
+    let done = answered(w, after, b"frame", 0, out);
+    put_front(done, &buffer, wanted, out)
 }
 
 // A take into the first so many bytes of a buffer.
-fn take(w: World, state: &mut [u8; 2048], store: &[u8], unit: u8, wanted: usize) -> Deed {
+fn take(
+    w: World,
+    state: &mut [u8; 2048],
+    store: &[u8; 300000],
+    unit: u8,
+    wanted: usize,
+    out: &mut [u8; 200000],
+) -> World
+    requires { ⌜ w .at ≤ 180000 ⌝ }
+{
     let mut buffer = [238u8; 1000];
     let after = take_into(w, state, store, unit, &mut buffer, wanted);
-    handed(w, after, buffer)
+    let done = answered(w, after, b"take", unit, out);
+    put_front(done, &buffer, wanted, out)
 }
 
 // Writes bytes from a place on, if they all lie inside.
-fn poked(b: &mut [u8], to: usize, bytes: &[u8]) -> Reply {
+fn poked(b: &mut [u8], to: usize, bytes: &[u8]) -> bool {
     if to <= b.len() {
         if bytes.len() <= b.len() - to {
             octets::copy(bytes, b, to);
-            return Reply::Poked;
+            return true;
         }
     }
-    Reply::Bad
+    false
 }
 
 // The same, in what is lent.
-fn poke(w: World, b: &mut [u8], lent: usize, to: usize, bytes: &[u8]) -> Deed {
+fn poke(
+    w: World,
+    b: &mut [u8],
+    lent: usize,
+    to: usize,
+    bytes: &[u8],
+    out: &mut [u8; 200000],
+) -> World
+    requires { ⌜ w .at ≤ 180000 ⌝ }
+{
     let n = within(lent, b);
-    did(w, poked(&mut b[..n], to, bytes))
+    if poked(&mut b[..n], to, bytes) {
+        return say(w, b"poke\tok", out);
+    }
+    say(w, b"bad", out)
 }
 
 fn poke_bank(
@@ -310,121 +394,13 @@ fn poke_bank(
     bank: Bank,
     to: usize,
     bytes: &[u8],
-) -> Deed {
+    out: &mut [u8; 200000],
+) -> World
+    requires { ⌜ w .at ≤ 180000 ⌝ }
+{
     match bank {
-        Bank::Memory => poke(w, memory, w.memory, to, bytes),
-        Bank::Store => poke(w, store, w.store, to, bytes),
-    }
-}
-
-// What a command does. From `obey` it goes on to `call` and `set`, each of which is lent less, until one of them knows it: one match over all of them takes the prover too long.
-fn obey(
-    w: World,
-    state: &mut [u8; 2048],
-    memory: &mut [u8; 300000],
-    store: &mut [u8; 300000],
-    bytes: &[u8],
-    command: Command,
-) -> Deed {
-    match command {
-        Command::Lend { bank, length, byte } => {
-            lend_bank(w, memory, store, bank, length as usize, byte)
-        }
-        Command::Load(_) => load(w, state, memory, store, bytes),
-        Command::Arrive { unit, from: _ } => arrive(w, state, memory, store, unit, bytes),
-        Command::Poke { bank, at, from: _ } => {
-            poke_bank(w, memory, store, bank, at as usize, bytes)
-        }
-        _ => call(w, state, store, bytes, command),
-    }
-}
-
-// A command that needs no memory.
-fn call(
-    w: World,
-    state: &mut [u8; 2048],
-    store: &mut [u8; 300000],
-    bytes: &[u8],
-    command: Command,
-) -> Deed {
-    match command {
-        Command::Hear { unit, from: _ } => hear(w, state, store, unit, bytes),
-        Command::Frame(length) => frame(w, state, store, length as usize),
-        Command::Take { unit, length } => take(w, state, store, unit, length as usize),
-        Command::PokeState { at, from: _ } => poke(w, state, 2048, at as usize, bytes),
-        _ => set(w, command),
-    }
-}
-
-// A command that needs nothing that is lent; all others leave everything as it is.
-fn set(w: World, command: Command) -> Deed {
-    match command {
-        Command::Card(card) => set_card(w, card),
-        Command::LendRows { count, value } => lend_rows(w, count as usize, value),
-        _ => did(w, Reply::Shown),
-    }
-}
-
-// The first so many bytes of a buffer.
-fn put_front(out: &mut [u8], at: usize, buffer: &[u8], wanted: usize) -> usize
-    requires { ⌜ (length (now buffer) ≤ 1000) × (at + 2001 ≤ length (now out)) ⌝ }
-{
-    let n = within(wanted, buffer);
-    shown::put_bytes(out, at, &buffer[..n])
-}
-
-// The answer of an event that was handed bytes.
-fn say_event(answer: Answer, command: Command, out: &mut [u8; 200000], at: usize) -> usize
-    requires { ⌜ at ≤ 180000 ⌝ }
-    ensures { λ r. ⌜ r ≤ at + 100 ⌝ }
-{
-    match command {
-        Command::Load(_) => shown::said(out, at, b"load", 0, answer),
-        Command::Arrive { unit, from: _ } => shown::said(out, at, b"arrive", unit, answer),
-        Command::Hear { unit, from: _ } => shown::said(out, at, b"hear", unit, answer),
-        _ => say_handed(answer, command, out, at),
-    }
-}
-
-// The answer of an event that hands bytes out.
-fn say_handed(answer: Answer, command: Command, out: &mut [u8; 200000], at: usize) -> usize
-    requires { ⌜ at ≤ 180000 ⌝ }
-    ensures { λ r. ⌜ r ≤ at + 100 ⌝ }
-{
-    match command {
-        Command::Take { unit, length: _ } => shown::said(out, at, b"take", unit, answer),
-        _ => shown::said(out, at, b"frame", 0, answer),
-    }
-}
-
-// The buffer of an event that hands bytes out, behind its answer.
-fn say_buffer(buffer: [u8; 1000], command: Command, out: &mut [u8; 200000], at: usize) -> usize
-    requires { ⌜ at ≤ 180100 ⌝ }
-{
-    let lent = buffer;
-    match command {
-        Command::Frame(length) => put_front(out, at, &lent, length as usize),
-        Command::Take { unit: _, length } => put_front(out, at, &lent, length as usize),
-        _ => at,
-    }
-}
-
-// What is said of a command that was done and answers nothing else.
-fn ok_text(reply: Reply) -> [u8; 7] {
-    match reply {
-        Reply::Set => *b"card\tok",
-        Reply::Lent => *b"lend\tok",
-        _ => *b"poke\tok",
-    }
-}
-
-fn say_reply(reply: Reply, out: &mut [u8; 200000], at: usize) -> usize
-    requires { ⌜ at ≤ 180000 ⌝ }
-{
-    let text = ok_text(reply);
-    match reply {
-        Reply::Bad => words::put(out, at, b"bad"),
-        _ => words::put(out, at, &text),
+        Bank::Memory => poke(w, memory, w.memory, to, bytes, out),
+        Bank::Store => poke(w, store, w.store, to, bytes, out),
     }
 }
 
@@ -491,53 +467,86 @@ fn show_bank(
     }
 }
 
-// What a command shows.
+// What a command shows of the state, the rows and the store.
 fn show(
     w: World,
     state: &[u8; 2048],
-    memory: &[u8],
     store: &[u8],
     command: Command,
     out: &mut [u8; 200000],
-    at: usize,
 ) -> usize
-    requires { ⌜ at ≤ 180000 ⌝ }
+    requires { ⌜ w .at ≤ 180000 ⌝ }
 {
     match command {
-        Command::Count(unit) => say_count(w, state, store, unit, out, at),
-        Command::Show(bank) => show_bank(w, memory, store, bank, out, at),
-        Command::ShowRows => say_rows(w, out, at),
-        Command::ShowState => shown::state(out, at, state),
-        Command::ShowUnit(unit) => named::unit(out, at, state, unit),
+        Command::Count(unit) => say_count(w, state, store, unit, out, w.at),
+        Command::ShowRows => say_rows(w, out, w.at),
+        Command::ShowState => shown::state(out, w.at, state),
+        Command::ShowUnit(unit) => named::unit(out, w.at, state, unit),
         // all others are done by now
-        _ => at,
+        _ => w.at,
     }
 }
 
-// What a command says.
-fn say(
-    deed: Deed,
+// A command. From `obey` it goes on to `call` and `tell`, each of which is lent less, until one of them knows it: one match over all of them takes the prover too long.
+fn obey(
+    w: World,
+    state: &mut [u8; 2048],
+    memory: &mut [u8; 300000],
+    store: &mut [u8; 300000],
+    bytes: &[u8],
+    command: Command,
+    out: &mut [u8; 200000],
+) -> World
+    requires { ⌜ w .at ≤ 180000 ⌝ }
+{
+    match command {
+        Command::Lend { bank, length, byte } => {
+            say_lend(w, memory, store, bank, length as usize, byte, out)
+        }
+        Command::Load(_) => load(w, state, memory, store, bytes, out),
+        Command::Arrive { unit, from: _ } => arrive(w, state, memory, store, unit, bytes, out),
+        Command::Poke { bank, at, from: _ } => {
+            poke_bank(w, memory, store, bank, at as usize, bytes, out)
+        }
+        Command::Show(bank) => said(w, show_bank(w, memory, store, bank, out, w.at)),
+        _ => call(w, state, store, bytes, command, out),
+    }
+}
+
+// A command that needs no memory.
+fn call(
+    w: World,
+    state: &mut [u8; 2048],
+    store: &mut [u8; 300000],
+    bytes: &[u8],
+    command: Command,
+    out: &mut [u8; 200000],
+) -> World
+    requires { ⌜ w .at ≤ 180000 ⌝ }
+{
+    match command {
+        Command::Hear { unit, from: _ } => hear(w, state, store, unit, bytes, out),
+        Command::Frame(length) => frame(w, state, store, length as usize, out),
+        Command::Take { unit, length } => take(w, state, store, unit, length as usize, out),
+        Command::PokeState { at, from: _ } => poke(w, state, 2048, at as usize, bytes, out),
+        _ => tell(w, state, store, command, out),
+    }
+}
+
+// A command that leaves the state, the memory and the store as they are.
+fn tell(
+    w: World,
     state: &[u8; 2048],
-    memory: &[u8],
     store: &[u8],
     command: Command,
     out: &mut [u8; 200000],
-    at: usize,
-) -> usize
-    requires { ⌜ at ≤ 180000 ⌝ }
+) -> World
+    requires { ⌜ w .at ≤ 180000 ⌝ }
 {
-    let reply = deed.reply;
-    match reply {
-        Reply::Answered(answer) => {
-            let buffer = deed.buffer;
-            let end = say_event(answer, command, out, at);
-            say_buffer(buffer, command, out, end)
-        }
-        Reply::Shown => {
-            let w = deed.world;
-            show(w, state, memory, store, command, out, at)
-        }
-        _ => say_reply(reply, out, at),
+    match command {
+        Command::Card(card) => set_card(w, card, out),
+        Command::LendRows { count, value } => lend_rows(w, count as usize, value, out),
+        _ => said(w, show(w, state, store, command, out)),
     }
 }
 
@@ -550,43 +559,9 @@ fn ended(out: &mut [u8], at: usize) -> usize {
     at
 }
 
-// The answers so far are written out.
-fn write_out(out: &[u8; 200000], at: usize) {
-    let answers = part_of(out, 0, at);
-    io::write_all(1, answers);
-}
-
-// Where the next answer goes: what there is is written out if the room is short.
-fn cleared(out: &[u8; 200000], at: usize) -> usize
-    ensures { λ r. ⌜ r ≤ 180000 ⌝ }
-{
-    if FULL < at {
-        write_out(out, at);
-        return 0;
-    }
-    at
-}
-
-// What a command says, and its newline.
-fn say_line(
-    deed: Deed,
-    state: &[u8; 2048],
-    memory: &[u8],
-    store: &[u8],
-    command: Command,
-    out: &mut [u8; 200000],
-) -> World {
-    let mut w = deed.world;
-    let at = cleared(out, w.at);
-    let end = say(deed, state, memory, store, command, out, at);
-    w.at = ended(out, end);
-    w.long = false;
-    w
-}
-
-fn say_bad(mut w: World, out: &mut [u8; 200000]) -> World {
-    let at = cleared(out, w.at);
-    w.at = words::put(out, at, b"bad\n");
+// A line is answered: a newline behind its answer.
+fn line_said(mut w: World, out: &mut [u8; 200000]) -> World {
+    w.at = ended(out, w.at);
     w.long = false;
     w
 }
@@ -683,10 +658,10 @@ fn turn(
         Reading::Does(command) => {
             let n = unhexed(line, bytes_from(command, line.len()), text);
             let bytes = part_of(text, 0, n);
-            let deed = obey(w, state, memory, store, bytes, command);
-            say_line(deed, state, memory, store, command, out)
+            let ready = cleared(w, out);
+            line_said(obey(ready, state, memory, store, bytes, command, out), out)
         }
-        Reading::Bad => say_bad(w, out),
+        Reading::Bad => line_said(say(cleared(w, out), b"bad", out), out),
     }
 }
 
