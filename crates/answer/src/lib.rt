@@ -1,6 +1,9 @@
-// What an event answers, and which counters of which units rise by it.
+// What an event answers, and which counters of which units rise by it; the counters, and the one function that writes the lent rows.
 ghost use mathlib.Core.Path.{_≡_};
-ghost use Rattle.answer.specs.Answers.{arrivalRises, hearingRises, uncountedWith, countedWith};
+ghost use Prim.Native.Nat.{_<_, _≤_};
+ghost use lib.ListN.{length};
+ghost use Rattle.answer.specs.Answers.{arrivalRises, hearingRises, uncountedWith, countedWith, outcomeBy, #arrived, #queued, #taken};
+ghost use Rattle.answer.specs.Counting.{zeros, tick as ticked, raised as raisedBy, riseAt, riseOf, rowBy, risesTo, settled};
 
 // The fates of an arriving cell.
 pub enum Arrival {
@@ -144,5 +147,275 @@ pub fn counted(answer: Answer, place: usize, counters: u16) -> Single
         counted: true,
         place,
         counters,
+    }
+}
+
+#[repr(C)]
+pub struct Counters {
+    pub arrived: u32,
+    pub hec: u32,
+    pub ignored: u32,
+    pub misrouted: u32,
+    pub inletfull: u32,
+    pub sent: u32,
+    pub unheard: u32,
+    pub damaged: u32,
+    pub queued: u32,
+    pub full: u32,
+    pub clp: u32,
+    pub wide: u32,
+    pub taken: u32,
+}
+
+// A counter one up if its bit is in the set: no bit is above TAKEN.
+fn tick(bit: u16, counters: u16, value: u32) -> u32
+    requires { ⌜ (0 < bit) × (bit ≤ 4096) ⌝ }
+    ensures { λ r. ⌜ r ≡ ticked bit counters value ⌝ }
+{
+    if bit <= counters % (2 * bit) {
+        return std::num::wrapping_add_u32(value, 1);
+    }
+    value
+}
+
+impl Counters {
+    pub fn zero() -> Counters
+        ensures { λ r. ⌜ r ≡ zeros ⌝ }
+    {
+        Counters {
+            arrived: 0,
+            hec: 0,
+            ignored: 0,
+            misrouted: 0,
+            inletfull: 0,
+            sent: 0,
+            unheard: 0,
+            damaged: 0,
+            queued: 0,
+            full: 0,
+            clp: 0,
+            wide: 0,
+            taken: 0,
+        }
+    }
+
+    // Each of this set of counters one up.
+    pub fn raised(self, counters: u16) -> Counters
+        ensures { λ r. ⌜ r ≡ raisedBy self counters ⌝ }
+    {
+        Counters {
+            arrived: tick(ARRIVED, counters, self.arrived),
+            hec: tick(HEC, counters, self.hec),
+            ignored: tick(IGNORED, counters, self.ignored),
+            misrouted: tick(MISROUTED, counters, self.misrouted),
+            inletfull: tick(INLETFULL, counters, self.inletfull),
+            sent: tick(SENT, counters, self.sent),
+            unheard: tick(UNHEARD, counters, self.unheard),
+            damaged: tick(DAMAGED, counters, self.damaged),
+            queued: tick(QUEUED, counters, self.queued),
+            full: tick(FULL, counters, self.full),
+            clp: tick(CLP, counters, self.clp),
+            wide: tick(WIDE, counters, self.wide),
+            taken: tick(TAKEN, counters, self.taken),
+        }
+    }
+}
+
+// The sets of one counter that rise all the time, each written out: the others are then not looked at.
+fn queued_up(c: Counters) -> Counters
+    ensures { λ r. ⌜ r ≡ raisedBy c #queued ⌝ }
+{
+    Counters {
+        arrived: c.arrived,
+        hec: c.hec,
+        ignored: c.ignored,
+        misrouted: c.misrouted,
+        inletfull: c.inletfull,
+        sent: c.sent,
+        unheard: c.unheard,
+        damaged: c.damaged,
+        queued: std::num::wrapping_add_u32(c.queued, 1),
+        full: c.full,
+        clp: c.clp,
+        wide: c.wide,
+        taken: c.taken,
+    }
+}
+
+fn arrived_up(c: Counters) -> Counters
+    ensures { λ r. ⌜ r ≡ raisedBy c #arrived ⌝ }
+{
+    Counters {
+        arrived: std::num::wrapping_add_u32(c.arrived, 1),
+        hec: c.hec,
+        ignored: c.ignored,
+        misrouted: c.misrouted,
+        inletfull: c.inletfull,
+        sent: c.sent,
+        unheard: c.unheard,
+        damaged: c.damaged,
+        queued: c.queued,
+        full: c.full,
+        clp: c.clp,
+        wide: c.wide,
+        taken: c.taken,
+    }
+}
+
+fn taken_up(c: Counters) -> Counters
+    ensures { λ r. ⌜ r ≡ raisedBy c #taken ⌝ }
+{
+    Counters {
+        arrived: c.arrived,
+        hec: c.hec,
+        ignored: c.ignored,
+        misrouted: c.misrouted,
+        inletfull: c.inletfull,
+        sent: c.sent,
+        unheard: c.unheard,
+        damaged: c.damaged,
+        queued: c.queued,
+        full: c.full,
+        clp: c.clp,
+        wide: c.wide,
+        taken: std::num::wrapping_add_u32(c.taken, 1),
+    }
+}
+
+// Each of a set of counters one up.
+pub fn risen(c: Counters, rise: u16) -> Counters
+    ensures { λ r. ⌜ r ≡ raisedBy c rise ⌝ }
+{
+    if rise == QUEUED {
+        return queued_up(c);
+    }
+    if rise == ARRIVED {
+        return arrived_up(c);
+    }
+    if rise == TAKEN {
+        return taken_up(c);
+    }
+    c.raised(rise)
+}
+
+// A row starts anew: above every set of counters.
+const ANEW: u16 = 8192;
+
+// What becomes of the row at place i, in one number: the counters that rise in it, or ANEW.
+pub fn rise_at(rises: Rises, i: usize) -> u16
+    requires { ⌜ i < 32 ⌝ }
+    ensures { λ r. ⌜ r ≡ riseAt rises i ⌝ }
+{
+    if rises.anew {
+        return ANEW;
+    }
+    rises.each[i] % ANEW
+}
+
+// The row c after that.
+pub fn row_by(c: Counters, rise: u16) -> Counters
+    ensures { λ r. ⌜ r ≡ rowBy c rise ⌝ }
+{
+    if rise == ANEW {
+        return Counters::zero();
+    }
+    risen(c, rise)
+}
+
+pub fn rises_of(o: Outcome) -> Rises
+    ensures { λ r. ⌜ r ≡ o .rises ⌝ }
+{
+    o.rises
+}
+
+pub fn answer_of(o: Outcome) -> Answer
+    ensures { λ r. ⌜ r ≡ o .answer ⌝ }
+{
+    o.answer
+}
+
+// The first place whose row changes, and the place after the last.
+pub fn first(rises: Rises) -> usize
+    ensures { λ r. ⌜ r ≡ rises .from ⌝ }
+{
+    rises.from
+}
+
+pub fn last(rises: Rises) -> usize
+    ensures { λ r. ⌜ r ≡ rises .to ⌝ }
+{
+    rises.to
+}
+
+// The counters of a load. It is given no more than the rises, which are read once for each row; a row in which nothing rises is left
+// alone. It, `raise` and `raise_each` are all that write counters.
+pub fn settle(rows: &mut [Counters], rises: Rises)
+    requires { ⌜ (rises .to ≤ 32) × (rises .to ≤ length (now rows)) ⌝ }
+    ensures { λ _. ⌜ now (rows .exit) ≡ settled (now (rows .entry)) rises ⌝ }
+{
+    let n = last(rises);
+    let mut i = first(rises);
+    while i < n {
+        let c = rows[i];
+        let rise = rise_at(rises, i);
+        if rise != 0 {
+            rows[i] = row_by(c, rise);
+        }
+        i += 1;
+    }
+}
+
+// What an event at one unit raises in the row of its place, in one number: 0 where it is not counted.
+pub fn rise_of(done: Single) -> u16
+    ensures { λ r. ⌜ r ≡ riseOf done ⌝ }
+{
+    if done.counted {
+        return done.counters % ANEW;
+    }
+    0
+}
+
+pub fn place_of(done: Single) -> usize
+    ensures { λ r. ⌜ r ≡ done .place ⌝ }
+{
+    done.place
+}
+
+// What it answers.
+pub fn answer_by(done: Single) -> Answer
+    ensures { λ r. ⌜ r ≡ outcomeBy done .answer ⌝ }
+{
+    done.answer
+}
+
+// The counters of an event at one unit: a row is read, and written, only where something rises in it.
+pub fn raise(rows: &mut [Counters], done: Single)
+    requires { ⌜ (outcomeBy done .rises .to ≤ 32) × (outcomeBy done .rises .to ≤ length (now rows)) ⌝ }
+    ensures { λ _. ⌜ now (rows .exit) ≡ settled (now (rows .entry)) (outcomeBy done .rises) ⌝ }
+{
+    let rise = rise_of(done);
+    if rise != 0 {
+        let i = place_of(done);
+        let c = rows[i];
+        rows[i] = risen(c, rise);
+    }
+}
+
+// The counters of a frame, of which each unit has its own. What rises at most units is raised in its row.
+pub fn raise_each(rows: &mut [Counters], each: &[u16], to: usize)
+    requires { ⌜ (to ≤ length (now each)) × (to ≤ length (now rows)) ⌝ }
+    ensures { λ _. ⌜ now (rows .exit) ≡ settled (now (rows .entry)) (risesTo to (now (each .entry))) ⌝ }
+{
+    let mut i: usize = 0;
+    while i < to {
+        let rise = each[i];
+        if rise == QUEUED {
+            let c = rows[i];
+            rows[i] = queued_up(c);
+        } else if rise != 0 {
+            let c = rows[i];
+            rows[i] = risen(c, rise);
+        }
+        i += 1;
     }
 }

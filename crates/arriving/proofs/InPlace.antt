@@ -25,10 +25,10 @@ use Rattle.answer.specs.declared.Arrival as A
 use Rattle.answer.specs.declared.Arrival.the-variants.{Inletfull, Queued}
 use Rattle.answer.specs.Done.{Done, outcomeOf}
 use Rattle.answer.specs.Answers.{refused, spread, outcomeBy}
-use Rattle.admit.specs.declared.Admitted.the-variants as lets
-use Rattle.admit.specs.Admission.{decided, unitAt, withUnit, withInlet, Housed}
-use Rattle.admit.proofs.Laws.{decided-all, decided-both}
-use Rattle.admit.proofs.InPlace.{formed-in, in-place, below-count}
+use Rattle.soundness.specs.declared.Admitted.the-variants as lets
+use Rattle.soundness.specs.Admission.{decided, unitAt, withUnit, withInlet, Housed}
+use Rattle.soundness.proofs.Laws.{decided-all, decided-both}
+use Rattle.soundness.proofs.InPlace.{formed-in, in-place, below-count}
 use Rattle.arriving.specs.Arriving.{wayFor, wayOf, fateBy, arrived, inletFull, cellIn, doneBy, storeBy, doneAt, storeAt, arriveDone}
 use Rattle.arriving.specs.InPlace.{arrivedWith, stateBy, stateAt, comesIn, arriveState}
 use Rattle.arriving.specs.declared.Way.{Way}

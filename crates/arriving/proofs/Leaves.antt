@@ -7,7 +7,7 @@ use mathlib.Core.List.{List}
 use lib.ListN.{getD}
 use Rattle.octets.specs.Octets.{four}
 use Rattle.card.specs.declared.Card.{Card}
-use Rattle.record.specs.Record.{recordAt}
+use Rattle.lookup.specs.Record.{recordAt}
 use Rattle.lookup.specs.Lookup.{soundHeader, translated}
 use Rattle.outlet.specs.declared.Ring.{Ring}
 use Rattle.outlet.specs.Outlets.{RingFits}

@@ -6,7 +6,7 @@ use lib.Dec.{eqb, leb}
 use lib.ListN.{length, getD}
 use Rattle.octets.specs.Octets.{four, part}
 use Rattle.card.specs.declared.Card.{Card}
-use Rattle.record.specs.Record.{recordAt}
+use Rattle.lookup.specs.Record.{recordAt}
 use Rattle.lookup.specs.Lookup.{soundHeader, translated}
 use Rattle.lookup.specs.declared.Looked as L
 use Rattle.lookup.specs.declared.Looked.the-variants as looked
@@ -21,8 +21,8 @@ use Rattle.answer.specs.declared.Arrival.the-variants.{Hec, Ignored, Misrouted,
 use Rattle.answer.specs.declared.Answer.the-variants.{Arrived}
 use Rattle.answer.specs.Done.{Done}
 use Rattle.answer.specs.Answers.{arrivalRises, row, ends, refused}
-use Rattle.admit.specs.declared.Admitted as D
-use Rattle.admit.specs.Admission.{admitted, decided, unitAt, withUnit, withInlet}
+use Rattle.soundness.specs.declared.Admitted as D
+use Rattle.soundness.specs.Admission.{admitted, decided, unitAt, withUnit, withInlet}
 use Rattle.arriving.specs.declared.Way.{Way}
 use Rattle.arriving.specs.declared.Way.the-variants.{Bus, Lost}
 

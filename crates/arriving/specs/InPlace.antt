@@ -14,8 +14,8 @@ use Rattle.answer.specs.declared.Outcome.{Outcome}
 use Rattle.answer.specs.declared.Single.{Single}
 use Rattle.answer.specs.Done.{outcomeOf}
 use Rattle.answer.specs.Answers.{arrivalRises, countedWith, refusedWith}
-use Rattle.admit.specs.declared.Admitted as D
-use Rattle.admit.specs.Admission.{admittedIn, formedOr, decided}
+use Rattle.soundness.specs.declared.Admitted as D
+use Rattle.soundness.specs.Admission.{admittedIn, formedOr, decided}
 use Rattle.arriving.specs.Arriving.{wayOf, inletFull, arriveDone, arriveStore}
 use Rattle.arriving.specs.declared.Way.{Way}
 use Rattle.arriving.specs.declared.Way.the-variants.{Bus, Lost}

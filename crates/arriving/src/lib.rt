@@ -1,5 +1,4 @@
 // Arrival at a unit: one of hec, ignored, misrouted, inletfull, queued.
-use admit::Admitted;
 use answer::Answer;
 use answer::Arrival;
 use answer::Single;
@@ -7,10 +6,11 @@ use card::Card;
 use lookup::Looked;
 use shelf::Settings;
 use shelf::Unit;
+use soundness::Admitted;
 ghost use mathlib.Core.Path.{_≡_};
 ghost use Prim.Native.Nat.{_≤_};
 ghost use lib.ListN.{length};
-ghost use Rattle.admit.specs.Admission.{Housed};
+ghost use Rattle.soundness.specs.Admission.{Housed};
 ghost use Rattle.answer.specs.Done.{outcomeOf};
 ghost use Rattle.answer.specs.Answers.{outcomeBy};
 ghost use Rattle.state.specs.Bytes.{unitIn, shelfIn};
@@ -111,7 +111,7 @@ pub fn arrive(
     ensures { λ r. ⌜ (outcomeBy r ≡ arriveOut card (now (s .entry)) (now (memory .entry)) (length (now (store .entry))) rows unit (now (cell .entry))) × ((now (s .exit) ≡ arriveState card (now (s .entry)) (now (memory .entry)) (length (now (store .entry))) rows unit (now (cell .entry))) × (now (store .exit) ≡ arriveStoreIn card (now (s .entry)) (now (memory .entry)) (now (store .entry)) rows unit (now (cell .entry)))) ⌝ }
     ensures fits { λ r. ⌜ (outcomeBy r .rises .to ≤ 32) × (outcomeBy r .rises .to ≤ rows) ⌝ }
 {
-    match admit::admit(card, s, store.len(), rows, unit, cell.len() == 53) {
+    match soundness::admit(card, s, store.len(), rows, unit, cell.len() == 53) {
         Admitted::At(place) => arrive_at(card, s, place, memory, store, cell),
         Admitted::Refused(number) => answer::uncounted(Answer::Refused(number)),
     }

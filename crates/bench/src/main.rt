@@ -1,7 +1,7 @@
 // The bench: document 01's program. It reads table.txt, then events on standard input, on the wide card.
 use answer::Answer;
+use answer::Counters;
 use card::Card;
-use counters::Counters;
 use entry::Counted;
 use event::Event;
 use written::Outcome;

@@ -9,7 +9,7 @@ use lib.Seq.{drop-cons, set-at}
 use borrow.Author.Tests.{eq-eqb, ne-eqb}
 use Rattle.octets.specs.Octets.{be2, be4, two, four, splice}
 use Rattle.octets.proofs.Parts.{written}
-use Rattle.routing.specs.Routing.{address}
+use Rattle.bus.specs.Routing.{address}
 use Rattle.bus.specs.Frame.{cell, parity, sealed, delivered, heard}
 use Rattle.bus.specs.declared.Heard.the-variants.{Length, Damaged}
 

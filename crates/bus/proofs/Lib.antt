@@ -1,2 +1,4 @@
+pub mod Table
+pub mod RoutingLaws
 pub mod Laws
 pub mod Wire

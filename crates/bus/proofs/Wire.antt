@@ -9,11 +9,11 @@ use Rattle.octets.specs.Octets.{two, four}
 use Rattle.octets.proofs.Numbers.{two-be2, four-be4, two-append, four-append}
 use Rattle.remainder.specs.Bits.{bits, number}
 use Rattle.remainder.specs.Division.{minus, divide, remainder, residue}
-use Rattle.routing.specs.Routing.{check, routing, address}
-use Rattle.routing.specs.declared.Target.{Target}
-use Rattle.routing.specs.declared.Target.the-variants.{Unit}
-use Rattle.routing.specs.Routing.{Sayable}
-use Rattle.routing.proofs.Laws.{address-routing, routing-lt}
+use Rattle.bus.specs.Routing.{check, routing, address}
+use Rattle.bus.specs.declared.Target.{Target}
+use Rattle.bus.specs.declared.Target.the-variants.{Unit}
+use Rattle.bus.specs.Routing.{Sayable}
+use Rattle.bus.proofs.RoutingLaws.{address-routing, routing-lt}
 use Rattle.bus.specs.Frame.{cell, parity, exclusiveOr, sealed, delivered, heard}
 use Rattle.bus.specs.declared.Heard.the-variants.{Cell}
 use Rattle.bus.proofs.Laws.{heard-address}

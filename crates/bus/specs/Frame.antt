@@ -7,9 +7,9 @@ use lib.Bits.{bitXor}
 use lib.Dec.{eqb}
 use lib.ListN.{length, getD, take}
 use Rattle.octets.specs.Octets.{be2, be4, two, four, part}
-use Rattle.routing.specs.Routing.{address}
-use Rattle.routing.specs.declared.Address.{Address}
-use Rattle.routing.specs.declared.Address.the-variants.{Bad, To}
+use Rattle.bus.specs.Routing.{address}
+use Rattle.bus.specs.declared.Address.{Address}
+use Rattle.bus.specs.declared.Address.the-variants.{Bad, To}
 use Rattle.bus.specs.declared.Heard.{Heard}
 use Rattle.bus.specs.declared.Heard.the-variants.{Length, Damaged, Cell}
 

@@ -1,11 +1,11 @@
 // Document 01's listing and its values on each side of a line, and data sheet 004's worked examples, through `owned`.
 use answer::Answer;
 use answer::Arrival;
+use answer::Counters;
 use answer::Hearing;
+use bus::Target;
 use card::Card;
-use counters::Counters;
 use entry::Counted;
-use routing::Target;
 
 // The counter rows; an array by itself cannot take a call's result.
 struct Tally {
@@ -215,7 +215,7 @@ fn frame_of(class: u8, header: u32) -> [u8; 57] {
     let payload = [165u8; 48];
     let mut cell = [0u8; 56];
     bus::compose(
-        routing::write(Target::Unit(0), class),
+        bus::write(Target::Unit(0), class),
         header,
         &payload,
         &mut cell,

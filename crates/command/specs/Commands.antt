@@ -5,11 +5,11 @@ use mathlib.Core.List.{List, [], _∷_}
 use lib.Dec.{eqb, leb}
 use lib.ListN.{length, getD}
 use Rattle.text.specs.Text.{fieldsOf, fieldOf}
-use Rattle.lent.specs.declared.Reading.{Reading}
-use Rattle.lent.specs.declared.Reading.the-variants.{Bad}
-use Rattle.fields.specs.Fields.{placeIn}
-use Rattle.lent.specs.Lent.{cardLine, lendLine, pokeLine, showLine}
-use Rattle.called.specs.Called.{loadLine, arriveLine, hearLine, frameLine, takeLine, countLine}
+use Rattle.command.specs.declared.Reading.{Reading}
+use Rattle.command.specs.declared.Reading.the-variants.{Bad}
+use Rattle.command.specs.Fields.{placeIn}
+use Rattle.command.specs.Lent.{cardLine, lendLine, pokeLine, showLine}
+use Rattle.command.specs.Called.{loadLine, arriveLine, hearLine, frameLine, takeLine, countLine}
 use Rattle.command.specs.Names.{commands}
 
 -- how many fields the lines of each command but `show` have, and what each reads; in the order of `commands`

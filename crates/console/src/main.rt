@@ -1,12 +1,12 @@
 // The console: one command a line on standard input, one answer a line on standard output (docs/CONSOLE.md).
 // The state, the memory and the store are lent to every command; its bytes in hex are read before it is done, and its answer is written after that.
 use answer::Answer;
+use answer::Counters;
 use card::Card;
-use counters::Counters;
+use command::Bank;
+use command::Command;
+use command::Reading;
 use entry::Counted;
-use lent::Bank;
-use lent::Command;
-use lent::Reading;
 use owned::After;
 ghost use mathlib.Core.Path.{_≡_};
 ghost use Prim.Native.Nat.{_+_, _≤_, _<_};
@@ -92,8 +92,8 @@ fn bytes_from(command: Command, end: usize) -> usize {
 fn unhexed(line: &[u8], from: usize, text: &mut [u8; 75000]) -> usize {
     let hex = part_of(line, from, line.len());
     if hex.len() / 2 <= 75000 {
-        if hex::is_hex(hex) {
-            hex::unhex(hex, text, 0);
+        if text::is_hex(hex) {
+            text::unhex(hex, text, 0);
             return hex.len() / 2;
         }
     }
@@ -128,7 +128,7 @@ fn said(mut w: World, at: usize) -> World
 fn say(w: World, text: &[u8], out: &mut [u8; 200000]) -> World
     requires { ⌜ (w .at ≤ 180000) × (length (now text) ≤ 20) ⌝ }
 {
-    said(w, words::put(out, w.at, text))
+    said(w, text::put(out, w.at, text))
 }
 
 // The world after an event, and its answer but for its buffer.
@@ -138,7 +138,7 @@ fn answered(mut w: World, after: After, word: &[u8], unit: u8, out: &mut [u8; 20
 {
     let answer = after.answer;
     let rows = after.rows;
-    let end = shown::said(out, w.at, word, unit, answer);
+    let end = written::said(out, w.at, word, unit, answer);
     w.rows = rows;
     said(w, end)
 }
@@ -148,7 +148,7 @@ fn put_front(w: World, buffer: &[u8], wanted: usize, out: &mut [u8; 200000]) -> 
     requires { ⌜ (w .at ≤ 180100) × (length (now buffer) ≤ 1000) ⌝ }
 {
     let n = within(wanted, buffer);
-    said(w, shown::put_bytes(out, w.at, &buffer[..n]))
+    said(w, written::put_bytes(out, w.at, &buffer[..n]))
 }
 
 fn set_card(w: World, card: Card, out: &mut [u8; 200000]) -> World
@@ -422,9 +422,9 @@ fn say_count(
     requires { ⌜ at ≤ 180000 ⌝ }
 {
     match count(w, state, store, unit) {
-        Counted::Counters(c) => shown::counted(out, at, unit, c),
+        Counted::Counters(c) => written::counted(out, at, unit, c),
         Counted::Refused(number) => {
-            shown::said(
+            written::said(
                 out,
                 at,
                 b"count",
@@ -440,7 +440,7 @@ fn say_sum(b: &[u8], lent: usize, text: &[u8], out: &mut [u8; 200000], at: usize
     requires { ⌜ (length (now text) ≤ 20) × (at ≤ 180000) ⌝ }
 {
     let part = part_of(b, 0, lent);
-    shown::summed(out, at, text, part.len() as u64, sum::fnv(part))
+    written::summed(out, at, text, part.len() as u64, text::fnv(part))
 }
 
 fn say_rows(w: World, out: &mut [u8; 200000], at: usize) -> usize
@@ -448,7 +448,7 @@ fn say_rows(w: World, out: &mut [u8; 200000], at: usize) -> usize
 {
     let n = least(w.lent, 40);
     let rows = w.rows;
-    shown::rows(out, at, n, rows)
+    written::rows(out, at, n, rows)
 }
 
 fn show_bank(
@@ -480,7 +480,7 @@ fn show(
     match command {
         Command::Count(unit) => say_count(w, state, store, unit, out, w.at),
         Command::ShowRows => say_rows(w, out, w.at),
-        Command::ShowState => shown::state(out, w.at, state),
+        Command::ShowState => written::state(out, w.at, state),
         Command::ShowUnit(unit) => named::unit(out, w.at, state, unit),
         // all others are done by now
         _ => w.at,

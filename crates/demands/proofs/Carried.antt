@@ -1,7 +1,7 @@
 -- The three demands are met. Assumes nothing.
 use Rattle.paper.proofs.Layouts.{layout, layout-once}
-use Rattle.wording.proofs.Numerals.{numeral-iff}
-use Rattle.wording.proofs.Texts.{texts-apart}
+use Rattle.paper.proofs.Numerals.{numeral-iff}
+use Rattle.paper.proofs.Texts.{texts-apart}
 use Rattle.promise.proofs.Refusals.{either-way}
 use Rattle.promise.proofs.Cards.{wide-or-not}
 use Rattle.promise.proofs.Values.{starred-hold}

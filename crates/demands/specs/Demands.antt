@@ -7,12 +7,12 @@ use mathlib.Core.Bool.{true}
 use mathlib.Core.List.{List}
 use lib.Dec.{T}
 use lib.ListN.{length}
-use Rattle.routing.specs.Routing.{check}
+use Rattle.bus.specs.Routing.{check}
 use Rattle.card.specs.declared.Card.{Card}
 use Rattle.state.specs.Bytes.{shelfIn}
 use Rattle.line.specs.declared.Line.{Line}
 use Rattle.paper.specs.Layouts.{Layout, LayoutOnce}
-use Rattle.wording.specs.Reads.{NumeralIff, TextsApart}
+use Rattle.paper.specs.Reads.{NumeralIff, TextsApart}
 use Rattle.promise.specs.Refusals.{Accepts, Refuses}
 use Rattle.promise.specs.Narrow.{NoneWide, FirstWide}
 use Rattle.promise.specs.Sheet.{sheet}

@@ -10,8 +10,8 @@ use Rattle.bus.specs.Frame.{heard, payload}
 use Rattle.bus.specs.declared.Heard as B
 use Rattle.bus.specs.declared.Heard.the-variants as sort
 use Rattle.outlet.specs.declared.Limits.{Limits}
-use Rattle.queueing.specs.declared.Leaving as L
-use Rattle.queueing.specs.declared.Leaving.the-variants as leaves
+use Rattle.outlet.specs.declared.Leaving as L
+use Rattle.outlet.specs.declared.Leaving.the-variants as leaves
 use Rattle.shelf.specs.declared.Settings.{Settings}
 use Rattle.shelf.specs.declared.Found as F
 use Rattle.shelf.specs.declared.Found.the-variants as found

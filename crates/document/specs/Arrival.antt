@@ -10,7 +10,7 @@ use Rattle.header.specs.Fields.{fields, word}
 use Rattle.header.specs.Check.{check}
 use Rattle.header.specs.declared.Header as H
 use Rattle.header.specs.declared.Link.the-variants.{Nni}
-use Rattle.routing.specs.declared.Target.{Target}
+use Rattle.bus.specs.declared.Target.{Target}
 use Rattle.shelf.specs.declared.Settings.{Settings}
 use Rattle.line.specs.declared.Line.{Line}
 use Rattle.told.specs.Served.{Serving, by-vp, by-drop, by-vc, served}

@@ -8,8 +8,8 @@ use Rattle.header.specs.Fields.{fields, word}
 use Rattle.header.specs.Check.{check}
 use Rattle.header.specs.declared.Link.{Link}
 use Rattle.header.specs.declared.Link.the-variants.{Uni, Nni}
-use Rattle.routing.specs.Routing.{routing, check as routingCheck}
-use Rattle.routing.specs.declared.Target.the-variants as target
+use Rattle.bus.specs.Routing.{routing, check as routingCheck}
+use Rattle.bus.specs.declared.Target.the-variants as target
 use Rattle.bus.specs.Frame.{cell, sealed}
 use Rattle.arbiter.specs.Arbitration.{nobody}
 use Rattle.shelf.specs.declared.Settings.{Settings}

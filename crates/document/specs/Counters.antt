@@ -3,7 +3,7 @@ use Prim.Native.Nat.{ℕ, suc, _%_, _^_}
 use mathlib.Core.Bool.{Bool, true, false, cond, _&&_}
 use mathlib.Core.List.{List, [], _∷_, map}
 use lib.Dec.{eqb}
-use Rattle.counters.specs.declared.Counters as C
+use Rattle.answer.specs.declared.Counters as C
 use Rattle.paper.specs.Counters.{Counter, arrived, hec, ignored, misrouted, inletfull, sent, unheard, damaged, queued, full, clp, wide, taken, placeOf}
 
 -- a line of the history: at the unit with this number something happened that this counter counts

@@ -4,7 +4,7 @@ use mathlib.Core.List.{List, []}
 use mathlib.Core.Option.{Option, none, some}
 use Rattle.answer.specs.Answers.{numberOf}
 use Rattle.answer.specs.declared.Answer as A
-use Rattle.counters.specs.declared.Counters as C
+use Rattle.answer.specs.declared.Counters as C
 
 -- every event with every argument: a cell, a frame or a buffer is a list of bytes of any length
 pub data Event : Type 0 where

@@ -4,7 +4,7 @@ use mathlib.Core.Bool.{Bool, true, false}
 use mathlib.Core.List.{List, [], _∷_, _++_}
 use lib.ListN.{replicate}
 use Rattle.header.specs.declared.Link.the-variants.{Uni}
-use Rattle.routing.specs.declared.Target.the-variants as target
+use Rattle.bus.specs.declared.Target.the-variants as target
 use Rattle.outlet.specs.declared.Mode.the-variants.{One, Four}
 use Rattle.outlet.specs.declared.Limits.{Limits}
 use Rattle.shelf.specs.declared.Settings.{Settings}

@@ -3,13 +3,13 @@ use Prim.Native.Nat.{ℕ}
 use mathlib.Core.Bool.{Bool, true, cond, _&&_}
 use mathlib.Core.List.{List, [], _∷_, _++_}
 use lib.Dec.{eqb, leb}
-use Rattle.routing.specs.declared.Target as T
-use Rattle.routing.specs.declared.Target.the-variants as target
+use Rattle.bus.specs.declared.Target as T
+use Rattle.bus.specs.declared.Target.the-variants as target
 use Rattle.bus.specs.Frame.{heard, payload}
 use Rattle.bus.specs.declared.Heard as H
 use Rattle.bus.specs.declared.Heard.the-variants as frame
 use Rattle.outlet.specs.Outlets.{capacity}
-use Rattle.queueing.specs.Hearing.{queueOf, limit, tooWide, busClp}
+use Rattle.outlet.specs.Hearing.{queueOf, limit, tooWide, busClp}
 use Rattle.line.specs.declared.Line.{Line}
 use Rattle.told.specs.Told.{hearsIn}
 use Rattle.answer.specs.declared.Hearing as A

@@ -7,10 +7,10 @@ use Rattle.octets.specs.Octets.{be4}
 use Rattle.header.specs.Check.{check}
 use Rattle.outlet.specs.declared.Mode.{Mode}
 use Rattle.outlet.specs.declared.Mode.the-variants.{One, Four}
-use Rattle.queueing.specs.Hearing.{limit}
-use Rattle.queueing.specs.Taking.{lowest, queues, outgoing}
-use Rattle.queueing.specs.declared.Leaving as L
-use Rattle.queueing.specs.declared.Leaving.the-variants as leaves
+use Rattle.outlet.specs.Hearing.{limit}
+use Rattle.outlet.specs.Taking.{lowest, queues, outgoing}
+use Rattle.outlet.specs.declared.Leaving as L
+use Rattle.outlet.specs.declared.Leaving.the-variants as leaves
 use Rattle.answer.specs.declared.Answer as A
 use Rattle.answer.specs.declared.Answer.the-variants.{Taken, Empty}
 use Rattle.paper.specs.Counters.{taken}

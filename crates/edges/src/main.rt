@@ -22,7 +22,7 @@ fn tried(name: &[u8], card: Card, text: &[u8], memory: &mut [u8], store: usize, 
     io::write_all(1, name);
     io::write_all(1, b": ");
     let mut state = [7u8; 2048];
-    show(table::load(card, text, memory, &mut state, store, rows));
+    show(table::load_text(card, text, memory, &mut state, store, rows));
 }
 
 fn texts() {

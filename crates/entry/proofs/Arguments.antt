@@ -33,8 +33,8 @@ use Rattle.answer.specs.declared.Answer.{Answer}
 use Rattle.answer.specs.declared.Outcome.{Outcome}
 use Rattle.answer.specs.declared.Rises.{Rises}
 use Rattle.answer.specs.declared.Single.{Single}
-use Rattle.counters.proofs.Counters as T
-use Rattle.counters.proofs.Row as R
+use Rattle.answer.proofs.Counters as T
+use Rattle.answer.proofs.Row as R
 use Rattle.answer.proofs.Outcome as D
 use Rattle.answer.proofs.Outcome.Laws as D′
 use Rattle.answer.proofs.Answer as N

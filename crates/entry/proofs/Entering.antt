@@ -1,4 +1,4 @@
--- What the walks of the entry points share: parameters taken apart and put together, and the calls that end each: what rises, `counters::settle`, what is given back; of an event at one unit `counters::raise`, what is given back; of a frame `counters::raise_each`.
+-- What the walks of the entry points share: parameters taken apart and put together, and the calls that end each: what rises, `answer::settle`, what is given back; of an event at one unit `answer::raise`, what is given back; of a frame `answer::raise_each`.
 --     parted, packed   from what all own together to what each owns, the last first, and back.        untied, tied     likewise of tokens
 --     living, lived    tokens one by one, as a walk has them, to what a signature asks, and back: by induction, since the two compared as they stand cost twice as much with each token more
 --     told             what a covered function leaves.        freed, places     the end: locals are freed
@@ -35,17 +35,17 @@ use denote.Struct.Laws as LL
 use denote.Enum.Laws as EL
 use denote.Triple.Statement.{Contract, Triple}
 use denote.Triple.Walked.{says}
-use Rattle.counters.specs.declared.Counters.{Counters}
-use Rattle.counters.specs.Counting.{settled, risesTo}
+use Rattle.answer.specs.declared.Counters.{Counters}
+use Rattle.answer.specs.Counting.{settled, risesTo}
 use Rattle.answer.specs.declared.Outcome.{Outcome}
 use Rattle.answer.specs.declared.Answer.{Answer}
 use Rattle.answer.specs.declared.Rises.{Rises}
 use Rattle.answer.specs.declared.Single.{Single}
 use Rattle.answer.specs.Answers.{outcomeBy}
-use Rattle.counters.proofs.Calls.{Of, calls-of, calls-plain}
+use Rattle.answer.proofs.Calls.{Of, calls-of, calls-plain}
 use Rattle.entry.proofs.Arguments.{lifetimes, shares, Cell, names}
 use mathlib.Core.Option.{Option, none, some}
-use Rattle.counters.proofs.Counters as T
+use Rattle.answer.proofs.Counters as T
 use Rattle.answer.proofs.Outcome as D
 use Rattle.answer.proofs.Outcome.Laws as D′
 use Rattle.answer.proofs.Answer as N
@@ -54,18 +54,18 @@ use Rattle.answer.proofs.Single as O
 use Rattle.answer.proofs.Single.Laws as O′
 use Rattle.answer.proofs.Rises as S
 use Rattle.answer.proofs.Rises.Laws as S′
-use Rattle.counters.proofs.rises_of as rises
-use Rattle.counters.proofs.rises_of.Symbol.{name as #rises}
-use Rattle.counters.proofs.answer_of as reply
-use Rattle.counters.proofs.answer_of.Symbol.{name as #reply}
-use Rattle.counters.proofs.settle as settle
-use Rattle.counters.proofs.settle.Symbol.{name as #settle}
-use Rattle.counters.proofs.answer_by as answer
-use Rattle.counters.proofs.answer_by.Symbol.{name as #answer}
-use Rattle.counters.proofs.raise as raise
-use Rattle.counters.proofs.raise.Symbol.{name as #raise}
-use Rattle.counters.proofs.raise_each as raise-each
-use Rattle.counters.proofs.raise_each.Symbol.{name as #raise-each}
+use Rattle.answer.proofs.rises_of as rises
+use Rattle.answer.proofs.rises_of.Symbol.{name as #rises}
+use Rattle.answer.proofs.answer_of as reply
+use Rattle.answer.proofs.answer_of.Symbol.{name as #reply}
+use Rattle.answer.proofs.settle as settle
+use Rattle.answer.proofs.settle.Symbol.{name as #settle}
+use Rattle.answer.proofs.answer_by as answer
+use Rattle.answer.proofs.answer_by.Symbol.{name as #answer}
+use Rattle.answer.proofs.raise as raise
+use Rattle.answer.proofs.raise.Symbol.{name as #raise}
+use Rattle.answer.proofs.raise_each as raise-each
+use Rattle.answer.proofs.raise_each.Symbol.{name as #raise-each}
 
 -- ---- what the parameters own, one by one
 abbrev pub each : (Ts : List RattleType) → Denots Ts → Valss Ts → List Fml

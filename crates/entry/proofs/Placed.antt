@@ -3,9 +3,9 @@ use mathlib.Core.Path.{_≡_}
 use mathlib.Core.List.{List}
 use lib.ListN.{getD}
 use borrow.Author.Tests.{eq-eqb, ne-eqb}
-use Rattle.admit.specs.declared.Place.{Place}
-use Rattle.counters.specs.declared.Counters as C
-use Rattle.counters.specs.Counting.{zeros}
+use Rattle.soundness.specs.declared.Place.{Place}
+use Rattle.answer.specs.declared.Counters as C
+use Rattle.answer.specs.Counting.{zeros}
 use Rattle.entry.specs.Counts.{counted, countOf}
 use Rattle.entry.specs.declared.Counted.the-variants.{Counters, Refused}
 

@@ -7,15 +7,15 @@ use lib.ListN.{length}
 use Rattle.card.specs.declared.Card.{Card}
 use Rattle.answer.specs.declared.Answer.{Answer}
 use Rattle.answer.specs.declared.Outcome.{Outcome}
-use Rattle.counters.specs.Counting.{settled}
-use Rattle.counters.specs.declared.Counters as C
-use Rattle.admit.specs.Admission.{countedIn}
+use Rattle.answer.specs.Counting.{settled}
+use Rattle.answer.specs.declared.Counters as C
+use Rattle.soundness.specs.Admission.{countedIn}
 use Rattle.arriving.specs.InPlace.{arriveOut, arriveState, arriveStoreIn}
 use Rattle.framing.specs.InPlace.{frameOut, frameState, frameStoreIn, frameBufferIn}
 use Rattle.hearing.specs.InPlace.{hearOut, hearState, hearStoreIn}
 use Rattle.taking.specs.InPlace.{takeOut, takeState, takeBufferIn}
-use Rattle.loading.specs.InPlace.{loadOut, loadState}
-use Rattle.loading.specs.Loads.{loadMemory}
+use Rattle.table.specs.EventInPlace.{loadOut, loadState}
+use Rattle.table.specs.Loads.{loadMemory}
 use Rattle.entry.specs.declared.Counted.{Counted}
 use Rattle.entry.specs.Counts.{countOf}
 

@@ -1,13 +1,13 @@
 // The six functions that others call, with the state lent. Each has a covered function do all but the counters, and `counters` writes those.
-use admit::Place;
 use answer::Answer;
+use answer::Counters;
 use card::Card;
-use counters::Counters;
 use framing::Framed;
+use soundness::Place;
 ghost use mathlib.Core.Path.{_≡_};
 ghost use lib.ListN.{length};
-ghost use Rattle.entry.specs.declared.Counted.the-variants as counted;
 ghost use Rattle.entry.specs.Outcomes.{arrives, frames, hears, takes, countsOf, loads, LeavesStore, LeavesAll, LeavesBytes, LeavesMemory};
+ghost use Rattle.entry.specs.declared.Counted.the-variants as counted;
 
 // A route table is loaded.
 pub fn load(
@@ -21,10 +21,10 @@ pub fn load(
     ensures { λ r. ⌜ LeavesMemory (loads card (now (text .entry)) (now (memory .entry)) (now (store .entry)) (now (rows .entry)) (length (now (rows .entry)))) r (now (memory .exit)) (now (state .exit)) (now (rows .exit)) ⌝ }
 {
     let n = rows.len();
-    let done = loading::load(card, text, memory, state, store, n);
-    let rises = counters::rises_of(done);
-    counters::settle(rows, rises);
-    counters::answer_of(done)
+    let done = table::load(card, text, memory, state, store, n);
+    let rises = answer::rises_of(done);
+    answer::settle(rows, rises);
+    answer::answer_of(done)
 }
 
 // A cell arrives at a unit.
@@ -41,8 +41,8 @@ pub fn arrive(
 {
     let n = rows.len();
     let done = arriving::arrive(card, state, memory, store, n, unit, cell);
-    counters::raise(rows, done);
-    counters::answer_by(done)
+    answer::raise(rows, done);
+    answer::answer_by(done)
 }
 
 // The parts of what a frame comes to: up to which row counters rise; what is given back.
@@ -72,7 +72,7 @@ pub fn frame(
     let mut each = [0; 32];
     let done = framing::frame(card, state, store, n, buffer, &mut each);
     let to = framed_to(done);
-    counters::raise_each(rows, &each, to);
+    answer::raise_each(rows, &each, to);
     framed_answer(done)
 }
 
@@ -89,8 +89,8 @@ pub fn hear(
 {
     let n = rows.len();
     let done = hearing::hear(card, state, store, n, unit, frame);
-    counters::raise(rows, done);
-    counters::answer_by(done)
+    answer::raise(rows, done);
+    answer::answer_by(done)
 }
 
 // The oldest cell is taken from a unit.
@@ -106,8 +106,8 @@ pub fn take(
 {
     let n = rows.len();
     let done = taking::take(card, state, store, n, unit, buffer);
-    counters::raise(rows, done);
-    counters::answer_by(done)
+    answer::raise(rows, done);
+    answer::answer_by(done)
 }
 
 // What a count answers: the counters of the unit, or the number of the refusal, a word as they are, so that both answers stand at one place.
@@ -147,7 +147,7 @@ pub fn count(card: Card, state: &[u8; 2048], store: &[u8], rows: &[Counters], un
     ensures { λ r. ⌜ r ≡ countsOf card (now (state .entry)) (now (store .entry)) (now (rows .entry)) (length (now (rows .entry))) unit ⌝ }
 {
     let n = rows.len();
-    let place = admit::counted(card, state, store, n, unit);
+    let place = soundness::counted(card, state, store, n, unit);
     let number = number_of(place);
     if number != 0 {
         return refusal(number);

@@ -9,9 +9,9 @@ use lib.ListN.{length, drop, drop-of-length-le, length-append}
 use borrow.Author.Tests.{eqb-true}
 use Rattle.octets.specs.Octets.{splice}
 use Rattle.text.proofs.Numbers.{first, second}
-use Rattle.hex.specs.Hex.{isHex, unhex}
-use Rattle.hex.proofs.HexLaws.{length-unhex}
-use Rattle.hex.proofs.Splices.{splice-on}
+use Rattle.text.specs.Hex.{isHex, unhex}
+use Rattle.text.proofs.HexLaws.{length-unhex}
+use Rattle.text.proofs.Splices.{splice-on}
 use Rattle.event.specs.Events.{hexes, headOf}
 
 -- what n hex digits are

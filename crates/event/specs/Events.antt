@@ -6,10 +6,10 @@ use lib.Dec.{eqb}
 use lib.ListN.{length, getD}
 use Rattle.octets.specs.Octets.{four}
 use Rattle.text.specs.Text.{fieldsOf, fieldOf, same}
-use Rattle.hex.specs.Hex.{isHex, unhex}
-use Rattle.words.specs.Decimals.{numberOf}
-use Rattle.words.specs.declared.Numeral as Num
-use Rattle.words.specs.declared.Numeral.the-variants.{Is, Above, None}
+use Rattle.text.specs.Hex.{isHex, unhex}
+use Rattle.text.specs.Decimals.{numberOf}
+use Rattle.text.specs.declared.Numeral as Num
+use Rattle.text.specs.declared.Numeral.the-variants.{Is, Above, None}
 use Rattle.event.specs.Names.{wArrive, wFrame, wTake, wCount}
 use Rattle.event.specs.declared.Named as Nam
 use Rattle.event.specs.declared.Named.the-variants.{Unit, Nothing}

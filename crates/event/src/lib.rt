@@ -1,5 +1,5 @@
 // An event line of the bench, read.
-use words::Numeral;
+use text::Numeral;
 ghost use mathlib.Core.Path.{_≡_};
 ghost use mathlib.Core.Bool.{true};
 ghost use lib.ListN.{length};
@@ -31,7 +31,7 @@ pub enum Named {
 pub fn unit_of(s: &[u8]) -> Named
     ensures { λ r. ⌜ r ≡ unitOf (now (s .entry)) ⌝ }
 {
-    match words::number(s, 254) {
+    match text::number(s, 254) {
         Numeral::Is(n) => Named::Unit(n as u8),
         Numeral::Above => Named::Unit(255),
         Numeral::None => Named::Nothing,
@@ -45,7 +45,7 @@ fn hexes(s: &[u8], n: usize) -> bool
     if s.len() != n {
         return false;
     }
-    hex::is_hex(s)
+    text::is_hex(s)
 }
 
 // The header, its check and the payload byte.
@@ -54,8 +54,8 @@ fn head(header: &[u8], byte: &[u8]) -> [u8; 6]
     ensures { λ r. ⌜ r ≡ headOf (now (header .entry)) (now (byte .entry)) ⌝ }
 {
     let mut bytes = [0u8; 6];
-    hex::unhex(header, &mut bytes, 0);
-    hex::unhex(byte, &mut bytes, 5);
+    text::unhex(header, &mut bytes, 0);
+    text::unhex(byte, &mut bytes, 5);
     bytes
 }
 

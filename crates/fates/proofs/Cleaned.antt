@@ -9,14 +9,14 @@ use lib.Dec.{eqb, leb}
 use lib.ListN.{length, length-set, getD, set}
 use lib.Seq.{take-at}
 use borrow.Author.Tests.{eqb-true, eqb-false}
-use Rattle.routing.specs.Routing.{routing}
-use Rattle.routing.specs.declared.Target as T
-use Rattle.routing.specs.declared.Target.the-variants as target
+use Rattle.bus.specs.Routing.{routing}
+use Rattle.bus.specs.declared.Target as T
+use Rattle.bus.specs.declared.Target.the-variants as target
 use Rattle.bus.specs.Frame.{cell, parity, sealed, heard, payload}
 use Rattle.bus.specs.declared.Heard.the-variants as sort
 use Rattle.bus.proofs.Wire.{sent-is-heard}
 use Rattle.outlet.specs.Outlets.{capacity}
-use Rattle.queueing.specs.Hearing.{queueOf, limit, tooWide, busClp}
+use Rattle.outlet.specs.Hearing.{queueOf, limit, tooWide, busClp}
 use Rattle.card.specs.declared.Card.{Card}
 use Rattle.arbiter.specs.Arbitration.{nobody}
 use Rattle.line.specs.declared.Line.{Line}

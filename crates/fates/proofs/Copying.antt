@@ -6,8 +6,8 @@ use mathlib.Core.Logic.{_≢_, ⊎-elim}
 use mathlib.Core.List.{List, [], _∷_, _++_}
 use lib.ListN.{length, length-append, getD, set}
 use lib.Seq.{getD-set-same, getD-set-other}
-use Rattle.queueing.specs.Hearing.{queueOf}
-use Rattle.queueing.proofs.Fates.{queue-lt}
+use Rattle.outlet.specs.Hearing.{queueOf}
+use Rattle.outlet.proofs.Fates.{queue-lt}
 use Rattle.line.specs.declared.Line.{Line}
 use Rattle.answer.specs.declared.Hearing as Q
 use Rattle.answer.specs.declared.Hearing.the-variants as hearing

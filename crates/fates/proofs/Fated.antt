@@ -12,13 +12,13 @@ use borrow.Author.Tests.{eqb-true, eqb-false, leb-true, leb-false, ltb-true, ltb
 use Rattle.octets.specs.Octets.{four, part}
 use Rattle.header.specs.Check.{check}
 use Rattle.header.specs.declared.Header as H
-use Rattle.routing.specs.declared.Target as T
-use Rattle.routing.specs.declared.Target.the-variants as target
+use Rattle.bus.specs.declared.Target as T
+use Rattle.bus.specs.declared.Target.the-variants as target
 use Rattle.bus.specs.Frame.{heard}
 use Rattle.bus.specs.declared.Heard as B
 use Rattle.bus.specs.declared.Heard.the-variants as frame
-use Rattle.queueing.specs.Hearing.{busClp, tooWide}
-use Rattle.queueing.proofs.Fates.{wide-iff}
+use Rattle.outlet.specs.Hearing.{busClp, tooWide}
+use Rattle.outlet.proofs.Fates.{wide-iff}
 use Rattle.line.specs.declared.Line.{Line}
 use Rattle.line.specs.declared.Line.the-variants.{Bus, Unit as L·Unit, Vp, Drop, Page, Vc, Mc}
 use Rattle.told.specs.Told.{only, either, hearsBy, hearsIn}

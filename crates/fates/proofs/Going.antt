@@ -23,7 +23,7 @@ use Rattle.soundness.specs.State.{Sound}
 use Rattle.soundness.proofs.Facts.{sound-iff}
 use Rattle.line.specs.declared.Line.{Line}
 use Rattle.told.proofs.Grown.{decide}
-use Rattle.admit.specs.Admission.{unitAt}
+use Rattle.soundness.specs.Admission.{unitAt}
 use Rattle.answer.specs.declared.Answer.the-variants.{Framed}
 use Rattle.document.specs.Events.{frame, answers}
 use Rattle.document.specs.Shelf as D

@@ -14,13 +14,13 @@ use Rattle.octets.specs.Octets.{four, part}
 use Rattle.octets.proofs.Parts.{getD-any}
 use Rattle.header.specs.Check.{check}
 use Rattle.header.specs.declared.Header as H
-use Rattle.routing.specs.declared.Target as T
-use Rattle.routing.specs.declared.Target.the-variants as target
+use Rattle.bus.specs.declared.Target as T
+use Rattle.bus.specs.declared.Target.the-variants as target
 use Rattle.bus.specs.Frame.{heard, payload}
 use Rattle.bus.specs.declared.Heard as B
 use Rattle.bus.specs.declared.Heard.the-variants as sort
-use Rattle.queueing.specs.Hearing.{queueOf}
-use Rattle.queueing.proofs.Fates.{queue-lt}
+use Rattle.outlet.specs.Hearing.{queueOf}
+use Rattle.outlet.proofs.Fates.{queue-lt}
 use Rattle.shelf.specs.declared.Found.the-variants as found
 use Rattle.line.specs.declared.Line.{Line}
 use Rattle.told.proofs.Grown.{decide}

@@ -22,21 +22,21 @@ use Rattle.shelf.specs.Shelves.{declared, blank, findIn, isAt}
 use Rattle.shelf.specs.declared.Found.the-variants as found
 use Rattle.shelf.specs.declared.Unit as U
 use Rattle.shelf.specs.Shelf.{Shelf}
-use Rattle.queueing.specs.Taking.{leaving}
-use Rattle.queueing.specs.declared.Leaving as L
-use Rattle.queueing.specs.declared.Leaving.the-variants as leaves
+use Rattle.outlet.specs.Taking.{leaving}
+use Rattle.outlet.specs.declared.Leaving as L
+use Rattle.outlet.specs.declared.Leaving.the-variants as leaves
 use Rattle.answer.specs.Answers.{row, refused, arrivalRises, hearingRises, #taken}
 use Rattle.answer.specs.declared.Arrival.the-variants.{Inletfull, Queued}
-use Rattle.counters.specs.Counting.{settled, settledTo, zeros}
-use Rattle.counters.proofs.Settling.{settled-ahead, settled-behind, length-settled}
-use Rattle.counters.specs.declared.Counters as C
+use Rattle.answer.specs.Counting.{settled, settledTo, zeros}
+use Rattle.answer.proofs.Settling.{settled-ahead, settled-behind, length-settled}
+use Rattle.answer.specs.declared.Counters as C
 use Rattle.state.specs.Bytes.{shelfIn}
 use Rattle.soundness.specs.Soundings.{formedAll}
-use Rattle.admit.specs.Admission.{admitted, admittedIn, decided, unitAt, withUnit, withInlet, Housed}
-use Rattle.admit.specs.declared.Admitted as A
-use Rattle.admit.specs.declared.Admitted.the-variants.{At, Refused}
-use Rattle.admit.proofs.Laws.{at-let-in, let-in-housed}
-use Rattle.admit.proofs.InPlace.{in-place}
+use Rattle.soundness.specs.Admission.{admitted, admittedIn, decided, unitAt, withUnit, withInlet, Housed}
+use Rattle.soundness.specs.declared.Admitted as A
+use Rattle.soundness.specs.declared.Admitted.the-variants.{At, Refused}
+use Rattle.soundness.proofs.Laws.{at-let-in, let-in-housed}
+use Rattle.soundness.proofs.InPlace.{in-place}
 use Rattle.arriving.proofs.InPlace.{arrive-other}
 use Rattle.hearing.proofs.InPlace.{hear-other}
 use Rattle.taking.proofs.InPlace.{take-other}

@@ -15,8 +15,8 @@ use Rattle.shelf.specs.declared.Found.the-variants as found
 use Rattle.arbiter.specs.Arbitration.{renewedFrom}
 use Rattle.arbiter.specs.declared.Arbiter.{Arbiter}
 use Rattle.arbiter.proofs.Grants.{granted-length}
-use Rattle.queueing.specs.declared.Leaving as L
-use Rattle.queueing.specs.declared.Leaving.the-variants as leaves
+use Rattle.outlet.specs.declared.Leaving as L
+use Rattle.outlet.specs.declared.Leaving.the-variants as leaves
 use Rattle.store.proofs.Slots.{by-lt}
 use Rattle.told.proofs.Grown.{decide}
 use Rattle.document.specs.Events.{Event, arrive, frame, hear, take-cell, count}

@@ -7,7 +7,7 @@ use lib.ListN.{length}
 use Rattle.bus.specs.Frame.{heard, payload}
 use Rattle.bus.specs.declared.Heard.the-variants.{Cell}
 use Rattle.arbiter.specs.Arbitration.{nobody}
-use Rattle.routing.specs.declared.Target.{Target}
+use Rattle.bus.specs.declared.Target.{Target}
 use Rattle.document.specs.Events.{frame}
 use Rattle.paper.specs.Counters.{Counter, unheard, damaged}
 use Rattle.document.specs.Counters.{times}

@@ -9,13 +9,13 @@ use lib.ListN.{length, getD}
 use Rattle.octets.specs.Octets.{four}
 use Rattle.header.specs.Check.{check}
 use Rattle.header.specs.declared.Header as H
-use Rattle.routing.specs.declared.Target as T
-use Rattle.routing.specs.declared.Target.the-variants as target
+use Rattle.bus.specs.declared.Target as T
+use Rattle.bus.specs.declared.Target.the-variants as target
 use Rattle.bus.specs.Frame.{heard}
 use Rattle.bus.specs.declared.Heard as B
 use Rattle.bus.specs.declared.Heard.the-variants as frame
 use Rattle.outlet.specs.Outlets.{capacity}
-use Rattle.queueing.specs.Hearing.{queueOf, limit, busClp, TooWide}
+use Rattle.outlet.specs.Hearing.{queueOf, limit, busClp, TooWide}
 use Rattle.shelf.specs.declared.Found.the-variants.{At}
 use Rattle.line.specs.declared.Line.{Line}
 use Rattle.line.specs.declared.Line.the-variants.{Vp, Drop, Vc, Mc}

@@ -9,7 +9,7 @@ use Rattle.octets.specs.Octets.{part}
 use Rattle.header.specs.declared.Header as H
 use Rattle.bus.specs.Frame.{heard, payload}
 use Rattle.bus.specs.declared.Heard as B
-use Rattle.queueing.specs.Hearing.{queueOf}
+use Rattle.outlet.specs.Hearing.{queueOf}
 use Rattle.shelf.specs.declared.Found.the-variants.{At}
 use Rattle.line.specs.declared.Line.{Line}
 use Rattle.told.specs.Served.{Serving, by-vp, by-drop, by-vc}

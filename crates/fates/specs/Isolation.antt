@@ -9,8 +9,8 @@ use Rattle.card.specs.declared.Card.{Card}
 use Rattle.store.specs.Places.{partOf}
 use Rattle.shelf.specs.Shelves.{declared, findIn}
 use Rattle.shelf.specs.declared.Found.the-variants.{At, Nothing}
-use Rattle.counters.specs.Counting.{zeros}
-use Rattle.admit.specs.Admission.{unitAt}
+use Rattle.answer.specs.Counting.{zeros}
+use Rattle.soundness.specs.Admission.{unitAt}
 use Rattle.document.specs.Events.{Event, named}
 use Rattle.running.specs.Events.{World}
 use Rattle.running.specs.Lent.{Lent, Long, does, seen}

@@ -4,7 +4,7 @@ use mathlib.Core.List.{List}
 use lib.ListN.{length}
 use Rattle.card.specs.declared.Card.{Card}
 use Rattle.line.specs.declared.Line.{Line}
-use Rattle.counters.specs.declared.Counters as C
+use Rattle.answer.specs.declared.Counters as C
 use Rattle.promise.specs.Refusals.{Accepts}
 use Rattle.document.specs.Events.{Event}
 use Rattle.document.specs.Shelf.{Shelf, opened}

@@ -12,7 +12,7 @@ use Rattle.shelf.specs.declared.Found as F
 use Rattle.shelf.specs.declared.Found.the-variants.{At, Nothing}
 use Rattle.bus.specs.declared.Heard as H
 use Rattle.bus.specs.declared.Heard.the-variants as frames
-use Rattle.queueing.specs.Hearing.{queueOf}
+use Rattle.outlet.specs.Hearing.{queueOf}
 use Rattle.line.specs.declared.Line.{Line}
 use Rattle.answer.specs.declared.Hearing as A
 use Rattle.answer.specs.declared.Hearing.the-variants as hearing

@@ -17,14 +17,14 @@ use Rattle.header.specs.declared.Header as H
 use Rattle.header.specs.declared.Link.{Link}
 use Rattle.header.specs.declared.Link.the-variants.{Nni}
 use Rattle.header.proofs.Laws.{fields-word}
-use Rattle.routing.specs.declared.Target.{Target}
+use Rattle.bus.specs.declared.Target.{Target}
 use Rattle.shelf.specs.declared.Settings.{Settings}
 use Rattle.line.specs.declared.Line.{Line}
 use Rattle.line.specs.declared.Line.the-variants.{Bus, Unit as L·Unit, Vp, Drop, Page, Vc, Mc}
 use Rattle.told.specs.Told.{only, either}
-use Rattle.wording.specs.Words.{InRange, AllInRange}
+use Rattle.paper.specs.Words.{InRange, AllInRange}
 use Rattle.told.specs.Served.{Serving, by-vp, by-drop, by-vc, serves, served}
-use Rattle.record.specs.Record.{usable}
+use Rattle.lookup.specs.Record.{usable}
 use Rattle.answer.specs.declared.Arrival.the-variants.{Hec, Ignored, Misrouted}
 use Rattle.document.specs.Shelf.{Routed}
 use Rattle.document.specs.Arrival.{Way, goes, lost, routed, wayBy, wayFor, wayOf, headerOf}

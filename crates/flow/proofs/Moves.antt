@@ -16,11 +16,11 @@ use Rattle.octets.specs.Octets.{four, part}
 use Rattle.bus.specs.declared.Heard as H
 use Rattle.bus.specs.declared.Heard.the-variants as frames
 use Rattle.outlet.specs.Outlets.{capacity}
-use Rattle.queueing.specs.Hearing.{queueOf, limit, tooWide, busClp}
-use Rattle.queueing.specs.Taking.{queues}
-use Rattle.queueing.specs.declared.Leaving as L
-use Rattle.queueing.specs.declared.Leaving.the-variants as leaves
-use Rattle.queueing.proofs.Fates.{queue-lt}
+use Rattle.outlet.specs.Hearing.{queueOf, limit, tooWide, busClp}
+use Rattle.outlet.specs.Taking.{queues}
+use Rattle.outlet.specs.declared.Leaving as L
+use Rattle.outlet.specs.declared.Leaving.the-variants as leaves
+use Rattle.outlet.proofs.Fates.{queue-lt}
 use Rattle.shelf.specs.declared.Settings.{Settings}
 use Rattle.line.specs.declared.Line.{Line}
 use Rattle.told.proofs.Grown.{decide}

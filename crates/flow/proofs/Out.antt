@@ -19,16 +19,16 @@ use Rattle.header.specs.declared.Link.the-variants.{Nni}
 use Rattle.bus.specs.Frame.{heard}
 use Rattle.bus.specs.declared.Heard.the-variants as frames
 use Rattle.bus.proofs.Laws.{heard-length}
-use Rattle.routing.specs.declared.Target.{Target}
+use Rattle.bus.specs.declared.Target.{Target}
 use Rattle.outlet.specs.declared.Mode.{Mode}
 use Rattle.outlet.specs.declared.Mode.the-variants.{One, Four}
 use Rattle.outlet.proofs.Truth.{le-iff, and-iff, or-iff}
-use Rattle.queueing.specs.Hearing.{limit, TooWide}
-use Rattle.queueing.proofs.Fates.{limit-in}
-use Rattle.queueing.specs.Taking.{marked, outgoing}
-use Rattle.queueing.specs.declared.Leaving as L
-use Rattle.queueing.specs.declared.Leaving.the-variants as leaves
-use Rattle.queueing.proofs.Headers.{outgoing-fields, vpi-kept, outgoing-lt}
+use Rattle.outlet.specs.Hearing.{limit, TooWide}
+use Rattle.outlet.proofs.Fates.{limit-in}
+use Rattle.outlet.specs.Taking.{marked, outgoing}
+use Rattle.outlet.specs.declared.Leaving as L
+use Rattle.outlet.specs.declared.Leaving.the-variants as leaves
+use Rattle.outlet.proofs.Headers.{outgoing-fields, vpi-kept, outgoing-lt}
 use Rattle.document.specs.Take.{lineCell}
 use Rattle.line.specs.declared.Line.{Line}
 use Rattle.told.proofs.Grown.{decide}

@@ -12,8 +12,8 @@ use borrow.Author.Tests.{eqb-true, eqb-false, eq-eqb, ne-eqb}
 use Rattle.arbiter.specs.Arbitration.{nobody, besides, due, renewedFrom, unitOf}
 use Rattle.arbiter.proofs.Requests.{asks-without}
 use Rattle.arbiter.proofs.Grants.{granted-asks, granted-changes, not-granted}
-use Rattle.queueing.specs.declared.Leaving as L
-use Rattle.queueing.specs.declared.Leaving.the-variants as leaves
+use Rattle.outlet.specs.declared.Leaving as L
+use Rattle.outlet.specs.declared.Leaving.the-variants as leaves
 use Rattle.shelf.specs.Shelves.{placeFrom}
 use Rattle.shelf.specs.declared.Found as F
 use Rattle.shelf.specs.declared.Found.the-variants.{At, Nothing}

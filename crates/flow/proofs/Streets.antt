@@ -11,10 +11,10 @@ use borrow.Author.Tests.{eqb-true}
 use Rattle.bus.specs.Frame.{payload}
 use Rattle.bus.specs.declared.Heard as H
 use Rattle.bus.specs.declared.Heard.the-variants as frames
-use Rattle.routing.specs.declared.Target as T
-use Rattle.routing.specs.declared.Target.the-variants as targets
-use Rattle.queueing.specs.Hearing.{queueOf, tooWide, TooWide}
-use Rattle.queueing.proofs.Fates.{wide-iff}
+use Rattle.bus.specs.declared.Target as T
+use Rattle.bus.specs.declared.Target.the-variants as targets
+use Rattle.outlet.specs.Hearing.{queueOf, tooWide, TooWide}
+use Rattle.outlet.proofs.Fates.{wide-iff}
 use Rattle.line.specs.declared.Line.{Line}
 use Rattle.answer.specs.declared.Hearing as A
 use Rattle.answer.specs.declared.Hearing.the-variants as hearing

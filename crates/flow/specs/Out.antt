@@ -12,7 +12,7 @@ use Rattle.header.specs.declared.Header as H
 use Rattle.header.specs.declared.Link.{Link}
 use Rattle.header.specs.declared.Link.the-variants.{Nni}
 use Rattle.outlet.specs.declared.Limits.{Limits}
-use Rattle.queueing.specs.Taking.{marked}
+use Rattle.outlet.specs.Taking.{marked}
 use Rattle.arbiter.specs.Arbitration.{nobody}
 use Rattle.line.specs.declared.Line.{Line}
 use Rattle.answer.specs.declared.Answer.the-variants.{Taken}
@@ -24,7 +24,7 @@ use Rattle.document.specs.Frame.{frameOf}
 use Rattle.document.specs.Take.{handed}
 use Rattle.document.specs.Steps.{happensTo, becomes}
 use Rattle.flow.specs.Lost.{Different}
-use Rattle.wording.specs.Words.{AllInRange}
+use Rattle.paper.specs.Words.{AllInRange}
 use Rattle.flow.specs.Street.{declaredAt, Arrived, CameFrom, Follows}
 
 -- the shelf after some events

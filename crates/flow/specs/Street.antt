@@ -10,12 +10,12 @@ use Rattle.header.specs.declared.Header as H
 use Rattle.header.specs.declared.Link.the-variants.{Nni}
 use Rattle.bus.specs.Frame.{heard, payload}
 use Rattle.bus.specs.declared.Heard.the-variants as frames
-use Rattle.routing.specs.declared.Target.{Target}
-use Rattle.queueing.specs.Hearing.{queueOf, TooWide}
+use Rattle.bus.specs.declared.Target.{Target}
+use Rattle.outlet.specs.Hearing.{queueOf, TooWide}
 use Rattle.shelf.specs.declared.Settings.{Settings}
 use Rattle.line.specs.declared.Line.{Line}
 use Rattle.line.specs.declared.Line.the-variants.{Vp, Vc}
-use Rattle.wording.specs.Words.{AllInRange}
+use Rattle.paper.specs.Words.{AllInRange}
 use Rattle.document.specs.Events.{Event, arrive, hear}
 use Rattle.document.specs.Shelf.{Cell, Routed, Unit, numberOf, queueAt, blank, unitAt, unitsOf, opened}
 use Rattle.document.specs.Arrival.{goes, headerOf, wayOf}

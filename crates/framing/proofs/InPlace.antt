@@ -24,8 +24,8 @@ use Rattle.soundness.specs.State.{soundOf}
 use Rattle.soundness.specs.Soundings.{formedAll, soundIn}
 use Rattle.soundness.proofs.Kept.{formed-ring, formed-turn}
 use Rattle.answer.specs.Answers.{refused}
-use Rattle.admit.specs.Admission.{formedOr}
-use Rattle.admit.proofs.InPlace.{sound-in}
+use Rattle.soundness.specs.Admission.{formedOr}
+use Rattle.soundness.proofs.InPlace.{sound-in}
 use Rattle.framing.specs.Requests.{requests, askingNow}
 use Rattle.framing.specs.Sending.{sentFrame}
 use Rattle.framing.specs.Frames.{sender, granted, listenedBy, listenedOf, doneAt, checked, frameDone}

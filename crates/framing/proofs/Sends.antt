@@ -25,7 +25,7 @@ use Rattle.shelf.proofs.Finding.{declared-length}
 use Rattle.state.specs.Bytes.{col, ringBy, unitBy, unitIn, shelfIn}
 use Rattle.state.proofs.Laws.{units-length, unit-at, inlet-put}
 use Rattle.state.proofs.Kept.{ring-long}
-use Rattle.admit.specs.Admission.{unitAt, withUnit, withInlet, Housed}
+use Rattle.soundness.specs.Admission.{unitAt, withUnit, withInlet, Housed}
 use Rattle.framing.specs.Sending.{sentRises, heardByAll, heardStore, sentFrame, cellOut, sentBy, sentStore, AllHoused}
 use Rattle.framing.specs.Frames.{checked}
 use Rattle.framing.specs.Scenes.{Tally, heededOf, heededBy, AllHousedIn}

@@ -14,7 +14,7 @@ use Rattle.soundness.specs.Soundings.{soundIn}
 use Rattle.answer.specs.declared.Outcome.{Outcome}
 use Rattle.answer.specs.Done.{outcomeOf}
 use Rattle.answer.specs.Answers.{refusedWith}
-use Rattle.admit.specs.Admission.{formedOr}
+use Rattle.soundness.specs.Admission.{formedOr}
 use Rattle.framing.specs.declared.Framed as D
 use Rattle.framing.specs.Sending.{sentFrame}
 use Rattle.framing.specs.Frames.{sender, granted, checked, frameDone, frameStore, frameBuffer}

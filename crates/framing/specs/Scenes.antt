@@ -8,7 +8,7 @@ use Rattle.store.specs.Places.{Cell}
 use Rattle.state.specs.Bytes.{unitIn}
 use Rattle.answer.specs.declared.Hearing as A
 use Rattle.answer.specs.Answers.{hearingRises, queuedOne, isAddressed}
-use Rattle.admit.specs.Admission.{Housed}
+use Rattle.soundness.specs.Admission.{Housed}
 use Rattle.hearing.specs.Hearings.{planOf, fateBy, storeOf}
 use Rattle.hearing.specs.InPlace.{stateBy}
 use Rattle.framing.specs.declared.Heeded.{Heeded}

@@ -13,7 +13,7 @@ use Rattle.shelf.specs.declared.Unit as U
 use Rattle.shelf.specs.Shelf.{Shelf}
 use Rattle.answer.specs.declared.Hearing as A
 use Rattle.answer.specs.Answers.{#sent, #unheard, hearingRises, queuedOne, isAddressed}
-use Rattle.admit.specs.Admission.{unitAt, withUnit, withInlet, Housed}
+use Rattle.soundness.specs.Admission.{unitAt, withUnit, withInlet, Housed}
 use Rattle.hearing.specs.Hearings.{Copy, copyOf, storeOf}
 
 -- the shelf after a frame, the counters that rise at each declared unit, how many copies were queued, whether some unit was addressed

@@ -2,9 +2,9 @@
 use answer::Answer;
 use answer::Hearing;
 use arbiter::Arbiter;
+use bus::Address;
 use bus::Heard;
 use card::Card;
-use routing::Address;
 use shelf::Found;
 use shelf::Unit;
 ghost use mathlib.Core.Path.{_≡_};
@@ -14,7 +14,7 @@ ghost use Rattle.bus.specs.Frame.{sealed, heard as heardOf};
 ghost use Rattle.state.specs.Bytes.{unitIn, shelfIn};
 ghost use Rattle.answer.specs.Done.{outcomeOf};
 ghost use Rattle.answer.specs.Answers.{queuedOne, isAddressed, refusedWith};
-ghost use Rattle.admit.specs.Admission.{Housed};
+ghost use Rattle.soundness.specs.Admission.{Housed};
 ghost use Rattle.hearing.specs.Hearings.{planOf, fateBy, storeOf};
 ghost use Rattle.hearing.specs.InPlace.{stateBy as heardState};
 ghost use Rattle.framing.specs.Requests.{askingNow, requests};
@@ -146,7 +146,7 @@ fn hear_sent(cell: &[u8]) -> Heard
     requires { ⌜ length (now cell) ≡ 56 ⌝ }
     ensures { λ r. ⌜ r ≡ heardOf (sealed (now (cell .entry))) ⌝ }
 {
-    let Address::To { target, class } = routing::read(octets::two(cell, 0)) else {
+    let Address::To { target, class } = bus::read(octets::two(cell, 0)) else {
         return Heard::Damaged;
     };
     let header = octets::four(cell, 4);

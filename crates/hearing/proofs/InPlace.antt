@@ -14,9 +14,9 @@ use Rattle.octets.specs.Octets.{splice}
 use Rattle.outlet.specs.Outlets.{capacity, queue}
 use Rattle.outlet.specs.declared.Limits.{Limits}
 use Rattle.outlet.specs.declared.Ring.{Ring}
-use Rattle.queueing.specs.Hearing.{queueOf, limit, held, fateIn}
-use Rattle.queueing.specs.declared.Fate as F
-use Rattle.queueing.proofs.Fates.{queue-lt, fate-in}
+use Rattle.outlet.specs.Hearing.{queueOf, limit, held, fateIn}
+use Rattle.outlet.specs.declared.Fate as F
+use Rattle.outlet.proofs.Fates.{queue-lt, fate-in}
 use Rattle.store.specs.Rings.{tail, pushed}
 use Rattle.store.specs.Places.{Cell, slotAt, outletSlot, putAt}
 use Rattle.shelf.specs.Shelves.{declared, blank}
@@ -32,11 +32,11 @@ use Rattle.state.proofs.Laws.{unit-at, queue-put, ring-there}
 use Rattle.state.proofs.Kept.{ring-long, ring-other}
 use Rattle.soundness.specs.Soundings.{formedAll}
 use Rattle.soundness.proofs.Kept.{formed-ring}
-use Rattle.admit.specs.Admission.{admitted, decided, unitAt, withUnit}
-use Rattle.admit.specs.declared.Admitted as D
-use Rattle.admit.specs.declared.Admitted.the-variants.{At, Refused}
-use Rattle.admit.proofs.Laws.{decided-at, decided-refused}
-use Rattle.admit.proofs.InPlace.{in-place, refused-place}
+use Rattle.soundness.specs.Admission.{admitted, decided, unitAt, withUnit}
+use Rattle.soundness.specs.declared.Admitted as D
+use Rattle.soundness.specs.declared.Admitted.the-variants.{At, Refused}
+use Rattle.soundness.proofs.Laws.{decided-at, decided-refused}
+use Rattle.soundness.proofs.InPlace.{in-place, refused-place}
 use Rattle.hearing.specs.Hearings.{planFor, planTo, planOf, fateBy, copyBy, slotOf, storeBy, copyOf, storeOf, doneAt, storeAt, hearDone}
 use Rattle.hearing.specs.InPlace.{stateBy, stateAt, outcomeAt, letInPlace, hearOut, hearState, hearStoreIn}
 use Rattle.hearing.specs.declared.Plan.{Plan}

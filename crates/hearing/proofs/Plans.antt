@@ -10,17 +10,17 @@ use borrow.Author.Tests.{not-true}
 use Rattle.outlet.specs.Outlets.{capacity, queue}
 use Rattle.bus.specs.declared.Heard as H
 use Rattle.bus.specs.declared.Heard.the-variants as frame
-use Rattle.queueing.specs.Hearing.{queueOf, fate}
-use Rattle.queueing.specs.declared.Fate as F
-use Rattle.queueing.specs.declared.Fate.the-variants as fates
-use Rattle.queueing.proofs.Fates.{queue-lt}
+use Rattle.outlet.specs.Hearing.{queueOf, fate}
+use Rattle.outlet.specs.declared.Fate as F
+use Rattle.outlet.specs.declared.Fate.the-variants as fates
+use Rattle.outlet.proofs.Fates.{queue-lt}
 use Rattle.store.specs.Rings.{back, tail}
 use Rattle.store.specs.Places.{slotAt, outletSlot}
 use Rattle.store.proofs.Rounds.{back-lt}
 use Rattle.store.proofs.Slots.{by-lt, start-inside, slot-inside}
 use Rattle.shelf.specs.declared.Unit as U
 use Rattle.answer.specs.declared.Hearing.the-variants.{Other}
-use Rattle.admit.specs.Admission.{Housed}
+use Rattle.soundness.specs.Admission.{Housed}
 use Rattle.hearing.specs.Hearings.{addressed, passesBy, asideOf, planFor, planTo, planOf}
 use Rattle.hearing.specs.declared.Plan.the-variants.{Queue, Lost}
 

@@ -4,17 +4,17 @@ use mathlib.Core.Bool.{Bool, true, not, cond}
 use mathlib.Core.List.{List}
 use lib.Dec.{eqb}
 use lib.ListN.{length, take}
-use Rattle.routing.specs.declared.Target as T
-use Rattle.routing.specs.declared.Target.the-variants as target
+use Rattle.bus.specs.declared.Target as T
+use Rattle.bus.specs.declared.Target.the-variants as target
 use Rattle.bus.specs.Frame.{heard}
 use Rattle.bus.specs.declared.Heard as H
 use Rattle.bus.specs.declared.Heard.the-variants as frame
 use Rattle.card.specs.declared.Card.{Card}
 use Rattle.outlet.specs.Outlets.{capacity, queue}
 use Rattle.outlet.specs.declared.Outlet.{Outlet}
-use Rattle.queueing.specs.Hearing.{queueOf, fate}
-use Rattle.queueing.specs.declared.Fate as F
-use Rattle.queueing.specs.declared.Fate.the-variants as fates
+use Rattle.outlet.specs.Hearing.{queueOf, fate}
+use Rattle.outlet.specs.declared.Fate as F
+use Rattle.outlet.specs.declared.Fate.the-variants as fates
 use Rattle.store.specs.Rings.{tail, pushed}
 use Rattle.store.specs.Places.{Cell, slotAt, outletSlot, putAt}
 use Rattle.shelf.specs.Sessions.{hears}
@@ -26,8 +26,8 @@ use Rattle.answer.specs.declared.Hearing.the-variants.{Damaged, Other, Wide, Fu
 use Rattle.answer.specs.declared.Answer.the-variants.{Heard}
 use Rattle.answer.specs.Done.{Done}
 use Rattle.answer.specs.Answers.{hearingRises, row, ends, refused}
-use Rattle.admit.specs.declared.Admitted as D
-use Rattle.admit.specs.Admission.{admitted, decided, unitAt, withUnit, withQueue}
+use Rattle.soundness.specs.declared.Admitted as D
+use Rattle.soundness.specs.Admission.{admitted, decided, unitAt, withUnit, withQueue}
 use Rattle.hearing.specs.declared.Plan.{Plan}
 use Rattle.hearing.specs.declared.Plan.the-variants.{Queue, Lost}
 

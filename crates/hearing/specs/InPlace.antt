@@ -13,8 +13,8 @@ use Rattle.answer.specs.declared.Answer.the-variants.{Heard}
 use Rattle.answer.specs.declared.Outcome.{Outcome}
 use Rattle.answer.specs.Done.{outcomeOf}
 use Rattle.answer.specs.Answers.{hearingRises, row, refusedWith}
-use Rattle.admit.specs.declared.Admitted as D
-use Rattle.admit.specs.Admission.{admittedIn, decided, formedOr}
+use Rattle.soundness.specs.declared.Admitted as D
+use Rattle.soundness.specs.Admission.{admittedIn, decided, formedOr}
 use Rattle.hearing.specs.Hearings.{planOf, hearDone, hearStore}
 use Rattle.hearing.specs.declared.Plan.{Plan}
 use Rattle.hearing.specs.declared.Plan.the-variants.{Queue, Lost}

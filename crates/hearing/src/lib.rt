@@ -1,19 +1,19 @@
 // Hearing: one of damaged, other, wide, full, clp, queued, of a frame at a unit.
-use admit::Admitted;
 use answer::Answer;
 use answer::Hearing;
 use answer::Single;
 use bus::Heard;
+use bus::Target;
 use card::Card;
-use queueing::Fate;
-use routing::Target;
+use outlet::Fate;
+use soundness::Admitted;
 ghost use mathlib.Core.Path.{_≡_};
 ghost use Prim.Native.Nat.{_<_, _≤_};
 ghost use lib.ListN.{length, take};
 ghost use Rattle.answer.specs.Answers.{outcomeBy};
 ghost use Rattle.bus.specs.Frame.{heard as heardOf};
 ghost use Rattle.state.specs.Bytes.{unitIn};
-ghost use Rattle.admit.specs.Admission.{Housed};
+ghost use Rattle.soundness.specs.Admission.{Housed};
 ghost use Rattle.hearing.specs.Hearings.{addressed as addressedTo, passesBy, asideOf, planTo, planOf, fateBy, storeBy, storeOf};
 ghost use Rattle.hearing.specs.InPlace.{stateBy, stateAt, outcomeAt, hearOut, hearState, hearStoreIn};
 
@@ -86,12 +86,12 @@ fn accept(
 {
     let link = state::link_of(state::at(s, 1, place));
     let limits = state::limits_at(s, place);
-    let queue = queueing::queue_of(limits, class);
+    let queue = outlet::queue_of(limits, class);
     let capacity = outlet::capacity(limits, queue);
     let q = queue as usize;
     let ring = state::ring_at(s, 16 + q, 20 + q, place);
-    let limit = queueing::limit(limits, queue);
-    match queueing::fate_in(capacity, limit, ring.count, link, header) {
+    let limit = outlet::limit(limits, queue);
+    match outlet::fate_in(capacity, limit, ring.count, link, header) {
         Fate::Wide => Hearing::Wide,
         Fate::Full => Hearing::Full,
         Fate::Clp => Hearing::Clp,
@@ -152,7 +152,7 @@ pub fn hear(
         × (now (store .exit) ≡ hearStoreIn card (now (s .entry)) (now (store .entry)) rows unit (now (frame .entry)))) ⌝ }
     ensures fits { λ r. ⌜ (outcomeBy r .rises .to ≤ 32) × (outcomeBy r .rises .to ≤ rows) ⌝ }
 {
-    match admit::admit(card, s, store.len(), rows, unit, frame.len() == 57) {
+    match soundness::admit(card, s, store.len(), rows, unit, frame.len() == 57) {
         Admitted::At(place) => hear_at(s, place, store, frame),
         Admitted::Refused(number) => answer::uncounted(Answer::Refused(number)),
     }

@@ -4,12 +4,12 @@ use mathlib.Core.Bool.{Bool, true, false, not}
 use Prim.Native.Nat.{ℕ, _+_, _*_, _<_, _≤_}
 use borrow.Author.Tests.{not-true, not-false, le-leb, lt-leb, lt-ltb, le-ltb}
 use Rattle.header.specs.declared.Link.{Link}
-use Rattle.routing.specs.declared.Target.{Target}
+use Rattle.bus.specs.declared.Target.{Target}
 use Rattle.card.specs.Cards.{holds}
 use Rattle.card.specs.declared.Card.{Card}
 use Rattle.card.specs.declared.Ask.the-variants.{On, Out}
-use Rattle.record.specs.Record.{size}
-use Rattle.record.specs.declared.Got.{Got}
+use Rattle.lookup.specs.Record.{size}
+use Rattle.lookup.specs.declared.Got.{Got}
 use Rattle.shelf.specs.Shelves.{declared, findIn, isAt}
 use Rattle.shelf.specs.declared.Unit as U
 use Rattle.shelf.specs.Shelf.{Shelf}
@@ -17,13 +17,13 @@ use Rattle.shelf.specs.declared.Found.{Found}
 use Rattle.shelf.specs.declared.Found.the-variants.{At, Nothing}
 use Rattle.line.specs.declared.Line.{Line}
 use Rattle.line.specs.declared.Line.the-variants.{Bus, Unit as L·Unit, Vp, Drop, Page, Vc, Mc}
-use Rattle.verdict.specs.declared.Owner.{Owner}
-use Rattle.verdict.specs.declared.Paged.{Paged}
-use Rattle.verdict.specs.declared.Verdict.{Verdict}
-use Rattle.verdict.specs.declared.Verdict.the-variants.{Fine, Order, Twice, Wide}
-use Rattle.verdict.specs.Verdicts.{asked, roomFor, offBus, taken, pageIn}
+use Rattle.judge.specs.declared.Owner.{Owner}
+use Rattle.judge.specs.declared.Paged.{Paged}
+use Rattle.judge.specs.declared.Verdict.{Verdict}
+use Rattle.judge.specs.declared.Verdict.the-variants.{Fine, Order, Twice, Wide}
+use Rattle.judge.specs.Verdicts.{asked, roomFor, offBus, taken, pageIn}
 use Rattle.judge.specs.Judge.{judgeBus, judgeUnit, judgeVp, judgeDrop, judgePage, judgeVc}
-use Rattle.verdict.specs.Owners.{ownerAt, ownerOf, ownedBy, spot}
+use Rattle.judge.specs.Owners.{ownerAt, ownerOf, ownedBy, spot}
 use Rattle.judge.specs.Standing.{second, judgeFirst, judgeAt}
 
 -- by the owner

@@ -1,2 +1,4 @@
+pub mod Verdicts
+pub mod Owners
 pub mod Judge
 pub mod Standing

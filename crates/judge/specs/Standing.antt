@@ -1,23 +1,23 @@
 -- What stands in the shelf and in a memory that a line is judged by. Assumes nothing.
 use Prim.Native.Nat.{ℕ, _+_, _*_}
 use mathlib.Core.Bool.{Bool, cond}
-use Rattle.routing.specs.declared.Target.{Target}
+use Rattle.bus.specs.declared.Target.{Target}
 use Rattle.card.specs.declared.Card.{Card}
 use Rattle.card.specs.declared.Ask.the-variants.{Bus as A·Bus}
-use Rattle.record.specs.Record.{size}
-use Rattle.record.specs.declared.Got.{Got}
-use Rattle.record.specs.declared.Got.the-variants.{Nothing as Got·Nothing}
+use Rattle.lookup.specs.Record.{size}
+use Rattle.lookup.specs.declared.Got.{Got}
+use Rattle.lookup.specs.declared.Got.the-variants.{Nothing as Got·Nothing}
 use Rattle.shelf.specs.Shelves.{declared, findIn, isAt}
 use Rattle.shelf.specs.Sessions.{hears}
 use Rattle.shelf.specs.declared.Unit as U
 use Rattle.shelf.specs.Shelf.{Shelf}
 use Rattle.line.specs.declared.Line.{Line}
 use Rattle.line.specs.declared.Line.the-variants.{Bus, Unit as L·Unit, Vp, Drop, Page, Vc, Mc}
-use Rattle.verdict.specs.declared.Paged.{Paged}
-use Rattle.verdict.specs.declared.Verdict.{Verdict}
-use Rattle.verdict.specs.declared.Verdict.the-variants.{Fine, Order}
-use Rattle.verdict.specs.Verdicts.{asked, pageIn}
-use Rattle.verdict.specs.Owners.{ownerOf, ownedBy, spot}
+use Rattle.judge.specs.declared.Paged.{Paged}
+use Rattle.judge.specs.declared.Verdict.{Verdict}
+use Rattle.judge.specs.declared.Verdict.the-variants.{Fine, Order}
+use Rattle.judge.specs.Verdicts.{asked, pageIn}
+use Rattle.judge.specs.Owners.{ownerOf, ownedBy, spot}
 use Rattle.judge.specs.Judge.{judgeBus, judgeUnit, judgeVp, judgeDrop, judgePage, judgeVc, judgeMc}
 
 -- what stands in a page's record for a VCI; nothing where there is no page

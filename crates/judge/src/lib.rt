@@ -1,19 +1,183 @@
-// A line judged against what came before it, as it stands in the shelf and in the memory: Order, Twice, Wide, Room.
+// A line of a table held against what came before it, as shelf and memory have it: first what it is judged by, then the lines.
+use bus::Target;
 use card::Ask;
 use card::Card;
 use line::Line;
-use routing::Target;
+use line::Wrong;
+use lookup::Got;
+use lookup::Record;
+use shelf::Found;
 use shelf::Settings;
-use verdict::Owner;
-use verdict::Verdict;
+use shelf::Unit;
 ghost use mathlib.Core.Path.{_≡_};
+ghost use Prim.Native.Nat.{_*_, _+_, _≤_};
 ghost use lib.ListN.{length};
-ghost use Rattle.record.specs.Record.{recordAt};
-ghost use Rattle.shelf.specs.Sessions.{hears};
+ghost use Rattle.lookup.specs.Record.{size, recordAt};
 ghost use Rattle.state.specs.Bytes.{shelfIn};
-ghost use Rattle.verdict.specs.Owners.{ownedBy, spot as spotOf};
+ghost use Rattle.shelf.specs.Sessions.{hears};
+ghost use Rattle.judge.specs.Verdicts.{asked, roomFor, offBus as offBusIs, taken as takenIs, pageIn, numberOf, isFine};
+ghost use Rattle.judge.specs.Owners.{ownerOf, spot as spotOf, ownedBy};
 ghost use Rattle.judge.specs.Judge.{judgeUnit, judgeVp, judgeDrop, judgePage, judgeMc};
 ghost use Rattle.judge.specs.Standing.{judgeVcAt, judgeFirst, judgeAt};
+
+// What is wrong with a line, in the order in which it is tried; Order and Twice carry the field, counted from the word as 1.
+pub enum Verdict {
+    Fine,
+    Form(Wrong),
+    Order(u8),
+    Twice(u8),
+    Wide,
+    Room,
+}
+
+// The declared unit with a number; where none has it, any unit.
+pub struct Owner {
+    pub known: bool,
+    pub unit: Unit,
+}
+
+// A page's top VCI and the place of its records, where it is one.
+pub struct Paged {
+    pub known: bool,
+    pub top: u16,
+    pub place: u32,
+}
+
+// Wide, unless the card can hold what a line asks for.
+pub fn asks(card: Card, ask: Ask) -> Verdict
+    ensures { λ r. ⌜ r ≡ asked card ask Verdict.Fine ⌝ }
+{
+    if card::holds(card, ask) {
+        Verdict::Fine
+    } else {
+        Verdict::Wide
+    }
+}
+
+// Room, unless there is room for so many records more.
+pub fn room_for(room: usize, used: u32, records: usize) -> Verdict
+    requires { ⌜ records ≤ 65536 ⌝ }
+    ensures { λ r. ⌜ r ≡ roomFor room used records ⌝ }
+{
+    if (used as usize) + lookup::SIZE * records <= room {
+        Verdict::Fine
+    } else {
+        Verdict::Room
+    }
+}
+
+// Whether a target is a unit that the bus does not have.
+pub fn off_bus(bus: u8, target: Target) -> bool
+    ensures { λ r. ⌜ r ≡ offBusIs bus target ⌝ }
+{
+    match target {
+        Target::Unit(unit) => bus <= unit,
+        Target::Session(_) => false,
+        Target::All => false,
+    }
+}
+
+// Whether something stands at a place already.
+pub fn taken(got: Got) -> bool
+    ensures { λ r. ⌜ r ≡ takenIs got ⌝ }
+{
+    let Got::Is(r) = got else {
+        return true;
+    };
+    match r {
+        Record::Empty => false,
+        Record::Drop => true,
+        Record::Route {
+            header: _,
+            vpi: _,
+            vci: _,
+        } => true,
+        Record::Page { top: _, place: _ } => true,
+    }
+}
+
+// The declared unit with a number.
+pub fn find_owner(s: &[u8], number: u8) -> Owner
+    requires { ⌜ length (now s) ≡ 2048 ⌝ }
+    ensures { λ r. ⌜ r ≡ ownerOf (shelfIn (now (s .entry))) number ⌝ }
+{
+    let Found::At(i) = state::find(s, number) else {
+        let unit = state::unit_at(s, 0);
+        return Owner { known: false, unit };
+    };
+    let unit = state::unit_at(s, i);
+    Owner { known: true, unit }
+}
+
+// The place of a unit's record for a VPI.
+pub fn spot(unit: Unit, vpi: u16) -> usize
+    ensures { λ r. ⌜ r ≡ spotOf unit vpi ⌝ }
+{
+    (unit.place as usize) + lookup::SIZE * (vpi as usize)
+}
+
+// The place of a page's record for a VCI.
+pub fn vci_spot(page: Paged, vci: u16) -> usize
+    ensures { λ r. ⌜ r ≡ page .place + size * vci ⌝ }
+{
+    (page.place as usize) + lookup::SIZE * (vci as usize)
+}
+
+// The page that a record is, where it is one.
+pub fn page_in(got: Got) -> Paged
+    ensures { λ r. ⌜ r ≡ pageIn got ⌝ }
+{
+    let none = Paged {
+        known: false,
+        top: 0,
+        place: 0,
+    };
+    let Got::Is(r) = got else {
+        return none;
+    };
+    match r {
+        Record::Empty => none,
+        Record::Drop => none,
+        Record::Route {
+            header: _,
+            vpi: _,
+            vci: _,
+        } => none,
+        Record::Page { top, place } => Paged {
+            known: true,
+            top,
+            place,
+        },
+    }
+}
+
+// Whether a line is fine.
+pub fn is_fine(verdict: Verdict) -> bool
+    ensures { λ r. ⌜ r ≡ isFine verdict ⌝ }
+{
+    match verdict {
+        Verdict::Fine => true,
+        Verdict::Form(_) => false,
+        Verdict::Order(_) => false,
+        Verdict::Twice(_) => false,
+        Verdict::Wide => false,
+        Verdict::Room => false,
+    }
+}
+
+// Document 01's number of a verdict.
+pub fn number(verdict: Verdict) -> u8
+    ensures { λ r. ⌜ r ≡ numberOf verdict ⌝ }
+{
+    match verdict {
+        Verdict::Fine => 0,
+        Verdict::Form(_) => 2,
+        Verdict::Order(_) => 3,
+        Verdict::Twice(_) => 4,
+        Verdict::Wide => 5,
+        Verdict::Room => 6,
+    }
+}
 
 // A `unit` line: below the bus number, declared once, on a link that the card has, with room for its records.
 fn judge_unit(
@@ -34,7 +198,7 @@ fn judge_unit(
     }
     let link = settings.link;
     if card::holds(card, Ask::On(link)) {
-        return verdict::room_for(room, used, (settings.top as usize) + 1);
+        return room_for(room, used, (settings.top as usize) + 1);
     }
     Verdict::Wide
 }
@@ -58,13 +222,13 @@ fn judge_vp(
     if unit.settings.top < vpi {
         return Verdict::Order(3);
     }
-    if verdict::off_bus(bus, target) {
+    if off_bus(bus, target) {
         return Verdict::Order(4);
     }
-    if verdict::taken(record::get(card, memory, verdict::spot(unit, vpi))) {
+    if taken(lookup::get(card, memory, spot(unit, vpi))) {
         return Verdict::Twice(3);
     }
-    verdict::asks(card, Ask::Out(outvpi))
+    asks(card, Ask::Out(outvpi))
 }
 
 // A `drop` line: at a VPI of a declared unit where nothing stands yet.
@@ -78,7 +242,7 @@ fn judge_drop(card: Card, memory: &[u8], o: Owner, vpi: u16) -> Verdict
     if unit.settings.top < vpi {
         return Verdict::Order(3);
     }
-    if verdict::taken(record::get(card, memory, verdict::spot(unit, vpi))) {
+    if taken(lookup::get(card, memory, spot(unit, vpi))) {
         return Verdict::Twice(3);
     }
     Verdict::Fine
@@ -103,10 +267,10 @@ fn judge_page(
     if unit.settings.top < vpi {
         return Verdict::Order(3);
     }
-    if verdict::taken(record::get(card, memory, verdict::spot(unit, vpi))) {
+    if taken(lookup::get(card, memory, spot(unit, vpi))) {
         return Verdict::Twice(3);
     }
-    verdict::room_for(room, used, (top as usize) + 1)
+    room_for(room, used, (top as usize) + 1)
 }
 
 // A `vc` line: at a VCI of a page, to a unit of the bus, where nothing stands yet, to a VPI that the card can hold.
@@ -129,20 +293,20 @@ fn judge_vc(
     if unit.settings.top < vpi {
         return Verdict::Order(3);
     }
-    let page = verdict::page_in(record::get(card, memory, verdict::spot(unit, vpi)));
+    let page = page_in(lookup::get(card, memory, spot(unit, vpi)));
     if !page.known {
         return Verdict::Order(3);
     }
     if page.top < vci {
         return Verdict::Order(4);
     }
-    if verdict::off_bus(bus, target) {
+    if off_bus(bus, target) {
         return Verdict::Order(5);
     }
-    if verdict::taken(record::get(card, memory, verdict::vci_spot(page, vci))) {
+    if taken(lookup::get(card, memory, vci_spot(page, vci))) {
         return Verdict::Twice(4);
     }
-    verdict::asks(card, Ask::Out(outvpi))
+    asks(card, Ask::Out(outvpi))
 }
 
 // An `mc` line: of a declared unit that does not hear the session yet.
@@ -165,7 +329,7 @@ fn judge_first(card: Card, line: Line) -> Verdict
     ensures { λ r. ⌜ r ≡ judgeFirst card line ⌝ }
 {
     match line {
-        Line::Bus(bus) => verdict::asks(card, Ask::Bus(bus)),
+        Line::Bus(bus) => asks(card, Ask::Bus(bus)),
         Line::Unit {
             settings: _,
             limits: _,
@@ -222,7 +386,7 @@ pub fn judge(
             settings,
             limits: _,
         } => {
-            let o = verdict::find_owner(s, settings.number);
+            let o = find_owner(s, settings.number);
             judge_unit(card, bus, o.known, room, used, settings)
         }
         Line::Vp {
@@ -231,26 +395,10 @@ pub fn judge(
             target,
             class: _,
             outvpi,
-        } => judge_vp(
-            card,
-            memory,
-            bus,
-            verdict::find_owner(s, unit),
-            vpi,
-            target,
-            outvpi,
-        ),
-        Line::Drop { unit, vpi } => judge_drop(card, memory, verdict::find_owner(s, unit), vpi),
+        } => judge_vp(card, memory, bus, find_owner(s, unit), vpi, target, outvpi),
+        Line::Drop { unit, vpi } => judge_drop(card, memory, find_owner(s, unit), vpi),
         Line::Page { unit, vpi, top } => {
-            judge_page(
-                card,
-                memory,
-                room,
-                used,
-                verdict::find_owner(s, unit),
-                vpi,
-                top,
-            )
+            judge_page(card, memory, room, used, find_owner(s, unit), vpi, top)
         }
         Line::Vc {
             unit,
@@ -264,12 +412,12 @@ pub fn judge(
             card,
             memory,
             bus,
-            verdict::find_owner(s, unit),
+            find_owner(s, unit),
             vpi,
             vci,
             target,
             outvpi,
         ),
-        Line::Mc { unit, session } => judge_mc(verdict::find_owner(s, unit), session),
+        Line::Mc { unit, session } => judge_mc(find_owner(s, unit), session),
     }
 }

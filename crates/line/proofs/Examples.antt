@@ -3,15 +3,15 @@ use mathlib.Core.Path.{_≡_, refl}
 use mathlib.Core.Bool.{true, false}
 use mathlib.Core.List.{[], _∷_}
 use Rattle.header.specs.declared.Link.the-variants.{Uni, Nni}
-use Rattle.routing.specs.declared.Target.the-variants.{Unit, Session, All}
+use Rattle.bus.specs.declared.Target.the-variants.{Unit, Session, All}
 use Rattle.outlet.specs.declared.Mode.the-variants.{One, Four}
 use Rattle.line.specs.declared.Line.the-variants.{Bus, Unit as U·, Vp, Drop, Page, Vc, Mc}
-use Rattle.ranged.specs.declared.Wrong.the-variants.{Newline, Word as Unspoken, Fields, Number, Range}
+use Rattle.line.specs.declared.Wrong.the-variants.{Newline, Word as Unspoken, Fields, Number, Range}
 use Rattle.line.specs.declared.Reading.the-variants.{Good, Bad}
 use Rattle.text.specs.Text.{split, same}
 use Rattle.text.specs.Digits.{digit, digits, plain, decimalOf, value}
-use Rattle.ranged.specs.Ranged.{ranged, aimOf}
-use Rattle.unitline.specs.Units.{settingsOn, settingsOf, limitsIn, limitsOf}
+use Rattle.line.specs.Ranged.{ranged, aimOf}
+use Rattle.line.specs.Units.{settingsOn, settingsOf, limitsIn, limitsOf}
 use Rattle.line.specs.Lines.{busLine, unitLine, keyOf, wayOf, vpLine, dropLine, pageLine, vcOn, vcLine, mcLine, lineOf, wordOf, spoken, readingOf}
 
 -- bus 16

@@ -11,26 +11,26 @@ use borrow.Author.Tests.{eqb-true}
 use Rattle.header.specs.Fields.{highest}
 use Rattle.header.specs.declared.Link.{Link}
 use Rattle.header.specs.declared.Link.the-variants.{Uni, Nni}
-use Rattle.routing.specs.declared.Target.{Target}
-use Rattle.routing.specs.Routing.{Sayable}
+use Rattle.bus.specs.declared.Target.{Target}
+use Rattle.bus.specs.Routing.{Sayable}
 use Rattle.outlet.specs.Outlets.{GivenIn, Given as LimitsGiven}
 use Rattle.outlet.specs.declared.Mode.{Mode}
 use Rattle.outlet.specs.declared.Mode.the-variants.{One, Four}
 use Rattle.outlet.specs.declared.Limits.{Limits}
 use Rattle.shelf.specs.declared.Settings.{Settings}
-use Rattle.ranged.specs.declared.Wrong.{Wrong}
-use Rattle.ranged.specs.declared.Num.{Num}
-use Rattle.ranged.specs.declared.Num.the-variants.{Is, NoNum}
-use Rattle.ranged.specs.declared.Aim.{Aim}
-use Rattle.ranged.specs.declared.Aim.the-variants.{At, NoAim}
+use Rattle.line.specs.declared.Wrong.{Wrong}
+use Rattle.line.specs.declared.Num.{Num}
+use Rattle.line.specs.declared.Num.the-variants.{Is, NoNum}
+use Rattle.line.specs.declared.Aim.{Aim}
+use Rattle.line.specs.declared.Aim.the-variants.{At, NoAim}
 use Rattle.line.specs.declared.Key.{Key}
 use Rattle.line.specs.declared.Key.the-variants.{On, NoKey}
 use Rattle.line.specs.declared.Way.{Way}
 use Rattle.line.specs.declared.Way.the-variants.{To, NoWay}
-use Rattle.unitline.specs.declared.Front.{Front}
-use Rattle.unitline.specs.declared.Front.the-variants.{Set, NoFront}
-use Rattle.unitline.specs.declared.Back.{Back}
-use Rattle.unitline.specs.declared.Back.the-variants.{Held, NoBack}
+use Rattle.line.specs.declared.Front.{Front}
+use Rattle.line.specs.declared.Front.the-variants.{Set, NoFront}
+use Rattle.line.specs.declared.Back.{Back}
+use Rattle.line.specs.declared.Back.the-variants.{Held, NoBack}
 use Rattle.line.specs.declared.Kind.{Kind}
 use Rattle.line.specs.declared.Kind.the-variants.{Bus as K·Bus, Unit as K·Unit, Vp as K·Vp, Drop as K·Drop, Page as K·Page, Vc as K·Vc, Mc as K·Mc}
 use Rattle.line.specs.declared.Word.{Word}
@@ -39,13 +39,13 @@ use Rattle.line.specs.declared.Line.{Line}
 use Rattle.line.specs.declared.Line.the-variants.{Unit as U·}
 use Rattle.line.specs.declared.Reading.{Reading}
 use Rattle.line.specs.declared.Reading.the-variants.{Good, Bad}
-use Rattle.ranged.specs.Words.{wB, wUni, wNni, wOne, wFour}
+use Rattle.line.specs.Words.{wB, wUni, wNni, wOne, wFour}
 use Rattle.text.specs.Text.{fieldsOf, fieldOf, same}
-use Rattle.ranged.specs.Ranged.{ranged, num, aimOf, aim}
-use Rattle.unitline.specs.Units.{settingsOn, settingsOf, least, mostLength, mostLimit, mostVbr, limitsIn, limitsOf}
+use Rattle.line.specs.Ranged.{ranged, num, aimOf, aim}
+use Rattle.line.specs.Units.{settingsOn, settingsOf, least, mostLength, mostLimit, mostVbr, limitsIn, limitsOf}
 use Rattle.line.specs.Lines.{busLine, front, back, unitLine, keyOf, key, wayOf, way, vpLine, dropLine, pageLine, vcOn, vcLine, mcLine, lineOf, countOf, wordOf, spoken, readingOf}
 use Rattle.line.specs.Ranges.{SettingsIn, Given, KeyIn, WayIn, InRange}
-use Rattle.ranged.proofs.Numbers.{ranged-in}
+use Rattle.line.proofs.Numbers.{ranged-in}
 
 -- what holds of both choices, each where it is taken, holds of the choice
 chosen : {R : Type 0} (P : R → Type 0) (b : Bool) {x y : R} → (b ≡ true → P x) → (b ≡ false → P y) → P (cond b x y)

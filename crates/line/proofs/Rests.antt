@@ -7,8 +7,8 @@ use Rattle.line.specs.declared.Way.{Way}
 use Rattle.line.specs.declared.Kind.the-variants.{Bus as K·Bus, Unit as K·Unit, Vp as K·Vp, Drop as K·Drop, Page as K·Page, Vc as K·Vc, Mc as K·Mc}
 use Rattle.text.specs.Text.{at, fieldsOf, afterOf, from2, from4}
 use Rattle.text.proofs.Split.{after-fields}
-use Rattle.unitline.specs.Units.{settingsOn, settingsOf, limitsIn, limitsOf}
-use Rattle.unitline.proofs.Rests.{second-fields}
+use Rattle.line.specs.Units.{settingsOn, settingsOf, limitsIn, limitsOf}
+use Rattle.line.proofs.UnitRests.{second-fields}
 use Rattle.line.specs.Lines.{busLine, unitLine, keyOf, waySaid, wayOf, vpLine, dropLine, pageLine, vcOn, vcLine, mcLine, lineOf}
 
 -- the way out in the three fields of fs from the first on

@@ -4,11 +4,11 @@ use mathlib.Core.Bool.{Bool, cond}
 use mathlib.Core.List.{List}
 use lib.ListN.{length}
 use lib.Dec.{eqb}
-use Rattle.routing.specs.declared.Target.{Target}
+use Rattle.bus.specs.declared.Target.{Target}
 use Rattle.outlet.specs.declared.Limits.{Limits}
 use Rattle.shelf.specs.declared.Settings.{Settings}
 use Rattle.line.specs.declared.Line.the-variants.{Bus, Unit as U·, Vp, Drop, Page, Vc, Mc}
-use Rattle.ranged.specs.declared.Wrong.the-variants.{Newline, Word as Unspoken, Fields, Range}
+use Rattle.line.specs.declared.Wrong.the-variants.{Newline, Word as Unspoken, Fields, Range}
 use Rattle.line.specs.declared.Reading.{Reading}
 use Rattle.line.specs.declared.Reading.the-variants.{Good, Bad}
 use Rattle.line.specs.declared.Kind.{Kind}
@@ -19,14 +19,14 @@ use Rattle.line.specs.declared.Key.{Key}
 use Rattle.line.specs.declared.Key.the-variants.{On, NoKey}
 use Rattle.line.specs.declared.Way.{Way}
 use Rattle.line.specs.declared.Way.the-variants.{To, NoWay}
-use Rattle.unitline.specs.declared.Front.{Front}
-use Rattle.unitline.specs.declared.Front.the-variants.{Set, NoFront}
-use Rattle.unitline.specs.declared.Back.{Back}
-use Rattle.unitline.specs.declared.Back.the-variants.{Held, NoBack}
-use Rattle.ranged.specs.Words.{wBus, wUnit, wVp, wDrop, wPage, wVc, wMc}
+use Rattle.line.specs.declared.Front.{Front}
+use Rattle.line.specs.declared.Front.the-variants.{Set, NoFront}
+use Rattle.line.specs.declared.Back.{Back}
+use Rattle.line.specs.declared.Back.the-variants.{Held, NoBack}
+use Rattle.line.specs.Words.{wBus, wUnit, wVp, wDrop, wPage, wVc, wMc}
 use Rattle.text.specs.Text.{fieldsOf, fieldOf, same}
-use Rattle.ranged.specs.Ranged.{ranged, aimOf, num, aim, numberIn}
-use Rattle.unitline.specs.Units.{settingsOf, limitsOf}
+use Rattle.line.specs.Ranged.{ranged, aimOf, num, aim, numberIn}
+use Rattle.line.specs.Units.{settingsOf, limitsOf}
 
 -- Each kind of line; 02, W5: "leftmost fault first". "`bus` 16 or 32."
 unfoldable pub busLine : List (List ℕ) → Reading

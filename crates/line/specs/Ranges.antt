@@ -3,8 +3,8 @@ use Prim.Native.Nat.{ℕ, _≤_}
 use mathlib.Core.Path.{_≡_}
 use mathlib.Core.Logic.{_⊎_}
 use Rattle.header.specs.Fields.{highest}
-use Rattle.routing.specs.declared.Target.{Target}
-use Rattle.routing.specs.Routing.{Sayable}
+use Rattle.bus.specs.declared.Target.{Target}
+use Rattle.bus.specs.Routing.{Sayable}
 use Rattle.outlet.specs.Outlets.{Given as LimitsGiven}
 use Rattle.outlet.specs.declared.Limits.{Limits}
 use Rattle.shelf.specs.declared.Settings.{Settings}

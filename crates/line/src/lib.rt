@@ -1,15 +1,262 @@
-// One line of a route table, or what is wrong with it and in which field.
+// One line of a table read: its values, or what is wrong with it and in which field. First a number in its range or a target in a field, then
+// what a `unit` line gives, then the lines.
+use bus::Target;
+use header::Link;
 use outlet::Limits;
-use ranged::Aim;
-use ranged::Num;
-use ranged::Wrong;
-use routing::Target;
+use outlet::Mode;
+use outlet::Outlet;
 use shelf::Settings;
-use unitline::Back;
-use unitline::Front;
 ghost use mathlib.Core.Path.{_≡_};
-ghost use Rattle.text.specs.Text.{fieldsOf, at, from2, from4};
+ghost use Rattle.text.specs.Text.{fieldsOf, at, from2, from4, from6, from7, from9};
+ghost use Rattle.line.specs.Ranged.{ranged as rangedOf, num as numGives, aimOf};
+ghost use Rattle.line.specs.Units.{settingsOn, settingsOf, least as leastOf, mostLength, mostLimit, mostVbr, limitsAfter, limitsIn, limitsOf};
 ghost use Rattle.line.specs.Lines.{busLine, unitLine, keyOf, waySaid, vpLine, dropLine, pageLine, vcOn, vcLine, mcLine, lineOf, countOf, wordAfter, wordOf, readingOf};
+
+// What is wrong with a line, and in which field, counted from the word as 1.
+pub enum Wrong {
+    Newline,
+    Word,
+    Fields,
+    Number(u8),
+    Range(u8),
+}
+
+// A number in its range, or what is wrong with it.
+pub enum Num {
+    Is(u16),
+    NoNum(Wrong),
+}
+
+// A target, or what is wrong with it.
+pub enum Aim {
+    At(Target),
+    NoAim(Wrong),
+}
+
+// The number that the text s of field f says.
+pub fn number(s: &[u8], f: u8, lo: u16, hi: u16) -> Num
+    ensures { λ r. ⌜ r ≡ rangedOf f lo hi (now (s .entry)) ⌝ }
+{
+    if !text::decimal(s) {
+        return Num::NoNum(Wrong::Number(f));
+    }
+    let mut v: u32 = 0;
+    let mut i: usize = 0;
+    while i < s.len() {
+        v = v * 10 + (s[i] - b'0') as u32;
+        // more digits make no smaller number
+        if (hi as u32) < v {
+            return Num::NoNum(Wrong::Range(f));
+        }
+        i += 1;
+    }
+    if v < (lo as u32) {
+        return Num::NoNum(Wrong::Range(f));
+    }
+    Num::Is(v as u16)
+}
+
+// The number in the first field of s, which is field f of its line.
+pub fn number_at(s: &[u8], f: u8, lo: u16, hi: u16) -> Num
+    ensures { λ r. ⌜ r ≡ rangedOf f lo hi (at (fieldsOf (now (s .entry))) 0) ⌝ }
+{
+    number(text::field(s, 1), f, lo, hi)
+}
+
+// The unit that stands after `u` in field f.
+fn to_unit(rest: &[u8], f: u8) -> Aim
+    ensures { λ r. ⌜ r ≡ numGives (rangedOf f 0 31 (now (rest .entry))) Aim.NoAim (λ unit. Aim.At (Target.Unit unit)) ⌝ }
+{
+    match number(rest, f, 0, 31) {
+        Num::Is(unit) => Aim::At(Target::Unit(unit as u8)),
+        Num::NoNum(wrong) => Aim::NoAim(wrong),
+    }
+}
+
+// The session that stands after `m` in field f.
+fn to_session(rest: &[u8], f: u8) -> Aim
+    ensures { λ r. ⌜ r ≡ numGives (rangedOf f 0 255 (now (rest .entry))) Aim.NoAim (λ session. Aim.At (Target.Session session)) ⌝ }
+{
+    match number(rest, f, 0, 255) {
+        Num::Is(session) => Aim::At(Target::Session(session as u8)),
+        Num::NoNum(wrong) => Aim::NoAim(wrong),
+    }
+}
+
+// The target that the text s of field f says.
+pub fn aimed(s: &[u8], f: u8) -> Aim
+    ensures { λ r. ⌜ r ≡ aimOf f (now (s .entry)) ⌝ }
+{
+    if s.len() == 0 {
+        return Aim::NoAim(Wrong::Range(f));
+    }
+    if s[0] == b'u' {
+        return to_unit(&s[1..], f);
+    }
+    if s[0] == b'm' {
+        return to_session(&s[1..], f);
+    }
+    if text::is(s, b"b") {
+        return Aim::At(Target::All);
+    }
+    Aim::NoAim(Wrong::Range(f))
+}
+
+// The front of a `unit` line: its settings.
+pub enum Front {
+    Set(Settings),
+    NoFront(Wrong),
+}
+
+// The back of a `unit` line: its limits.
+pub enum Back {
+    Held(Limits),
+    NoBack(Wrong),
+}
+
+// The settings of a `unit` line whose number and link are read; s is the line from field 4 on.
+fn settings_on(s: &[u8], number: u8, link: Link) -> Front
+    ensures { λ r. ⌜ r ≡ settingsOn (from4 (fieldsOf (now (s .entry)))) number link ⌝ }
+{
+    let top = match number_at(s, 4, 0, header::highest(link)) {
+        Num::Is(top) => top,
+        Num::NoNum(wrong) => {
+            return Front::NoFront(wrong);
+        }
+    };
+    match number_at(text::after(s), 5, 1, 3) {
+        Num::Is(n) => {
+            let priority = n as u8;
+            Front::Set(Settings {
+                number,
+                link,
+                top,
+                priority,
+            })
+        }
+        Num::NoNum(wrong) => Front::NoFront(wrong),
+    }
+}
+
+// The settings of a `unit` line; s is the line from field 2 on.
+pub fn settings_of(s: &[u8]) -> Front
+    ensures { λ r. ⌜ r ≡ settingsOf (from2 (fieldsOf (now (s .entry)))) ⌝ }
+{
+    let number = match number_at(s, 2, 0, 31) {
+        Num::Is(number) => number as u8,
+        Num::NoNum(wrong) => {
+            return Front::NoFront(wrong);
+        }
+    };
+    let third = text::after(s);
+    let link = text::field(third, 1);
+    let fourth = text::after(third);
+    if text::is(link, b"uni") {
+        return settings_on(fourth, number, Link::Uni);
+    }
+    if text::is(link, b"nni") {
+        return settings_on(fourth, number, Link::Nni);
+    }
+    Front::NoFront(Wrong::Range(3))
+}
+
+// The least CBR length, and the least CBR limit.
+fn least(mode: Mode) -> u16
+    ensures { λ r. ⌜ r ≡ leastOf mode ⌝ }
+{
+    match mode {
+        Mode::One => 0,
+        Mode::Four => 1,
+    }
+}
+
+fn most_length(mode: Mode) -> u16
+    ensures { λ r. ⌜ r ≡ mostLength mode ⌝ }
+{
+    match mode {
+        Mode::One => 0,
+        Mode::Four => (Outlet::SHARED - 1) as u16,
+    }
+}
+
+fn most_limit(mode: Mode, cbrlength: u16) -> u16
+    ensures { λ r. ⌜ r ≡ mostLimit mode cbrlength ⌝ }
+{
+    match mode {
+        Mode::One => 0,
+        Mode::Four => cbrlength,
+    }
+}
+
+fn most_vbr(mode: Mode, cbrlength: u16) -> u16
+    ensures { λ r. ⌜ r ≡ mostVbr mode cbrlength ⌝ }
+{
+    let shared = Outlet::SHARED as u16;
+    match mode {
+        Mode::One => Outlet::ONE as u16,
+        Mode::Four => {
+            if shared < cbrlength {
+                return 0;
+            }
+            shared - cbrlength
+        }
+    }
+}
+
+// The limits of a `unit` line whose mode and CBR limits are read; s is the line from field 9 on.
+fn limits_after(s: &[u8], mode: Mode, cbrlength: u8, cbrlimit: u8) -> Back
+    ensures { λ r. ⌜ r ≡ limitsAfter (from9 (fieldsOf (now (s .entry)))) mode cbrlength cbrlimit ⌝ }
+{
+    let vbr = match number_at(s, 9, 1, most_vbr(mode, cbrlength as u16)) {
+        Num::Is(vbr) => vbr,
+        Num::NoNum(wrong) => {
+            return Back::NoBack(wrong);
+        }
+    };
+    match number_at(text::after(s), 10, 0, 1) {
+        Num::Is(mark) => Back::Held(Limits {
+            mode,
+            cbrlength,
+            cbrlimit,
+            vbrlimit: vbr as u8,
+            mark: mark == 1,
+        }),
+        Num::NoNum(wrong) => Back::NoBack(wrong),
+    }
+}
+
+// The limits of a `unit` line whose mode is read; s is the line from field 7 on.
+fn limits_in(s: &[u8], mode: Mode) -> Back
+    ensures { λ r. ⌜ r ≡ limitsIn (from7 (fieldsOf (now (s .entry)))) mode ⌝ }
+{
+    let low = least(mode);
+    let length = match number_at(s, 7, low, most_length(mode)) {
+        Num::Is(length) => length,
+        Num::NoNum(wrong) => {
+            return Back::NoBack(wrong);
+        }
+    };
+    let eighth = text::after(s);
+    match number_at(eighth, 8, low, most_limit(mode, length)) {
+        Num::Is(limit) => limits_after(text::after(eighth), mode, length as u8, limit as u8),
+        Num::NoNum(wrong) => Back::NoBack(wrong),
+    }
+}
+
+// The limits of a `unit` line; s is the line from field 6 on.
+pub fn limits_of(s: &[u8]) -> Back
+    ensures { λ r. ⌜ r ≡ limitsOf (from6 (fieldsOf (now (s .entry)))) ⌝ }
+{
+    let mode = text::field(s, 1);
+    let seventh = text::after(s);
+    if text::is(mode, b"one") {
+        return limits_in(seventh, Mode::One);
+    }
+    if text::is(mode, b"four") {
+        return limits_in(seventh, Mode::Four);
+    }
+    Back::NoBack(Wrong::Range(6))
+}
 
 pub enum Line {
     Bus(u8),
@@ -90,7 +337,7 @@ pub enum Word {
 fn bus_line(s: &[u8]) -> Reading
     ensures { λ r. ⌜ r ≡ busLine (from2 (fieldsOf (now (s .entry)))) ⌝ }
 {
-    match ranged::number_at(s, 2, 16, 32) {
+    match number_at(s, 2, 16, 32) {
         Num::Is(units) => {
             if units == 16 {
                 return Reading::Good(Line::Bus(16));
@@ -108,13 +355,13 @@ fn bus_line(s: &[u8]) -> Reading
 fn key_of(s: &[u8]) -> Key
     ensures { λ r. ⌜ r ≡ keyOf (from2 (fieldsOf (now (s .entry)))) ⌝ }
 {
-    let unit = match ranged::number_at(s, 2, 0, 31) {
+    let unit = match number_at(s, 2, 0, 31) {
         Num::Is(unit) => unit as u8,
         Num::NoNum(wrong) => {
             return Key::NoKey(wrong);
         }
     };
-    match ranged::number_at(text::after(s), 3, 0, 4095) {
+    match number_at(text::after(s), 3, 0, 4095) {
         Num::Is(vpi) => Key::On { unit, vpi },
         Num::NoNum(wrong) => Key::NoKey(wrong),
     }
@@ -123,13 +370,13 @@ fn key_of(s: &[u8]) -> Key
 fn unit_line(s: &[u8]) -> Reading
     ensures { λ r. ⌜ r ≡ unitLine (from2 (fieldsOf (now (s .entry)))) ⌝ }
 {
-    let settings = match unitline::settings_of(s) {
+    let settings = match settings_of(s) {
         Front::Set(settings) => settings,
         Front::NoFront(wrong) => {
             return Reading::Bad(wrong);
         }
     };
-    match unitline::limits_of(text::after(text::after(text::after(text::after(s))))) {
+    match limits_of(text::after(text::after(text::after(text::after(s))))) {
         Back::Held(limits) => Reading::Good(Line::Unit { settings, limits }),
         Back::NoBack(wrong) => Reading::Bad(wrong),
     }
@@ -139,20 +386,20 @@ fn unit_line(s: &[u8]) -> Reading
 fn way_of(s: &[u8], first: u8, second: u8, third: u8) -> Way
     ensures { λ r. ⌜ r ≡ waySaid (at (fieldsOf (now (s .entry))) 0) (at (fieldsOf (now (s .entry))) 1) (at (fieldsOf (now (s .entry))) 2) first second third ⌝ }
 {
-    let target = match ranged::aimed(text::field(s, 1), first) {
+    let target = match aimed(text::field(s, 1), first) {
         Aim::At(target) => target,
         Aim::NoAim(wrong) => {
             return Way::NoWay(wrong);
         }
     };
     let rest = text::after(s);
-    let class = match ranged::number_at(rest, second, 0, 3) {
+    let class = match number_at(rest, second, 0, 3) {
         Num::Is(class) => class as u8,
         Num::NoNum(wrong) => {
             return Way::NoWay(wrong);
         }
     };
-    match ranged::number_at(text::after(rest), third, 0, 4095) {
+    match number_at(text::after(rest), third, 0, 4095) {
         Num::Is(outvpi) => Way::To {
             target,
             class,
@@ -197,7 +444,7 @@ fn page_line(s: &[u8]) -> Reading
     ensures { λ r. ⌜ r ≡ pageLine (from2 (fieldsOf (now (s .entry)))) ⌝ }
 {
     match key_of(s) {
-        Key::On { unit, vpi } => match ranged::number_at(text::after(text::after(s)), 4, 0, 65535) {
+        Key::On { unit, vpi } => match number_at(text::after(text::after(s)), 4, 0, 65535) {
             Num::Is(top) => Reading::Good(Line::Page { unit, vpi, top }),
             Num::NoNum(wrong) => Reading::Bad(wrong),
         },
@@ -209,7 +456,7 @@ fn page_line(s: &[u8]) -> Reading
 fn vc_on(s: &[u8], unit: u8, vpi: u16) -> Reading
     ensures { λ r. ⌜ r ≡ vcOn (from4 (fieldsOf (now (s .entry)))) unit vpi ⌝ }
 {
-    let vci = match ranged::number_at(s, 4, 0, 65535) {
+    let vci = match number_at(s, 4, 0, 65535) {
         Num::Is(vci) => vci,
         Num::NoNum(wrong) => {
             return Reading::Bad(wrong);
@@ -221,7 +468,7 @@ fn vc_on(s: &[u8], unit: u8, vpi: u16) -> Reading
             target,
             class,
             outvpi,
-        } => match ranged::number_at(text::after(text::after(text::after(fifth))), 8, 0, 65535) {
+        } => match number_at(text::after(text::after(text::after(fifth))), 8, 0, 65535) {
             Num::Is(outvci) => Reading::Good(Line::Vc {
                 unit,
                 vpi,
@@ -249,13 +496,13 @@ fn vc_line(s: &[u8]) -> Reading
 fn mc_line(s: &[u8]) -> Reading
     ensures { λ r. ⌜ r ≡ mcLine (from2 (fieldsOf (now (s .entry)))) ⌝ }
 {
-    let unit = match ranged::number_at(s, 2, 0, 31) {
+    let unit = match number_at(s, 2, 0, 31) {
         Num::Is(unit) => unit as u8,
         Num::NoNum(wrong) => {
             return Reading::Bad(wrong);
         }
     };
-    match ranged::number_at(text::after(s), 3, 0, 255) {
+    match number_at(text::after(s), 3, 0, 255) {
         Num::Is(n) => {
             let session = n as u8;
             Reading::Good(Line::Mc { unit, session })

@@ -5,8 +5,8 @@ use Prim.Native.Nat.{ℕ, _+_, _*_, _<_, _≤_}
 use lib.Dec.{eqb}
 use borrow.Author.Tests.{lt-ltb, le-ltb}
 use Rattle.header.specs.declared.Header as H
-use Rattle.record.specs.Record.{size}
-use Rattle.record.specs.declared.Got.{Got}
+use Rattle.lookup.specs.Record.{size}
+use Rattle.lookup.specs.declared.Got.{Got}
 use Rattle.lookup.specs.Lookup.{byGot, byFields}
 use Rattle.lookup.specs.declared.Looked.the-variants.{Ignored, Misrouted}
 

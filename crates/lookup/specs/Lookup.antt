@@ -7,11 +7,11 @@ use Rattle.header.specs.Check.{check}
 use Rattle.header.specs.declared.Header as H
 use Rattle.header.specs.declared.Link.{Link}
 use Rattle.header.specs.declared.Link.the-variants.{Nni}
-use Rattle.record.specs.Record.{size}
-use Rattle.record.specs.declared.Record as R
-use Rattle.record.specs.declared.Record.the-variants.{Empty, Drop, Route, Page}
-use Rattle.record.specs.declared.Got.{Got}
-use Rattle.record.specs.declared.Got.the-variants.{Is, Nothing}
+use Rattle.lookup.specs.Record.{size}
+use Rattle.lookup.specs.declared.Record as R
+use Rattle.lookup.specs.declared.Record.the-variants.{Empty, Drop, Route, Page}
+use Rattle.lookup.specs.declared.Got.{Got}
+use Rattle.lookup.specs.declared.Got.the-variants.{Is, Nothing}
 use Rattle.lookup.specs.declared.Looked.{Looked}
 use Rattle.lookup.specs.declared.Looked.the-variants.{Ignored, Misrouted, Goes}
 

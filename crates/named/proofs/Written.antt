@@ -5,8 +5,8 @@ use Prim.Native.Nat.{ℕ, _+_, _≤_, _<_, min}
 use native.Mathlib.Numerals.{add-one}
 use native.Mathlib.Omega.{arith}
 use lib.ListN.{length}
-use Rattle.hex.specs.Writing.{Wrote}
-use Rattle.hex.proofs.Splices.{nothing, then}
+use Rattle.text.specs.Writing.{Wrote}
+use Rattle.text.proofs.Splices.{nothing, then}
 use Rattle.shelf.specs.declared.Found.the-variants.{At}
 use Rattle.shelf.specs.Shelves.{declared, findIn}
 use Rattle.shelf.proofs.Finding.{declared-length, find-at}

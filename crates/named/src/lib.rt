@@ -4,8 +4,8 @@ ghost use mathlib.Core.Path.{_≡_};
 ghost use Prim.Native.Nat.{_+_, _*_, _≤_, _<_};
 ghost use mathlib.Core.List.{_++_};
 ghost use lib.ListN.{length};
-ghost use Rattle.hex.specs.Writing.{Wrote};
-ghost use Rattle.words.specs.Decimals.{numberField};
+ghost use Rattle.text.specs.Writing.{Wrote};
+ghost use Rattle.text.specs.Decimals.{numberField};
 ghost use Rattle.state.specs.Bytes.{col, placeBy};
 ghost use Rattle.named.specs.Named.{linkText, modeText, settingsText, cbrText, limitsText, inletText, fourText, sessionText, sessionsText, frontText, ringsText, placeText, unitText};
 
@@ -14,7 +14,7 @@ fn put_column(out: &mut [u8], at: usize, name: &[u8], s: &[u8], column: usize, i
     requires { ⌜ (length (now s) ≡ 2048) × (column < 32) × (i < 32) × (at + length (now name) + 21 ≤ length (now out)) ⌝ }
     ensures { λ r. ⌜ Wrote (now (out .entry)) at (now (name .entry) ++ numberField (col (now (s .entry)) i column)) r (now (out .exit)) × (r ≤ at + length (now (name .entry)) + 21) ⌝ }
 {
-    shown::say(out, at, name, state::at(s, column, i) as u64)
+    written::say(out, at, name, state::at(s, column, i) as u64)
 }
 
 // The byte of a column alone.
@@ -22,7 +22,7 @@ fn put_more(out: &mut [u8], at: usize, s: &[u8], column: usize, i: usize) -> usi
     requires { ⌜ (length (now s) ≡ 2048) × (column < 32) × (i < 32) × (at + 21 ≤ length (now out)) ⌝ }
     ensures { λ r. ⌜ Wrote (now (out .entry)) at (numberField (col (now (s .entry)) i column)) r (now (out .exit)) × (r ≤ at + 21) ⌝ }
 {
-    words::put_number(out, at, state::at(s, column, i) as u64)
+    text::put_number(out, at, state::at(s, column, i) as u64)
 }
 
 fn put_link(out: &mut [u8], at: usize, byte: u8) -> usize
@@ -30,9 +30,9 @@ fn put_link(out: &mut [u8], at: usize, byte: u8) -> usize
     ensures { λ r. ⌜ Wrote (now (out .entry)) at (linkText byte) r (now (out .exit)) × (r ≤ at + 30) ⌝ }
 {
     match byte {
-        0 => words::put(out, at, b"\tlink\tuni"),
-        1 => words::put(out, at, b"\tlink\tnni"),
-        _ => shown::say(out, at, b"\tlink", byte as u64),
+        0 => text::put(out, at, b"\tlink\tuni"),
+        1 => text::put(out, at, b"\tlink\tnni"),
+        _ => written::say(out, at, b"\tlink", byte as u64),
     }
 }
 
@@ -41,9 +41,9 @@ fn put_mode(out: &mut [u8], at: usize, byte: u8) -> usize
     ensures { λ r. ⌜ Wrote (now (out .entry)) at (modeText byte) r (now (out .exit)) × (r ≤ at + 30) ⌝ }
 {
     match byte {
-        0 => words::put(out, at, b"\tmode\tone"),
-        1 => words::put(out, at, b"\tmode\tfour"),
-        _ => shown::say(out, at, b"\tmode", byte as u64),
+        0 => text::put(out, at, b"\tmode\tone"),
+        1 => text::put(out, at, b"\tmode\tfour"),
+        _ => written::say(out, at, b"\tmode", byte as u64),
     }
 }
 
@@ -60,7 +60,7 @@ fn put_settings(out: &mut [u8], at: usize, s: &[u8], i: usize) -> usize
 {
     let numbered = put_column(out, at, b"show\tunit", s, 0, i);
     let linked = put_link(out, numbered, state::at(s, 1, i));
-    let topped = shown::say(out, linked, b"\ttop", top_at(s, i) as u64);
+    let topped = written::say(out, linked, b"\ttop", top_at(s, i) as u64);
     put_column(out, topped, b"\tpriority", s, 4, i)
 }
 
@@ -86,7 +86,7 @@ fn put_inlet(out: &mut [u8], at: usize, s: &[u8], i: usize) -> usize
     requires { ⌜ (length (now s) ≡ 2048) × (i < 32) × (at + 100 ≤ length (now out)) ⌝ }
     ensures { λ r. ⌜ Wrote (now (out .entry)) at (inletText (col (now (s .entry)) i)) r (now (out .exit)) × (r ≤ at + 100) ⌝ }
 {
-    let placed = shown::say(out, at, b"\tplace", state::place_at(s, i) as u64);
+    let placed = written::say(out, at, b"\tplace", state::place_at(s, i) as u64);
     let headed = put_column(out, placed, b"\tinlethead", s, 14, i);
     put_column(out, headed, b"\tinletcount", s, 15, i)
 }
@@ -108,7 +108,7 @@ fn put_session(out: &mut [u8], at: usize, sessions: [u8; 32], session: u8) -> us
     ensures { λ r. ⌜ Wrote (now (out .entry)) at (sessionText sessions session) r (now (out .exit)) × (r ≤ at + 21) ⌝ }
 {
     if shelf::hears(sessions, session) {
-        return words::put_number(out, at, session as u64);
+        return text::put_number(out, at, session as u64);
     }
     at
 }
@@ -117,7 +117,7 @@ fn put_sessions(out: &mut [u8], at: usize, sessions: [u8; 32]) -> usize
     requires { ⌜ at + 5400 ≤ length (now out) ⌝ }
     ensures { λ r. ⌜ Wrote (now (out .entry)) at (sessionsText sessions) r (now (out .exit)) × (r ≤ at + 5400) ⌝ }
 {
-    let mut next = words::put(out, at, b"\tsessions");
+    let mut next = text::put(out, at, b"\tsessions");
     let mut i: usize = 0;
     while i < 256 {
         next = put_session(out, next, sessions, i as u8);
@@ -162,6 +162,6 @@ pub fn unit(out: &mut [u8], at: usize, s: &[u8], number: u8) -> usize
 {
     match state::find(s, number) {
         Found::At(i) => put_unit(out, at, s, i),
-        Found::Nothing => words::put(out, at, b"show\tunit\trefused\t9"),
+        Found::Nothing => text::put(out, at, b"show\tunit\trefused\t9"),
     }
 }

@@ -1,1 +1,4 @@
 pub mod Outlets
+pub mod Hearing
+pub mod Taking
+pub mod Figures

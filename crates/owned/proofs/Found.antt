@@ -5,11 +5,11 @@ use mathlib.Core.List.{List}
 use lib.ListN.{length, getD}
 use Rattle.octets.proofs.Parts.{getD-any}
 use Rattle.card.specs.declared.Card.{Card}
-use Rattle.counters.specs.declared.Counters as C
-use Rattle.counters.specs.Counting.{zeros}
-use Rattle.admit.specs.declared.Place.{Place}
-use Rattle.admit.specs.Admission.{countedIn}
-use Rattle.admit.proofs.InPlace.{row-there}
+use Rattle.answer.specs.declared.Counters as C
+use Rattle.answer.specs.Counting.{zeros}
+use Rattle.soundness.specs.declared.Place.{Place}
+use Rattle.soundness.specs.Admission.{countedIn}
+use Rattle.soundness.proofs.InPlace.{row-there}
 use Rattle.entry.specs.Counts.{countOf}
 use Rattle.entry.specs.declared.Counted.the-variants.{Counters, Refused}
 use Rattle.entry.proofs.Placed.{found-row, refused-row}

@@ -9,9 +9,9 @@ use Rattle.octets.proofs.Parts.{getD-any}
 use Rattle.answer.specs.declared.Rises.{Rises}
 use Rattle.answer.specs.declared.Single.{Single}
 use Rattle.answer.specs.Answers.{outcomeBy}
-use Rattle.counters.specs.declared.Counters.{Counters}
-use Rattle.counters.specs.Counting.{zeros, raised, rowAfter, settledTo, settled}
-use Rattle.counters.proofs.Settling.{settled-next, settled-ahead, length-settled, settled-one}
+use Rattle.answer.specs.declared.Counters.{Counters}
+use Rattle.answer.specs.Counting.{zeros, raised, rowAfter, settledTo, settled}
+use Rattle.answer.proofs.Settling.{settled-next, settled-ahead, length-settled, settled-one}
 
 pub turned : (rows : List Counters) (rises : Rises) (rs : List Counters) (i : ℕ) (d r : Counters) → rises .from ≤ i → i < length rows → rs ≡ settledTo rows rises i → r ≡ rowAfter (getD rs i d) rises i → set rs i r ≡ settledTo rows rises (i + 1)
 turned rows rises rs i d r from h e q =

@@ -1,16 +1,16 @@
 // The entry points for a program that keeps 40 counter rows in an array and lends the first so many of them: rows go in by value and come back.
 // Where all 40 are lent the public entry points do the work; else the rooms below them do it, and the rows are settled by value.
 use answer::Answer;
+use answer::Counters;
 use answer::Outcome;
 use answer::Single;
 use card::Card;
-use counters::Counters;
 use entry::Counted;
 use framing::Framed;
 ghost use mathlib.Core.Path.{_≡_};
 ghost use Prim.Native.Nat.{_≤_};
 ghost use Rattle.answer.specs.Answers.{outcomeBy};
-ghost use Rattle.counters.specs.Counting.{settled, risesTo};
+ghost use Rattle.answer.specs.Counting.{settled, risesTo};
 ghost use Rattle.entry.specs.Outcomes.{arrives, frames, hears, takes, countsOf, loads, LeavesStore, LeavesAll, LeavesBytes, LeavesMemory};
 
 // What is given back, and the rows afterwards.
@@ -101,24 +101,24 @@ fn take_by_entry(
     joined(answer, rs)
 }
 
-// The rows after a load: by value what `counters::settle` does to lent ones.
+// The rows after a load: by value what `answer::settle` does to lent ones.
 fn settle(rows: [Counters; 40], o: Outcome) -> After
     requires { ⌜ o .rises .to ≤ 32 ⌝ }
     ensures { λ r. ⌜ (r .answer ≡ o .answer) × (r .rows ≡ settled rows (o .rises)) ⌝ }
 {
     let mut rs = rows;
-    let rises = counters::rises_of(o);
-    let n = counters::last(rises);
-    let mut i = counters::first(rises);
+    let rises = answer::rises_of(o);
+    let n = answer::last(rises);
+    let mut i = answer::first(rises);
     while i < n {
         let c = rs[i];
-        rs[i] = counters::row_by(c, counters::rise_at(rises, i));
+        rs[i] = answer::row_by(c, answer::rise_at(rises, i));
         i += 1;
     }
-    joined(counters::answer_of(o), rs)
+    joined(answer::answer_of(o), rs)
 }
 
-// The rows after an event at one unit: by value what `counters::raise` does to lent ones.
+// The rows after an event at one unit: by value what `answer::raise` does to lent ones.
 fn raise(rows: [Counters; 40], done: Single) -> After
     requires { ⌜ outcomeBy done .rises .to ≤ 32 ⌝ }
     ensures { λ r. ⌜ (r .answer ≡ outcomeBy done .answer) × (r .rows ≡ settled rows (outcomeBy done .rises)) ⌝ }
@@ -128,12 +128,12 @@ fn raise(rows: [Counters; 40], done: Single) -> After
         let i = done.place;
         let c = rs[i];
         rs[i] = c.raised(done.counters);
-        return joined(counters::answer_by(done), rs);
+        return joined(answer::answer_by(done), rs);
     }
-    joined(counters::answer_by(done), rows)
+    joined(answer::answer_by(done), rows)
 }
 
-// The rows after a frame: by value what `counters::raise_each` does to lent ones.
+// The rows after a frame: by value what `answer::raise_each` does to lent ones.
 fn raise_each(rows: [Counters; 40], each: [u16; 32], done: Framed) -> After
     requires { ⌜ done .to ≤ 32 ⌝ }
     ensures { λ r. ⌜ (r .answer ≡ done .answer) × (r .rows ≡ settled rows (risesTo (done .to) each)) ⌝ }
@@ -144,7 +144,7 @@ fn raise_each(rows: [Counters; 40], each: [u16; 32], done: Framed) -> After
     let mut i: usize = 0;
     while i < n {
         let c = rs[i];
-        rs[i] = counters::risen(c, each[i]);
+        rs[i] = answer::risen(c, each[i]);
         i += 1;
     }
     joined(answer, rs)
@@ -164,7 +164,7 @@ pub fn load(
     if lent == 40 {
         return load_by_entry(card, text, memory, state, store, rows);
     }
-    settle(rows, loading::load(card, text, memory, state, store, lent))
+    settle(rows, table::load(card, text, memory, state, store, lent))
 }
 
 pub fn arrive(
@@ -251,7 +251,7 @@ pub fn count(
 ) -> Counted
     ensures { λ r. ⌜ r ≡ countsOf card (now (state .entry)) (now (store .entry)) rows lent unit ⌝ }
 {
-    let place = admit::counted(card, state, store, lent, unit);
+    let place = soundness::counted(card, state, store, lent, unit);
     let number = entry::number_of(place);
     if number != 0 {
         return entry::refusal(number);

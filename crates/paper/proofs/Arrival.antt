@@ -18,12 +18,12 @@ use Rattle.header.specs.declared.Link.the-variants.{Nni}
 use Rattle.card.specs.declared.Card.{Card}
 use Rattle.card.specs.declared.Card.the-variants.{Narrow, Wide}
 use lib.Seq.{getD-take, getD-drop}
-use Rattle.record.proofs.Laws.{kind-route, kind-page}
-use Rattle.record.specs.Record as record·
-use Rattle.record.specs.declared.Record as R
-use Rattle.record.specs.declared.Record.the-variants as record·is
-use Rattle.record.specs.declared.Got.{Got}
-use Rattle.record.specs.declared.Got.the-variants as got
+use Rattle.lookup.proofs.RecordLaws.{kind-route, kind-page}
+use Rattle.lookup.specs.Record as record·
+use Rattle.lookup.specs.declared.Record as R
+use Rattle.lookup.specs.declared.Record.the-variants as record·is
+use Rattle.lookup.specs.declared.Got.{Got}
+use Rattle.lookup.specs.declared.Got.the-variants as got
 use Rattle.lookup.specs.Lookup as lookup
 use Rattle.lookup.specs.declared.Looked.{Looked}
 use Rattle.lookup.specs.declared.Looked.the-variants as looked

@@ -18,14 +18,14 @@ use Rattle.header.specs.Fields.{fields}
 use Rattle.header.specs.Check as header
 use Rattle.header.specs.declared.Link.{Link}
 use Rattle.header.specs.declared.Link.the-variants.{Uni, Nni}
-use Rattle.routing.specs.Routing as routing
-use Rattle.routing.specs.declared.Target as T
-use Rattle.routing.specs.declared.Target.the-variants as target
+use Rattle.bus.specs.Routing as routing
+use Rattle.bus.specs.declared.Target as T
+use Rattle.bus.specs.declared.Target.the-variants as target
 use Rattle.bus.specs.Frame as bus
-use Rattle.routing.specs.declared.Address.the-variants.{Bad, To}
+use Rattle.bus.specs.declared.Address.the-variants.{Bad, To}
 use Rattle.bus.specs.declared.Heard.the-variants as sort
-use Rattle.routing.specs.Routing.{Sayable}
-use Rattle.routing.proofs.Laws.{checked, unchecked, address-routing, routing-lt}
+use Rattle.bus.specs.Routing.{Sayable}
+use Rattle.bus.proofs.RoutingLaws.{checked, unchecked, address-routing, routing-lt}
 use Rattle.bus.proofs.Laws.{heard-parity, heard-address}
 use Rattle.outlet.proofs.Truth.{decide}
 use Rattle.paper.specs.Cells.{byte, two, four, fourBytes, vpi, vci, pt, clp, HeaderCheck, kind, class, address, RoutingCheck, Says, RoutingOf, busCell, exclusiveOr, parity, Damaged, bad-parity, bad-check, kind-3, unicast-above, broadcast-not}

@@ -15,9 +15,9 @@ use Rattle.answer.specs.declared.Arrival as A
 use Rattle.answer.specs.declared.Arrival.the-variants as arrival
 use Rattle.answer.specs.declared.Hearing as H
 use Rattle.answer.specs.declared.Hearing.the-variants as hearing
-use Rattle.counters.specs.Counting.{value, zeros, raised, rowAfter, settled}
-use Rattle.counters.specs.declared.Counters as C
-use Rattle.counters.proofs.Settling.{raised-value, length-settled, settled-row, settled-ahead, settled-behind}
+use Rattle.answer.specs.Counting.{value, zeros, raised, rowAfter, settled}
+use Rattle.answer.specs.declared.Counters as C
+use Rattle.answer.proofs.Settling.{raised-value, length-settled, settled-row, settled-ahead, settled-behind}
 use Rattle.store.proofs.Slots.{by-lt}
 use Rattle.paper.specs.Counters.{Counter, arrived, hec, ignored, misrouted, inletfull, sent, unheard, damaged, queued, full, clp, wide, taken, placeOf, valueOf, arrivalCounts, hearingCounts, occurs, Risen, rowAt, RisenAt, RisenIn}
 use Rattle.outlet.proofs.Truth.{decide}

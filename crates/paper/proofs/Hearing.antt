@@ -1,4 +1,4 @@
--- What `queueing` and `shelf` say of a copy is what the paper says. Assumes nothing.
+-- What `outlet` and `shelf` say of a copy is what the paper says. Assumes nothing.
 use Prim.Native.Nat.{ℕ, zero, suc, _+_, _*_, _/_, _%_, _^_, _<_, _≤_}
 use native.Mathlib.Nat.{mod-lt}
 use native.Mathlib.Omega.{arith}
@@ -15,9 +15,9 @@ use Rattle.outlet.specs.Outlets as outlet
 use Rattle.outlet.specs.declared.Mode.{Mode}
 use Rattle.outlet.specs.declared.Mode.the-variants.{One, Four}
 use Rattle.outlet.specs.declared.Limits.{Limits}
-use Rattle.queueing.specs.Hearing as queueing
-use Rattle.queueing.specs.declared.Fate.{Fate}
-use Rattle.queueing.specs.declared.Fate.the-variants as fate
+use Rattle.outlet.specs.Hearing as queueing
+use Rattle.outlet.specs.declared.Fate.{Fate}
+use Rattle.outlet.specs.declared.Fate.the-variants as fate
 use Rattle.shelf.specs.Sessions.{hears}
 use Rattle.shelf.specs.declared.Unit as U
 use Rattle.paper.specs.Cells.{two, four, vpi, clp, class}

@@ -8,3 +8,8 @@ pub mod Hearing
 pub mod Take
 pub mod Answers
 pub mod Layouts
+pub mod Numerals
+pub mod Fields
+pub mod Ranges
+pub mod Readings
+pub mod Texts

@@ -16,7 +16,7 @@ use Rattle.outlet.specs.declared.Mode.the-variants.{One, Four}
 use Rattle.outlet.specs.declared.Limits.{Limits}
 use Rattle.outlet.specs.declared.Ring.{Ring}
 use Rattle.outlet.specs.declared.Outlet.{Outlet}
-use Rattle.queueing.specs.Hearing as hearing
+use Rattle.outlet.specs.Hearing as hearing
 use Rattle.store.specs.Rings as rings
 use Rattle.store.specs.Places as places
 use Rattle.paper.specs.Outlets.{Queue, queuesIn, queues, numberFor, nowhere, queueAt, ringAt, held, AtLimit, slotAt, cellAt, behind, longer, shorter}

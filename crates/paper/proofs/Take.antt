@@ -1,4 +1,4 @@
--- What `queueing` says of a cell that leaves is what the paper says. Assumes nothing.
+-- What `outlet` says of a cell that leaves is what the paper says. Assumes nothing.
 use Prim.Native.Nat.{ℕ, zero, suc, _+_, _*_, _/_, _%_, _<_, _≤_}
 use native.Mathlib.Nat.{mod-lt, mod-eq-of-lt}
 use native.Mathlib.Omega.{arith}
@@ -16,10 +16,10 @@ use Rattle.header.specs.declared.Link.the-variants.{Uni, Nni}
 use Rattle.outlet.specs.declared.Mode.{Mode}
 use Rattle.outlet.specs.declared.Mode.the-variants.{One, Four}
 use Rattle.outlet.specs.declared.Outlet.{Outlet}
-use Rattle.queueing.specs.Taking as queueing
-use Rattle.queueing.specs.declared.Leaving.{Leaving}
-use Rattle.queueing.specs.declared.Leaving.the-variants.{Queue, Empty}
-use Rattle.queueing.proofs.Leaves.{leaving-iff, marks-iff}
+use Rattle.outlet.specs.Taking as queueing
+use Rattle.outlet.specs.declared.Leaving.{Leaving}
+use Rattle.outlet.specs.declared.Leaving.the-variants.{Queue, Empty}
+use Rattle.outlet.proofs.Leaves.{leaving-iff, marks-iff}
 use Rattle.shelf.specs.declared.Unit as U
 use Rattle.paper.specs.Cells.{four, fourBytes, vpi, vci, pt, clp, header, HeaderCheck}
 use Rattle.paper.specs.Outlets.{queuesIn, queues, held, Marks, Crowded}

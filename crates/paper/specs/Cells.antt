@@ -10,8 +10,8 @@ use Rattle.remainder.specs.Bits.{bits, number}
 use Rattle.remainder.specs.Division.{IsRemainder}
 use Rattle.header.specs.declared.Link.{Link}
 use Rattle.header.specs.declared.Link.the-variants.{Uni, Nni}
-use Rattle.routing.specs.declared.Target as T
-use Rattle.routing.specs.declared.Target.the-variants as target
+use Rattle.bus.specs.declared.Target as T
+use Rattle.bus.specs.declared.Target.the-variants as target
 
 -- byte k of some bytes; "All two-byte and four-byte numbers are big-endian.": the number that the bytes from k on say, and the bytes that say a number
 abbrev pub byte : List ℕ → ℕ → ℕ

@@ -10,7 +10,7 @@ use Rattle.answer.specs.declared.Arrival as A
 use Rattle.answer.specs.declared.Arrival.the-variants as arrival
 use Rattle.answer.specs.declared.Hearing as H
 use Rattle.answer.specs.declared.Hearing.the-variants as hearing
-use Rattle.counters.specs.declared.Counters as C
+use Rattle.answer.specs.declared.Counters as C
 
 -- "Thirteen counters a unit ..: arrived, hec, ignored, misrouted, inletfull, sent, unheard, damaged, queued (outlet), full, clp, wide, taken."
 pub data Counter : Type 0 where

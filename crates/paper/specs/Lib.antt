@@ -8,3 +8,5 @@ pub mod Hearing
 pub mod Take
 pub mod Answers
 pub mod Layouts
+pub mod Words
+pub mod Reads

@@ -1,1 +1,1 @@
-// Document 01 in its own numbers: what its words mean in bytes, written from the paper and shared with no code. It has no function of its own.
+// Document 01 in its own numbers and words, and the proofs that the rooms' own definitions are these. No code.

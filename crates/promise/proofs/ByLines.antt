@@ -10,14 +10,14 @@ use borrow.Author.Tests.{le-ltb, ltb-false, eqb-true}
 use Rattle.header.specs.Fields.{fields}
 use Rattle.header.specs.declared.Header as H
 use Rattle.header.specs.declared.Link.{Link}
-use Rattle.routing.specs.Routing.{routing}
-use Rattle.routing.specs.declared.Target.{Target}
+use Rattle.bus.specs.Routing.{routing}
+use Rattle.bus.specs.declared.Target.{Target}
 use Rattle.card.specs.declared.Card.{Card}
-use Rattle.record.specs.Record.{size, usable, recordAt, Holds}
-use Rattle.record.specs.declared.Record as R
-use Rattle.record.specs.declared.Record.the-variants.{Empty, Drop as R·Drop, Route, Page as R·Page}
-use Rattle.record.specs.declared.Got.{Got}
-use Rattle.record.specs.declared.Got.the-variants.{Is}
+use Rattle.lookup.specs.Record.{size, usable, recordAt, Holds}
+use Rattle.lookup.specs.declared.Record as R
+use Rattle.lookup.specs.declared.Record.the-variants.{Empty, Drop as R·Drop, Route, Page as R·Page}
+use Rattle.lookup.specs.declared.Got.{Got}
+use Rattle.lookup.specs.declared.Got.the-variants.{Is}
 use Rattle.lookup.specs.Lookup.{goesBy, byVci, byVpi, byGot, translated}
 use Rattle.lookup.specs.declared.Looked.{Looked}
 use Rattle.lookup.specs.declared.Looked.the-variants.{Ignored, Misrouted}

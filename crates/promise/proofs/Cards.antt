@@ -14,10 +14,10 @@ use Rattle.card.specs.declared.Card.{Card}
 use Rattle.card.specs.declared.Card.the-variants.{Narrow, Wide as W}
 use Rattle.card.specs.declared.Ask.{Ask}
 use Rattle.card.specs.declared.Ask.the-variants.{Bus as A·Bus, On, Out}
-use Rattle.record.specs.Record.{size, usable, recordAt}
-use Rattle.record.specs.declared.Record as R
-use Rattle.record.specs.declared.Record.the-variants.{Empty, Drop as R·Drop, Route, Page as R·Page}
-use Rattle.record.specs.declared.Got.the-variants.{Is}
+use Rattle.lookup.specs.Record.{size, usable, recordAt}
+use Rattle.lookup.specs.declared.Record as R
+use Rattle.lookup.specs.declared.Record.the-variants.{Empty, Drop as R·Drop, Route, Page as R·Page}
+use Rattle.lookup.specs.declared.Got.the-variants.{Is}
 use Rattle.lookup.specs.Lookup.{translated}
 use Rattle.shelf.specs.Shelves.{blank, declared, findIn}
 use Rattle.shelf.specs.declared.Found.the-variants.{At, Nothing}
@@ -25,9 +25,9 @@ use Rattle.line.specs.declared.Line.{Line}
 use Rattle.line.specs.declared.Line.the-variants.{Bus, Unit as L·Unit, Vp, Drop, Page, Vc, Mc}
 use Rattle.line.specs.declared.Reading.{Reading}
 use Rattle.line.specs.declared.Reading.the-variants.{Good as Read}
-use Rattle.verdict.specs.declared.Verdict.{Verdict}
-use Rattle.verdict.specs.declared.Verdict.the-variants.{Fine, Order, Twice, Wide}
-use Rattle.verdict.specs.Verdicts.{asked, roomFor, offBus, taken, pageIn}
+use Rattle.judge.specs.declared.Verdict.{Verdict}
+use Rattle.judge.specs.declared.Verdict.the-variants.{Fine, Order, Twice, Wide}
+use Rattle.judge.specs.Verdicts.{asked, roomFor, offBus, taken, pageIn}
 use Rattle.judge.specs.Judge.{inPage, judgeBus, judgeUnit, judgeVp, judgeVc}
 use Rattle.told.specs.Told.{ofUnit, ofPage, topOf, total, recordOf, shelfOf, memoryOf}
 use Rattle.told.specs.Lines.{started, isFirst, owned, isDeclared, judge, Good}

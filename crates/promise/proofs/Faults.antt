@@ -10,28 +10,28 @@ use lib.Dec.{eqb, leb, ltb}
 use lib.ListN.{length}
 use borrow.Author.Tests.{eqb-true, eq-eqb, leb-true, leb-false, ltb-true, ltb-false}
 use Rattle.header.specs.declared.Link.the-variants.{Uni, Nni}
-use Rattle.routing.specs.declared.Target.{Target}
-use Rattle.routing.specs.declared.Target.the-variants.{Unit as T·Unit, Session, All}
+use Rattle.bus.specs.declared.Target.{Target}
+use Rattle.bus.specs.declared.Target.the-variants.{Unit as T·Unit, Session, All}
 use Rattle.card.specs.Cards.{holds, narrowHolds}
 use Rattle.card.specs.declared.Card.{Card}
 use Rattle.card.specs.declared.Card.the-variants.{Narrow, Wide as W·}
 use Rattle.card.specs.declared.Ask.{Ask}
 use Rattle.card.specs.declared.Ask.the-variants.{Bus as A·Bus, On, Out}
-use Rattle.record.specs.Record.{size, usable}
-use Rattle.record.specs.declared.Record as R
-use Rattle.record.specs.declared.Record.the-variants.{Empty, Drop as R·Drop, Route, Page as R·Page}
-use Rattle.record.specs.declared.Got.the-variants.{Is}
+use Rattle.lookup.specs.Record.{size, usable}
+use Rattle.lookup.specs.declared.Record as R
+use Rattle.lookup.specs.declared.Record.the-variants.{Empty, Drop as R·Drop, Route, Page as R·Page}
+use Rattle.lookup.specs.declared.Got.the-variants.{Is}
 use Rattle.outlet.specs.declared.Limits.{Limits}
 use Rattle.shelf.specs.declared.Settings.{Settings}
 use Rattle.line.specs.declared.Line.{Line}
 use Rattle.line.specs.declared.Line.the-variants.{Bus, Unit as L·Unit, Vp, Drop, Page, Vc, Mc}
-use Rattle.ranged.specs.declared.Wrong.{Wrong}
+use Rattle.line.specs.declared.Wrong.{Wrong}
 use Rattle.line.specs.Lines.{readingOf}
 use Rattle.line.specs.declared.Reading.{Reading}
 use Rattle.line.specs.declared.Reading.the-variants.{Good as Read, Bad}
-use Rattle.verdict.specs.declared.Verdict.{Verdict}
-use Rattle.verdict.specs.declared.Verdict.the-variants.{Fine, Form, Order, Twice, Wide, Room}
-use Rattle.verdict.specs.Verdicts.{numberOf, asked, roomFor, offBus, taken, pageIn}
+use Rattle.judge.specs.declared.Verdict.{Verdict}
+use Rattle.judge.specs.declared.Verdict.the-variants.{Fine, Form, Order, Twice, Wide, Room}
+use Rattle.judge.specs.Verdicts.{numberOf, asked, roomFor, offBus, taken, pageIn}
 use Rattle.judge.specs.Judge.{inPage, judgeBus, judgeUnit, judgeVp, judgeDrop, judgePage, judgeVc, judgeMc}
 use Rattle.told.specs.Told.{ofUnit, ofPage, topOf, total, recordOf, hearsIn, shelfOf}
 use Rattle.told.specs.Lines.{started, isFirst, owned, isDeclared, judge, Good, verdictOn}
@@ -41,8 +41,8 @@ use Rattle.told.proofs.Grown.{Grown, decide, grown}
 use Rattle.told.proofs.Memory.{fits-room}
 use Rattle.told.proofs.Members.{heard-in, in-heard, first-is, bus-in, in-bus, below-bus}
 use Rattle.promise.specs.Says.{Declares, Uses, HasUnit, IsUnit, HasTarget, HasVpi, Gives, IsVc, IsWide, recordsBy, recordsOf}
-use Rattle.wording.specs.Words.{wordsOf, InRange}
-use Rattle.wording.proofs.Readings.{reads-iff, words-only, form-iff}
+use Rattle.paper.specs.Words.{wordsOf, InRange}
+use Rattle.paper.proofs.Readings.{reads-iff, words-only, form-iff}
 use Rattle.promise.specs.Faults.{OutOfOrder, first-not-bus, bus-again, unit-off, target-off, not-declared, vpi-above, no-page, vci-above, Again, unit-again, vpi-again, vc-again, mc-again, Exceeds, Fault, order, twice, wide, room, Condition, not-ended, no-line, fault, Faultless}
 use Rattle.promise.proofs.Said.{records-total, declared, page-in, given-before, before-given, vc-before, before-vc, top-is, top-of-page, page-stands}
 

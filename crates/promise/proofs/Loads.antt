@@ -12,7 +12,7 @@ use borrow.Author.Tests.{eqb-true, eqb-false, ltb-true, ltb-false}
 use Rattle.card.specs.declared.Card.{Card}
 use Rattle.card.specs.declared.Ask.the-variants.{On}
 use Rattle.card.specs.Cards.{holds}
-use Rattle.record.specs.Record.{size, usable}
+use Rattle.lookup.specs.Record.{size, usable}
 use Rattle.outlet.specs.declared.Limits.{Limits}
 use Rattle.outlet.proofs.Laws.{rings-iff, empty-fits, fresh-fits}
 use Rattle.arbiter.specs.Arbitration.{nobody}
@@ -28,7 +28,7 @@ use Rattle.soundness.proofs.Facts.{link-iff, sound-iff, fresh-sound}
 use Rattle.line.specs.Ranges.{Given as LineGiven, InRange as LineIn}
 use Rattle.line.specs.declared.Line.{Line}
 use Rattle.line.specs.declared.Line.the-variants.{Bus, Unit as L·Unit, Vp, Drop, Page, Vc, Mc}
-use Rattle.verdict.specs.declared.Verdict.the-variants.{Fine}
+use Rattle.judge.specs.declared.Verdict.the-variants.{Fine}
 use Rattle.told.specs.Told.{total, declare, hearing, joinAt, shelfBy, shelfOf}
 use Rattle.told.specs.Lines.{judge, Good}
 use Rattle.told.proofs.Fits.{fine-unit}

@@ -9,14 +9,14 @@ use lib.Dec.{ltb}
 use lib.ListN.{length}
 use borrow.Author.Tests.{ltb-true, ltb-false, lt-ltb, le-ltb}
 use Rattle.card.specs.declared.Card.{Card}
-use Rattle.record.specs.Record.{size, usable, cleared}
+use Rattle.lookup.specs.Record.{size, usable, cleared}
 use Rattle.line.specs.Lines.{readingOf}
 use Rattle.line.specs.declared.Line.{Line}
 use Rattle.line.specs.declared.Reading.{Reading}
 use Rattle.shelf.specs.Shelf.{Shelf}
-use Rattle.verdict.specs.declared.Verdict.{Verdict}
-use Rattle.verdict.specs.declared.Verdict.the-variants.{Fine, Form, Order, Twice, Wide, Room}
-use Rattle.verdict.specs.Verdicts.{numberOf}
+use Rattle.judge.specs.declared.Verdict.{Verdict}
+use Rattle.judge.specs.declared.Verdict.the-variants.{Fine, Form, Order, Twice, Wide, Room}
+use Rattle.judge.specs.Verdicts.{numberOf}
 use Rattle.told.specs.Told.{total, shelfOf, memoryOf}
 use Rattle.told.specs.Lines.{Good, Ran, done, stopped, verdictOn}
 use Rattle.told.proofs.Memory.{AllRanged}

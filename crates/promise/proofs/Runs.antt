@@ -12,17 +12,17 @@ use Rattle.line.specs.declared.Line.{Line}
 use Rattle.line.specs.declared.Reading.{Reading}
 use Rattle.line.specs.declared.Reading.the-variants.{Good as Read, Bad}
 use Rattle.line.specs.Ranges.{InRange}
-use Rattle.verdict.specs.declared.Verdict.{Verdict}
-use Rattle.verdict.specs.declared.Verdict.the-variants.{Fine}
-use Rattle.verdict.specs.Verdicts.{isFine}
+use Rattle.judge.specs.declared.Verdict.{Verdict}
+use Rattle.judge.specs.declared.Verdict.the-variants.{Fine}
+use Rattle.judge.specs.Verdicts.{isFine}
 use Rattle.told.specs.Lines.{judge, Good, Ran, done, stopped, verdictOn, run}
 use Rattle.told.proofs.Grown.{decide}
 use Rattle.told.proofs.Memory.{AllRanged}
 use Rattle.table.specs.Load.{ranOf}
 use Rattle.table.proofs.Leaves.{fine-is}
 use Rattle.table.proofs.Turns.{ranged}
-use Rattle.wording.specs.Words as wording
-use Rattle.wording.proofs.Ranges.{range-iff}
+use Rattle.paper.specs.Words as wording
+use Rattle.paper.proofs.Ranges.{range-iff}
 use Rattle.promise.specs.Readings.{linesOf, readThen}
 
 -- every line is good after those before it

@@ -7,10 +7,10 @@ use Prim.Native.Nat.{ℕ, _+_, _*_}
 use native.Mathlib.Omega.{arith}
 use lib.Dec.{eqb}
 use borrow.Author.Tests.{eqb-true, eq-eqb}
-use Rattle.record.specs.Record.{size}
-use Rattle.record.specs.declared.Record as R
-use Rattle.record.specs.declared.Record.the-variants.{Empty, Page as R·Page}
-use Rattle.record.specs.declared.Got.the-variants.{Is}
+use Rattle.lookup.specs.Record.{size}
+use Rattle.lookup.specs.declared.Record as R
+use Rattle.lookup.specs.declared.Record.the-variants.{Empty, Page as R·Page}
+use Rattle.lookup.specs.declared.Got.the-variants.{Is}
 use Rattle.card.specs.declared.Card.{Card}
 use Rattle.shelf.specs.Shelves.{findIn}
 use Rattle.shelf.specs.Shelf.{Shelf}
@@ -18,7 +18,7 @@ use Rattle.shelf.specs.declared.Found.{Found}
 use Rattle.shelf.specs.declared.Found.the-variants.{At, Nothing}
 use Rattle.line.specs.declared.Line.{Line}
 use Rattle.line.specs.declared.Line.the-variants.{Bus, Unit as L·Unit, Vp, Drop, Page, Vc, Mc}
-use Rattle.verdict.specs.Verdicts.{taken}
+use Rattle.judge.specs.Verdicts.{taken}
 use Rattle.told.specs.Told.{ofUnit, ofPage, same, opens, gives, only, topBy, topOf, takes, total, givenBy, recordOf, declare, joinAt, shelfBy, shelfOf}
 use Rattle.told.specs.Lines.{Good}
 use Rattle.told.proofs.Tabulate.{none-some, only-true, only-is}

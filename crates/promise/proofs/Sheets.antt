@@ -6,7 +6,7 @@ use lib.Dec.{eqb, eqb→eq}
 use Rattle.remainder.specs.Bits.{bits, number}
 use Rattle.remainder.specs.Division.{minus, divide, remainder, residue}
 use Rattle.remainder.proofs.Every.{each}
-use Rattle.routing.specs.Routing.{check}
+use Rattle.bus.specs.Routing.{check}
 use Rattle.promise.specs.Sheet.{sheet}
 
 pub check-sheet : (word : ℕ) → word < 4096 → check word ≡ sheet word

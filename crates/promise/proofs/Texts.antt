@@ -10,18 +10,18 @@ use lib.ListN.{length, length-append}
 use borrow.Author.Tests.{eqb-true, eqb-false, ne-eqb}
 use Rattle.text.specs.Text.{split}
 use Rattle.text.proofs.Split.{split-some}
-use Rattle.ranged.specs.declared.Wrong.{Wrong}
-use Rattle.ranged.specs.declared.Wrong.the-variants.{Newline}
+use Rattle.line.specs.declared.Wrong.{Wrong}
+use Rattle.line.specs.declared.Wrong.the-variants.{Newline}
 use Rattle.line.specs.Lines.{readingOf}
 use Rattle.line.specs.declared.Line.{Line}
 use Rattle.line.specs.declared.Reading.{Reading}
 use Rattle.line.specs.declared.Reading.the-variants.{Good as Read, Bad}
 use Rattle.table.specs.Load.{readingsOf}
 use Rattle.told.proofs.Grown.{decide}
-use Rattle.wording.specs.Words.{wordsOf, textOf, AllInRange}
+use Rattle.paper.specs.Words.{wordsOf, textOf, AllInRange}
 use Rattle.promise.specs.Refusals.{Ends, newline, no-newline, empty-text}
-use Rattle.wording.proofs.Fields.{Cut, cut, split-last, split-front, words-without}
-use Rattle.wording.proofs.Readings.{reads-iff}
+use Rattle.paper.proofs.Fields.{Cut, cut, split-last, split-front, words-without}
+use Rattle.paper.proofs.Readings.{reads-iff}
 use Rattle.promise.specs.Readings.{linesOf, readThen, AllReadIff, ReadAt, LineReadIff}
 
 abbrev lines : List ℕ → List Reading

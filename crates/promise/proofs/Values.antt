@@ -4,12 +4,12 @@ use Rattle.remainder.specs.Bits.{bits, number}
 use Rattle.remainder.specs.Division.{minus, divide, remainder, residue}
 use Rattle.header.specs.Fields.{fields}
 use Rattle.header.specs.Check.{check as header-check}
-use Rattle.routing.specs.Routing.{check as routing-check, upper, routing}
+use Rattle.bus.specs.Routing.{check as routing-check, upper, routing}
 use Rattle.card.specs.Cards.{holds as card-holds, narrowHolds}
 use Rattle.text.specs.Text.{split, same as same-word}
 use Rattle.text.specs.Digits.{digit, digits, plain, decimalOf, value}
-use Rattle.ranged.specs.Ranged.{ranged, aimOf}
-use Rattle.unitline.specs.Units.{settingsOn, settingsOf, limitsIn, limitsOf}
+use Rattle.line.specs.Ranged.{ranged, aimOf}
+use Rattle.line.specs.Units.{settingsOn, settingsOf, limitsIn, limitsOf}
 use Rattle.line.specs.Lines.{busLine, unitLine, keyOf, wayOf, vpLine, lineOf, wordOf, spoken, readingOf}
 use Rattle.judge.specs.Judge.{judgeBus, judgeUnit, judgeVp}
 use Rattle.told.specs.Told.{same as same-whose, opens, gives, topOf, total, recordOf, declare, shelfBy, shelfOf}

@@ -9,7 +9,7 @@ use Rattle.card.specs.declared.Card.{Card}
 use Rattle.card.specs.declared.Card.the-variants.{Narrow}
 use Rattle.line.specs.declared.Line.{Line}
 use Rattle.line.specs.declared.Line.the-variants.{Bus, Page, Mc}
-use Rattle.wording.specs.Words.{wordsOf, InRange}
+use Rattle.paper.specs.Words.{wordsOf, InRange}
 use Rattle.promise.specs.Says.{Declares, Uses, HasUnit, HasTarget, HasVpi, Gives, IsVc, IsWide, recordsOf}
 
 -- some line before it is such

@@ -7,13 +7,13 @@ use mathlib.Core.Logic.{_↔_}
 use lib.Dec.{eqb}
 use lib.ListN.{length}
 use Rattle.text.specs.Text.{split}
-use Rattle.ranged.specs.declared.Wrong.the-variants.{Newline}
+use Rattle.line.specs.declared.Wrong.the-variants.{Newline}
 use Rattle.line.specs.Lines.{readingOf}
 use Rattle.line.specs.declared.Line.{Line}
 use Rattle.line.specs.declared.Reading.{Reading}
 use Rattle.line.specs.declared.Reading.the-variants.{Good as Read, Bad}
 use Rattle.table.specs.Load.{readingsOf}
-use Rattle.wording.specs.Words.{textOf, AllInRange}
+use Rattle.paper.specs.Words.{textOf, AllInRange}
 use Rattle.promise.specs.Refusals.{LineAt}
 
 -- the lines of a text; "empty text (line 1)" is a line that no newline ended

@@ -7,7 +7,7 @@ use mathlib.Core.Logic.{_⊎_}
 use lib.ListN.{length}
 use Rattle.card.specs.declared.Card.{Card}
 use Rattle.line.specs.declared.Line.{Line}
-use Rattle.wording.specs.Words.{textOf, AllInRange}
+use Rattle.paper.specs.Words.{textOf, AllInRange}
 use Rattle.promise.specs.Says.{unitLines}
 use Rattle.promise.specs.Faults.{Condition, Faultless}
 

@@ -4,8 +4,8 @@ use mathlib.Core.Path.{_≡_}
 use mathlib.Core.Logic.{_⊎_}
 use mathlib.Core.List.{List, [], _∷_}
 use Rattle.header.specs.declared.Link.the-variants.{Nni}
-use Rattle.routing.specs.declared.Target.{Target}
-use Rattle.routing.specs.declared.Target.the-variants.{Unit as T·Unit, Session, All}
+use Rattle.bus.specs.declared.Target.{Target}
+use Rattle.bus.specs.declared.Target.the-variants.{Unit as T·Unit, Session, All}
 use Rattle.line.specs.declared.Line.{Line}
 use Rattle.line.specs.declared.Line.the-variants.{Bus, Unit as L·Unit, Vp, Drop, Page, Vc, Mc}
 

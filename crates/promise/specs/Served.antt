@@ -7,9 +7,9 @@ use lib.Dec.{eqb, ltb}
 use Rattle.header.specs.Fields.{fields}
 use Rattle.header.specs.declared.Header as H
 use Rattle.header.specs.declared.Link.{Link}
-use Rattle.routing.specs.Routing.{routing}
+use Rattle.bus.specs.Routing.{routing}
 use Rattle.card.specs.declared.Card.{Card}
-use Rattle.record.specs.Record.{recordAt}
+use Rattle.lookup.specs.Record.{recordAt}
 use Rattle.lookup.specs.Lookup.{goesBy, translated}
 use Rattle.lookup.specs.declared.Looked.{Looked}
 use Rattle.lookup.specs.declared.Looked.the-variants.{Ignored, Misrouted}

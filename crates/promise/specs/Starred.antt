@@ -8,9 +8,9 @@ use Rattle.header.specs.Fields.{fields}
 use Rattle.header.specs.Check.{check}
 use Rattle.header.specs.declared.Link.{Link}
 use Rattle.header.specs.declared.Link.the-variants.{Uni, Nni}
-use Rattle.routing.specs.Routing.{routing}
-use Rattle.routing.specs.declared.Target.{Target}
-use Rattle.routing.specs.declared.Target.the-variants.{Unit as unit, Session as session}
+use Rattle.bus.specs.Routing.{routing}
+use Rattle.bus.specs.declared.Target.{Target}
+use Rattle.bus.specs.declared.Target.the-variants.{Unit as unit, Session as session}
 use Rattle.card.specs.declared.Card.{Card}
 use Rattle.card.specs.declared.Card.the-variants.{Narrow}
 use Rattle.table.specs.declared.Outcome.{Outcome}

@@ -6,8 +6,8 @@ use mathlib.Core.Bool.{true}
 use mathlib.Core.List.{List, [], _∷_, map}
 use lib.ListN.{length, getD}
 use Rattle.octets.specs.Octets.{four, part}
-use Rattle.routing.specs.Routing.{routing}
-use Rattle.routing.specs.Routing.{Sayable}
+use Rattle.bus.specs.Routing.{routing}
+use Rattle.bus.specs.Routing.{Sayable}
 use Rattle.card.specs.declared.Card.{Card}
 use Rattle.bus.specs.Frame.{cell}
 use Rattle.outlet.specs.Outlets.{queue}
@@ -21,9 +21,9 @@ use Rattle.line.specs.declared.Line.{Line}
 use Rattle.told.specs.Told.{hearsIn}
 use Rattle.promise.specs.Served.{lookupAt, saidBy}
 use Rattle.promise.proofs.Runs.{AllInRange}
-use Rattle.counters.specs.Counting.{value, zeros}
-use Rattle.counters.specs.declared.Counters as C
-use Rattle.admit.specs.Admission.{unitAt, Housed}
+use Rattle.answer.specs.Counting.{value, zeros}
+use Rattle.answer.specs.declared.Counters as C
+use Rattle.soundness.specs.Admission.{unitAt, Housed}
 use Rattle.paper.specs.Counters.{Counter, placeOf}
 use Rattle.document.specs.Counters.{counterOf}
 use Rattle.document.specs.Shelf as D

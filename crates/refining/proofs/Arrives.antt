@@ -14,7 +14,7 @@ use Rattle.header.specs.Fields.{fields, word}
 use Rattle.header.specs.declared.Header as H
 use Rattle.header.specs.declared.Link.the-variants.{Nni}
 use Rattle.header.proofs.Laws.{top-lt}
-use Rattle.routing.specs.Routing.{routing}
+use Rattle.bus.specs.Routing.{routing}
 use Rattle.card.specs.declared.Card.{Card}
 use Rattle.bus.specs.Frame.{cell}
 use Rattle.lookup.specs.Lookup.{soundHeader, goesBy}
@@ -35,7 +35,7 @@ use Rattle.promise.specs.Served.{become, lookedUp}
 use Rattle.promise.proofs.Runs.{AllInRange}
 use Rattle.answer.specs.Answers.{arrivalRises, row}
 use Rattle.answer.specs.declared.Answer.the-variants as answer
-use Rattle.admit.specs.Admission.{unitAt, withInlet, Housed}
+use Rattle.soundness.specs.Admission.{unitAt, withInlet, Housed}
 use Rattle.arriving.specs.Arriving as arriving
 use Rattle.arriving.specs.declared.Way.{Way}
 use Rattle.arriving.specs.declared.Way.the-variants.{Bus, Lost}

@@ -7,14 +7,14 @@ use mathlib.Core.List.{List, [], _∷_}
 use lib.Dec.{eqb}
 use lib.ListN.{length, take}
 use Rattle.card.specs.declared.Card.{Card}
-use Rattle.record.specs.Record.{cleared}
+use Rattle.lookup.specs.Record.{cleared}
 use Rattle.shelf.specs.Shelves.{declared, findIn, placeFrom, fresh, isAt}
 use Rattle.shelf.specs.declared.Found.{Found}
 use Rattle.shelf.specs.declared.Found.the-variants.{At, Nothing}
 use Rattle.shelf.specs.Shelf.{Shelf}
 use Rattle.soundness.specs.State.{soundOf}
-use Rattle.counters.specs.Counting.{settled, settledTo}
-use Rattle.counters.specs.declared.Counters as C
+use Rattle.answer.specs.Counting.{settled, settledTo}
+use Rattle.answer.specs.declared.Counters as C
 use Rattle.answer.specs.Answers.{refused}
 use Rattle.framing.specs.Frames as framing
 use Rattle.promise.proofs.Loads.{load-sound}

@@ -13,7 +13,7 @@ use Rattle.shelf.specs.Shelves as S
 use Rattle.shelf.specs.declared.Unit as U
 use Rattle.shelf.specs.Shelf.{Shelf}
 use Rattle.told.proofs.Grown.{decide}
-use Rattle.admit.specs.Admission.{unitAt, withUnit}
+use Rattle.soundness.specs.Admission.{unitAt, withUnit}
 use Rattle.document.specs.Counters.{Entry}
 use Rattle.document.specs.Shelf as D
 use Rattle.refining.proofs.Alike.{UnitAlike, Known, Alike}

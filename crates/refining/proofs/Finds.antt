@@ -10,7 +10,7 @@ use Rattle.shelf.specs.Shelves as S
 use Rattle.shelf.specs.declared.Found.the-variants as found
 use Rattle.shelf.specs.Shelf.{Shelf}
 use Rattle.shelf.proofs.Finding.{declared-at, find-at}
-use Rattle.admit.specs.Admission.{unitAt}
+use Rattle.soundness.specs.Admission.{unitAt}
 use Rattle.document.specs.Shelf as D
 use Rattle.refining.proofs.Alike.{Alike}
 

@@ -36,8 +36,8 @@ use Rattle.soundness.proofs.Facts.{sound-iff}
 use Rattle.answer.specs.declared.Hearing as A
 use Rattle.answer.specs.declared.Answer.the-variants.{Framed}
 use Rattle.answer.specs.Answers.{hearingRises, queuedOne, isAddressed}
-use Rattle.admit.specs.Admission.{unitAt, withUnit, withInlet, Housed}
-use Rattle.admit.proofs.Laws.{sound-housed}
+use Rattle.soundness.specs.Admission.{unitAt, withUnit, withInlet, Housed}
+use Rattle.soundness.proofs.Laws.{sound-housed}
 use Rattle.hearing.specs.Hearings as hearing
 use Rattle.framing.specs.Requests as requests
 use Rattle.framing.specs.Sending as sending

@@ -11,12 +11,12 @@ use lib.Seq.{getD-set-same, getD-set-other, drop-append-le, take-append-le}
 use borrow.Author.Tests.{leb-true, leb-false}
 use Rattle.octets.specs.Octets.{two, four, part}
 use Rattle.octets.proofs.Numbers.{four-append}
-use Rattle.routing.specs.Routing.{check, kindIn, numberIn, address}
-use Rattle.routing.specs.declared.Target as T
-use Rattle.routing.specs.declared.Target.the-variants as target
-use Rattle.routing.specs.declared.Address as Ad
-use Rattle.routing.specs.declared.Address.the-variants.{Bad, To}
-use Rattle.routing.specs.Routing.{Sayable}
+use Rattle.bus.specs.Routing.{check, kindIn, numberIn, address}
+use Rattle.bus.specs.declared.Target as T
+use Rattle.bus.specs.declared.Target.the-variants as target
+use Rattle.bus.specs.declared.Address as Ad
+use Rattle.bus.specs.declared.Address.the-variants.{Bad, To}
+use Rattle.bus.specs.Routing.{Sayable}
 use Rattle.card.specs.declared.Card.{Card}
 use Rattle.bus.specs.Frame.{heard, payload, parity, delivered}
 use Rattle.bus.specs.declared.Heard as H
@@ -24,9 +24,9 @@ use Rattle.bus.specs.declared.Heard.the-variants as frame
 use Rattle.arbiter.proofs.Requests.{same-or}
 use Rattle.outlet.specs.Outlets.{capacity, queue, empty}
 use Rattle.outlet.specs.declared.Ring.{Ring}
-use Rattle.queueing.specs.Hearing.{queueOf, limit, held, tooWide, busClp, fate, fateAt}
-use Rattle.queueing.specs.declared.Fate.the-variants as fates
-use Rattle.queueing.proofs.Fates.{queue-lt}
+use Rattle.outlet.specs.Hearing.{queueOf, limit, held, tooWide, busClp, fate, fateAt}
+use Rattle.outlet.specs.declared.Fate.the-variants as fates
+use Rattle.outlet.proofs.Fates.{queue-lt}
 use Rattle.store.specs.Rings.{tail, pushed}
 use Rattle.store.specs.Places.{start, outletSlot, putAt, outletCells}
 use Rattle.store.proofs.Rounds.{tail-lt}
@@ -40,8 +40,8 @@ use Rattle.soundness.specs.State.{soundOf}
 use Rattle.answer.specs.declared.Hearing as A
 use Rattle.answer.specs.declared.Hearing.the-variants.{Other, Wide, Full, Clp, Queued}
 use Rattle.answer.specs.declared.Answer.the-variants.{Heard}
-use Rattle.admit.specs.Admission.{unitAt, withQueue, Housed}
-use Rattle.admit.proofs.Laws.{sound-housed}
+use Rattle.soundness.specs.Admission.{unitAt, withQueue, Housed}
+use Rattle.soundness.proofs.Laws.{sound-housed}
 use Rattle.hearing.specs.Hearings as hearing
 use Rattle.hearing.specs.declared.Plan as P
 use Rattle.hearing.specs.declared.Plan.the-variants.{Queue, Lost}

@@ -12,7 +12,7 @@ use Rattle.outlet.specs.declared.Limits.{Limits}
 use Rattle.store.specs.Rings as R
 use Rattle.store.specs.Places.{cells, inletCells, outletCells}
 use Rattle.card.specs.declared.Card.{Card}
-use Rattle.record.specs.Record.{size, usable, recordAt}
+use Rattle.lookup.specs.Record.{size, usable, recordAt}
 use Rattle.lookup.specs.Lookup.{translated}
 use Rattle.shelf.specs.Shelves.{unit, blank, fresh, declared, findIn, numberOf}
 use Rattle.shelf.specs.declared.Unit as U
@@ -36,12 +36,12 @@ use Rattle.promise.specs.Refusals.{Accepts}
 use Rattle.promise.proofs.ByLines.{lookup-lines}
 use Rattle.promise.proofs.Refusals.{accepts-good, accepts-in-range, accepts-ranged, accepts-units, accepted}
 use Rattle.promise.proofs.Loads.{loaded-sound}
-use Rattle.loading.specs.Loads.{loadDone}
+use Rattle.table.specs.Loads.{loadDone}
 use Rattle.answer.specs.declared.Rises.{Rises}
-use Rattle.counters.specs.Counting as C·
-use Rattle.counters.specs.declared.Counters as C
-use Rattle.counters.proofs.Settling.{settled-row, settled-ahead, length-settled}
-use Rattle.admit.specs.Admission.{unitAt}
+use Rattle.answer.specs.Counting as C·
+use Rattle.answer.specs.declared.Counters as C
+use Rattle.answer.proofs.Settling.{settled-row, settled-ahead, length-settled}
+use Rattle.soundness.specs.Admission.{unitAt}
 use Rattle.paper.specs.Counters.{placeOf}
 use Rattle.document.specs.Counters.{times}
 use Rattle.document.specs.Shelf as D

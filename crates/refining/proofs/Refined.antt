@@ -8,15 +8,15 @@ use mathlib.Core.List.{List, [], _∷_}
 use lib.ListN.{length, getD, List·getD-map}
 use Rattle.card.specs.declared.Card.{Card}
 use Rattle.card.specs.declared.Card.the-variants.{Narrow, Wide}
-use Rattle.record.specs.Record.{most, usable}
+use Rattle.lookup.specs.Record.{most, usable}
 use Rattle.line.specs.declared.Line.{Line}
-use Rattle.counters.specs.Counting.{zeros}
-use Rattle.counters.specs.declared.Counters as C
+use Rattle.answer.specs.Counting.{zeros}
+use Rattle.answer.specs.declared.Counters as C
 use Rattle.told.specs.Lines.{Good}
 use Rattle.table.specs.declared.Outcome.the-variants.{Loaded, Refused}
 use Rattle.table.specs.Load.{load}
-use Rattle.loading.specs.Loads.{answerOf}
-use Rattle.loading.proofs.InPlace.{load-formed, load-long}
+use Rattle.table.specs.Loads.{answerOf}
+use Rattle.table.proofs.EventInPlace.{load-formed, load-long}
 use Rattle.promise.specs.Refusals.{Accepts}
 use Rattle.promise.specs.Says.{unitLines}
 use Rattle.promise.proofs.Faults.{good-iff}

@@ -19,9 +19,9 @@ use Rattle.answer.specs.declared.Hearing.the-variants as hearing
 use Rattle.bus.specs.declared.Heard as B
 use Rattle.bus.specs.declared.Heard.the-variants as frame
 use Rattle.line.specs.declared.Line.{Line}
-use Rattle.counters.specs.Counting.{value, zeros, raised, rowAfter, settled}
-use Rattle.counters.specs.declared.Counters as C
-use Rattle.counters.proofs.Settling.{raised-value, settled-row, settled-ahead, settled-behind}
+use Rattle.answer.specs.Counting.{value, zeros, raised, rowAfter, settled}
+use Rattle.answer.specs.declared.Counters as C
+use Rattle.answer.proofs.Settling.{raised-value, settled-row, settled-ahead, settled-behind}
 use Rattle.framing.specs.Sending.{sentRises}
 use Rattle.told.proofs.Grown.{decide}
 use Rattle.paper.proofs.Counters.{placed, tallies, Agree, agree, agree-hearing}

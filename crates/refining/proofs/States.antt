@@ -12,7 +12,7 @@ use Rattle.card.specs.declared.Card.{Card}
 use Rattle.bus.specs.Frame.{heard}
 use Rattle.bus.specs.declared.Heard as H
 use Rattle.store.specs.Places.{Cell}
-use Rattle.record.specs.Record.{usable, recordAt}
+use Rattle.lookup.specs.Record.{usable, recordAt}
 use Rattle.line.specs.declared.Line.{Line}
 use Rattle.told.specs.Told.{shelfOf}
 use Rattle.told.specs.Lines.{done}
@@ -29,17 +29,17 @@ use Rattle.state.specs.Placing.{freshBytes}
 use Rattle.state.proofs.Laws.{unit-at}
 use Rattle.soundness.specs.State.{soundOf}
 use Rattle.soundness.specs.Soundings.{formedAll, soundIn}
-use Rattle.counters.specs.declared.Counters as C
+use Rattle.answer.specs.declared.Counters as C
 use Rattle.answer.specs.Answers.{refusedWith, refused}
 use Rattle.answer.specs.Done.{outcomeOf}
 use Rattle.answer.specs.declared.Answer as N
 use Rattle.answer.specs.declared.Answer.the-variants.{Arrived}
 use Rattle.answer.specs.declared.Arrival as A
 use Rattle.answer.specs.declared.Arrival.the-variants.{Hec, Inletfull, Queued}
-use Rattle.admit.specs.Admission.{atUnit, admitted, admittedIn, decided, unitAt}
-use Rattle.admit.specs.declared.Admitted as D
-use Rattle.admit.specs.declared.Admitted.the-variants.{At, Refused}
-use Rattle.admit.proofs.InPlace.{in-place}
+use Rattle.soundness.specs.Admission.{atUnit, admitted, admittedIn, decided, unitAt}
+use Rattle.soundness.specs.declared.Admitted as D
+use Rattle.soundness.specs.declared.Admitted.the-variants.{At, Refused}
+use Rattle.soundness.proofs.InPlace.{in-place}
 use Rattle.arriving.specs.Arriving as arriving
 use Rattle.arriving.specs.InPlace as arriving·
 use Rattle.arriving.specs.declared.Way.{Way}
@@ -52,8 +52,8 @@ use Rattle.framing.specs.Scenes.{Scene, turns, heededBy}
 use Rattle.framing.specs.InPlace as framing·
 use Rattle.table.specs.Load.{tooLittle, ranOf}
 use Rattle.table.specs.InPlace.{stateOf, stateRan, stateLoaded}
-use Rattle.loading.specs.InPlace.{loadState}
-use Rattle.loading.proofs.InPlace.{load-formed, load-long}
+use Rattle.table.specs.EventInPlace.{loadState}
+use Rattle.table.proofs.EventInPlace.{load-formed, load-long}
 use Rattle.promise.specs.Readings.{linesOf}
 use Rattle.promise.specs.Refusals.{Accepts}
 use Rattle.promise.proofs.Runs.{done-iff-good, ran-lines}

@@ -15,22 +15,22 @@ use Rattle.shelf.specs.declared.Found.the-variants as found
 use Rattle.shelf.specs.Shelf.{Shelf}
 use Rattle.soundness.specs.State.{Sound}
 use Rattle.soundness.proofs.Facts.{sound-iff}
-use Rattle.queueing.specs.Taking.{leaving}
-use Rattle.queueing.specs.declared.Leaving as L
-use Rattle.queueing.specs.declared.Leaving.the-variants as leaves
+use Rattle.outlet.specs.Taking.{leaving}
+use Rattle.outlet.specs.declared.Leaving as L
+use Rattle.outlet.specs.declared.Leaving.the-variants as leaves
 use Rattle.answer.specs.Answers.{refused, row, arrivalRises, hearingRises, #taken}
 use Rattle.answer.specs.declared.Hearing as H
 use Rattle.bus.specs.Frame.{heard, payload}
 use Rattle.hearing.specs.Hearings as hearing
 use Rattle.document.specs.Hearing as Q
 use Rattle.answer.specs.declared.Answer.the-variants as answer
-use Rattle.counters.specs.Counting.{settledTo, settled, value, zeros}
-use Rattle.counters.proofs.Settling.{settled-ahead}
-use Rattle.counters.specs.declared.Counters as C
-use Rattle.admit.specs.Admission.{atUnit, admitted, decided, toldApart, unitAt, Housed}
-use Rattle.admit.specs.declared.Admitted as A
-use Rattle.admit.specs.declared.Admitted.the-variants.{At, Refused}
-use Rattle.admit.proofs.Laws.{sound-housed}
+use Rattle.answer.specs.Counting.{settledTo, settled, value, zeros}
+use Rattle.answer.proofs.Settling.{settled-ahead}
+use Rattle.answer.specs.declared.Counters as C
+use Rattle.soundness.specs.Admission.{atUnit, admitted, decided, toldApart, unitAt, Housed}
+use Rattle.soundness.specs.declared.Admitted as A
+use Rattle.soundness.specs.declared.Admitted.the-variants.{At, Refused}
+use Rattle.soundness.proofs.Laws.{sound-housed}
 use Rattle.arriving.specs.Arriving as arriving
 use Rattle.taking.specs.Takes as taking
 use Rattle.entry.specs.Counts.{countOf, counted}

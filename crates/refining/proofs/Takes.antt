@@ -14,11 +14,11 @@ use Rattle.outlet.specs.Outlets.{queue, capacity, empty}
 use Rattle.outlet.specs.declared.Mode.{Mode}
 use Rattle.outlet.specs.declared.Mode.the-variants.{One, Four}
 use Rattle.outlet.specs.declared.Ring.{Ring}
-use Rattle.queueing.specs.Hearing.{limit, held, atLimit}
-use Rattle.queueing.specs.Taking.{lowest, leaving, queues, marks, outgoing}
-use Rattle.queueing.specs.declared.Leaving as L
-use Rattle.queueing.specs.declared.Leaving.the-variants as leaves
-use Rattle.queueing.proofs.Leaves.{leaving-iff}
+use Rattle.outlet.specs.Hearing.{limit, held, atLimit}
+use Rattle.outlet.specs.Taking.{lowest, leaving, queues, marks, outgoing}
+use Rattle.outlet.specs.declared.Leaving as L
+use Rattle.outlet.specs.declared.Leaving.the-variants as leaves
+use Rattle.outlet.proofs.Leaves.{leaving-iff}
 use Rattle.store.specs.Places.{Cell, start, outletCells}
 use Rattle.store.specs.Rings.{popped}
 use Rattle.store.proofs.Queues.{length-cells, outlet-popped}
@@ -27,14 +27,14 @@ use Rattle.shelf.specs.Shelf.{Shelf}
 use Rattle.told.proofs.Grown.{decide}
 use Rattle.answer.specs.Answers.{#taken}
 use Rattle.answer.specs.declared.Answer.the-variants.{Empty}
-use Rattle.admit.specs.Admission.{unitAt, withQueue}
+use Rattle.soundness.specs.Admission.{unitAt, withQueue}
 use Rattle.taking.specs.Takes as taking
 use Rattle.paper.specs.Counters.{taken}
 use Rattle.document.specs.Counters.{entries}
 use Rattle.document.specs.Shelf as D
 use Rattle.document.specs.Take as T
-use Rattle.counters.specs.Counting.{settledTo, settled}
-use Rattle.counters.specs.declared.Counters as C
+use Rattle.answer.specs.Counting.{settledTo, settled}
+use Rattle.answer.specs.declared.Counters as C
 use Rattle.refining.proofs.Alike.{UnitAlike, Alike, RowAlike, offBus}
 use Rattle.refining.proofs.Finds.{length-map}
 use Rattle.refining.proofs.Changes.{changed}
@@ -52,7 +52,7 @@ module _ (store : List ℕ) (i : ℕ) (u : U.Unit) (d : D.Unit) (a : UnitAlike s
   unfolding atLimit
   limit-alike q h = ap₂ (λ l n. leb (limit l q) n) (a .limits) (held-alike q h)
 
-  congested-alike : (mode : Mode) → Rattle.queueing.specs.Taking.congestedIn mode (u .outlet) ≡ T.congested mode d
+  congested-alike : (mode : Mode) → Rattle.outlet.specs.Taking.congestedIn mode (u .outlet) ≡ T.congested mode d
   unfolding T.congested
   congested-alike One = limit-alike 0 (omega arith)
   congested-alike Four = ap₂ (λ x y. x || y) (limit-alike 1 (omega arith)) (limit-alike 2 (omega arith))
@@ -60,7 +60,7 @@ module _ (store : List ℕ) (i : ℕ) (u : U.Unit) (d : D.Unit) (a : UnitAlike s
   pub marks-alike : marks (u .outlet) ≡ T.marks d
   unfolding marks
   marks-alike =
-      ap (λ l. l .mark && Rattle.queueing.specs.Taking.congestedIn (l .mode) (u .outlet)) (a .limits) ∙ ap (λ b. d .limits .mark && b) (congested-alike (d .limits .mode))
+      ap (λ l. l .mark && Rattle.outlet.specs.Taking.congestedIn (l .mode) (u .outlet)) (a .limits) ∙ ap (λ b. d .limits .mark && b) (congested-alike (d .limits .mode))
 
 lowest-same : (f g : ℕ → ℕ) (q n : ℕ) → ((p : ℕ) → p < q + n → f p ≡ g p) → lowest f q n ≡ lowest g q n
 unfolding lowest

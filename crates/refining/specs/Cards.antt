@@ -6,7 +6,7 @@ use mathlib.Core.List.{List}
 use lib.ListN.{length}
 use Rattle.card.specs.declared.Card.the-variants.{Narrow, Wide}
 use Rattle.line.specs.declared.Line.{Line}
-use Rattle.counters.specs.declared.Counters as C
+use Rattle.answer.specs.declared.Counters as C
 use Rattle.promise.specs.Refusals.{Accepts}
 use Rattle.promise.specs.Narrow.{NoneWide, FirstWide}
 use Rattle.document.specs.Events.{Event}

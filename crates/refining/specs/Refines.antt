@@ -5,7 +5,7 @@ use mathlib.Core.List.{List, [], _∷_}
 use lib.ListN.{length, getD}
 use Rattle.card.specs.declared.Card.{Card}
 use Rattle.line.specs.declared.Line.{Line}
-use Rattle.counters.specs.declared.Counters as C
+use Rattle.answer.specs.declared.Counters as C
 use Rattle.promise.specs.Refusals.{Accepts, Refuses}
 use Rattle.document.specs.Events.{Event, Back}
 use Rattle.paper.specs.Counters.{Counter, valueOf, rowAt}

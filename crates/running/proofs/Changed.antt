@@ -18,7 +18,7 @@ use Rattle.shelf.specs.declared.Unit as U
 use Rattle.shelf.specs.Shelf.{Shelf}
 use Rattle.shelf.proofs.Finding.{declared-at}
 use Rattle.soundness.specs.State.{UnitSound, DeclaredIn, Sound}
-use Rattle.admit.specs.Admission.{unitAt, withUnit, withQueue}
+use Rattle.soundness.specs.Admission.{unitAt, withUnit, withQueue}
 
 -- what stands at a place of a list of which one place was set
 pub set-or : {A : Type 0} (l : List A) (i : ℕ) (x d : A) (j : ℕ) → ((j ≡ i) × (getD (set l i x) j d ≡ x)) ⊎ (getD (set l i x) j d ≡ getD l j d)

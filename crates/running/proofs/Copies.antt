@@ -9,17 +9,17 @@ use Rattle.octets.proofs.Parts.{length-splice}
 use Rattle.bus.specs.declared.Heard as H
 use Rattle.bus.specs.declared.Heard.the-variants as sort
 use Rattle.outlet.specs.Outlets.{Given, RingsFit, queue, capacity}
-use Rattle.queueing.specs.Hearing.{fate, queueOf}
-use Rattle.queueing.specs.declared.Fate as F
-use Rattle.queueing.specs.declared.Fate.the-variants as fates
-use Rattle.queueing.proofs.Fates.{fate-iff}
+use Rattle.outlet.specs.Hearing.{fate, queueOf}
+use Rattle.outlet.specs.declared.Fate as F
+use Rattle.outlet.specs.declared.Fate.the-variants as fates
+use Rattle.outlet.proofs.Fates.{fate-iff}
 use Rattle.store.specs.Places.{putAt, slotAt, outletSlot, Cell}
 use Rattle.store.specs.Rings.{tail, pushed}
 use Rattle.store.proofs.Rounds.{pushed-fits}
 use Rattle.store.proofs.Slots.{start-inside}
 use Rattle.shelf.specs.declared.Unit as U
 use Rattle.answer.specs.declared.Hearing.the-variants.{Other}
-use Rattle.admit.specs.Admission.{Housed}
+use Rattle.soundness.specs.Admission.{Housed}
 use Rattle.hearing.specs.Hearings as hearing
 use Rattle.hearing.specs.declared.Plan as P
 use Rattle.hearing.specs.declared.Plan.the-variants as plans

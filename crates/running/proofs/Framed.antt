@@ -29,8 +29,8 @@ use Rattle.shelf.specs.Shelf.{Shelf}
 use Rattle.shelf.proofs.Finding.{declared-at, find-at, find-nothing}
 use Rattle.soundness.specs.State.{soundOf, UnitSound, DeclaredIn, Sound}
 use Rattle.soundness.proofs.Facts.{sound-iff}
-use Rattle.admit.specs.Admission.{unitAt, withUnit, withInlet, Housed}
-use Rattle.admit.proofs.Laws.{sound-housed}
+use Rattle.soundness.specs.Admission.{unitAt, withUnit, withInlet, Housed}
+use Rattle.soundness.proofs.Laws.{sound-housed}
 use Rattle.framing.specs.Requests.{requests}
 use Rattle.framing.specs.Sending.{silence, heardByAll, sentFrame, cellOut, sentBy, sentStore, AllHoused}
 use Rattle.framing.specs.Frames.{sender, listenedBy, storeBy, ended, granted as grantedOf}

@@ -13,14 +13,14 @@ use Rattle.shelf.specs.declared.Found as F
 use Rattle.shelf.specs.declared.Found.the-variants as found
 use Rattle.soundness.specs.State.{soundOf}
 use Rattle.soundness.specs.Soundings.{formedAll, soundIn}
-use Rattle.counters.specs.Counting.{settled, settledTo}
-use Rattle.counters.specs.declared.Counters as C
+use Rattle.answer.specs.Counting.{settled, settledTo}
+use Rattle.answer.specs.declared.Counters as C
 use Rattle.answer.specs.Answers.{refusedWith}
 use Rattle.answer.specs.Done.{outcomeOf}
 use Rattle.answer.specs.declared.Answer.the-variants as answer
-use Rattle.admit.specs.Admission.{atUnit, admitted, admittedIn, decided, toldApart}
-use Rattle.admit.specs.declared.Admitted.the-variants.{At, Refused}
-use Rattle.admit.proofs.InPlace.{formed-in, unformed-in}
+use Rattle.soundness.specs.Admission.{atUnit, admitted, admittedIn, decided, toldApart}
+use Rattle.soundness.specs.declared.Admitted.the-variants.{At, Refused}
+use Rattle.soundness.proofs.InPlace.{formed-in, unformed-in}
 use Rattle.arriving.specs.Arriving.{arriveDone, arriveStore}
 use Rattle.arriving.specs.InPlace as arriving
 use Rattle.arriving.proofs.InPlace.{arrive-decodes, arrive-formed, arrive-long, arrive-free, arrive-kept, arrive-others}
@@ -33,8 +33,8 @@ use Rattle.taking.proofs.InPlace.{take-decodes, take-formed, take-long, take-fr
 use Rattle.framing.specs.Frames.{checked, frameDone, frameStore, frameBuffer}
 use Rattle.framing.specs.InPlace as framing
 use Rattle.framing.proofs.InPlace.{frame-decodes, frame-formed, frame-long, frame-free, frame-bus, frame-count, frame-kept, frame-others}
-use Rattle.loading.specs.Loads.{loadDone, loadMemory}
-use Rattle.loading.proofs.InPlace.{load-decodes, load-formed, load-long, load-spare}
+use Rattle.table.specs.Loads.{loadDone, loadMemory}
+use Rattle.table.proofs.EventInPlace.{load-decodes, load-formed, load-long, load-spare}
 use Rattle.entry.specs.Counts.{countOf, counted}
 use Rattle.paper.specs.State.{Formed}
 use Rattle.paper.proofs.State.{formed-iff}

@@ -15,10 +15,10 @@ use Rattle.outlet.specs.Outlets.{RingFits, queue, capacity}
 use Rattle.outlet.specs.declared.Ring.{Ring}
 use Rattle.outlet.specs.declared.Mode.{Mode}
 use Rattle.outlet.specs.declared.Mode.the-variants.{One, Four}
-use Rattle.queueing.specs.Taking.{leaving, queues}
-use Rattle.queueing.specs.declared.Leaving as L
-use Rattle.queueing.specs.declared.Leaving.the-variants as leaves
-use Rattle.queueing.proofs.Leaves.{leaving-iff}
+use Rattle.outlet.specs.Taking.{leaving, queues}
+use Rattle.outlet.specs.declared.Leaving as L
+use Rattle.outlet.specs.declared.Leaving.the-variants as leaves
+use Rattle.outlet.proofs.Leaves.{leaving-iff}
 use Rattle.store.specs.Places.{putAt, inletSlot}
 use Rattle.store.specs.Rings.{tail, pushed, popped}
 use Rattle.store.proofs.Rounds.{pushed-fits, popped-fits}
@@ -28,16 +28,16 @@ use Rattle.shelf.specs.Shelf.{Shelf}
 use Rattle.shelf.proofs.Finding.{find-at}
 use Rattle.soundness.specs.State.{Sound, soundOf}
 use Rattle.soundness.proofs.Facts.{sound-iff}
-use Rattle.counters.specs.Counting.{settled, settledTo}
-use Rattle.counters.specs.declared.Counters as C
-use Rattle.counters.proofs.Settling.{length-settled}
+use Rattle.answer.specs.Counting.{settled, settledTo}
+use Rattle.answer.specs.declared.Counters as C
+use Rattle.answer.proofs.Settling.{length-settled}
 use Rattle.answer.specs.Answers.{refused}
 use Rattle.answer.specs.Done.{Done}
 use Rattle.answer.specs.declared.Arrival.the-variants.{Inletfull, Queued}
-use Rattle.admit.specs.Admission.{admitted, decided, unitAt, withUnit, withQueue, Housed}
-use Rattle.admit.specs.declared.Admitted as A
-use Rattle.admit.specs.declared.Admitted.the-variants.{At, Refused}
-use Rattle.admit.proofs.Laws.{at-let-in, let-in-housed}
+use Rattle.soundness.specs.Admission.{admitted, decided, unitAt, withUnit, withQueue, Housed}
+use Rattle.soundness.specs.declared.Admitted as A
+use Rattle.soundness.specs.declared.Admitted.the-variants.{At, Refused}
+use Rattle.soundness.proofs.Laws.{at-let-in, let-in-housed}
 use Rattle.arriving.specs.Arriving as arriving
 use Rattle.arriving.specs.declared.Way.{Way}
 use Rattle.arriving.specs.declared.Way.the-variants.{Bus, Lost}
@@ -45,7 +45,7 @@ use Rattle.arriving.proofs.Leaves.{inlet-inside}
 use Rattle.hearing.specs.Hearings as hearing
 use Rattle.taking.specs.Takes as taking
 use Rattle.framing.specs.Frames as framing
-use Rattle.loading.specs.Loads.{loadDone}
+use Rattle.table.specs.Loads.{loadDone}
 use Rattle.promise.proofs.Loads.{load-sound}
 use Rattle.document.specs.Events.{Event, arrive, frame, hear, take-cell, count, numberSaid}
 use Rattle.running.specs.Events.{World, happens}

@@ -10,19 +10,19 @@ use lib.ListN.{length, getD, drop, replicate, length-append, length-drop, length
 use lib.Seq.{getD-append-add, getD-drop}
 use borrow.Author.Tests.{eq-eqb, eqb-true, leb-true, leb-false}
 use Rattle.octets.proofs.Parts.{get-at}
-use Rattle.routing.specs.Routing.{routing}
-use Rattle.routing.specs.declared.Target.{Target}
+use Rattle.bus.specs.Routing.{routing}
+use Rattle.bus.specs.declared.Target.{Target}
 use Rattle.card.specs.declared.Card.{Card}
 use Rattle.card.specs.declared.Card.the-variants.{Narrow, Wide}
-use Rattle.record.specs.Record.{size, usable, routeOf, pageOf, bytesOf, image}
-use Rattle.record.specs.declared.Record as R
-use Rattle.record.specs.declared.Record.the-variants.{Empty, Drop as R·Drop, Route as R·Route, Page as R·Page}
-use Rattle.record.specs.declared.Got.the-variants.{Is}
-use Rattle.record.proofs.Laws.{bytes-length, image-length}
+use Rattle.lookup.specs.Record.{size, usable, routeOf, pageOf, bytesOf, image}
+use Rattle.lookup.specs.declared.Record as R
+use Rattle.lookup.specs.declared.Record.the-variants.{Empty, Drop as R·Drop, Route as R·Route, Page as R·Page}
+use Rattle.lookup.specs.declared.Got.the-variants.{Is}
+use Rattle.lookup.proofs.RecordLaws.{bytes-length, image-length}
 use Rattle.line.specs.declared.Line.{Line}
 use Rattle.line.specs.declared.Line.the-variants.{Bus, Unit as L·Unit, Vp, Drop, Page, Vc, Mc}
-use Rattle.verdict.specs.declared.Verdict.the-variants.{Fine}
-use Rattle.verdict.specs.Verdicts.{taken}
+use Rattle.judge.specs.declared.Verdict.the-variants.{Fine}
+use Rattle.judge.specs.Verdicts.{taken}
 use Rattle.told.specs.Told.{Whose, ofUnit, ofPage, same, Opening, opens, gives, total, else, givenBy, recordOf, regionBy, regions, records, memoryOf}
 use Rattle.told.specs.Lines.{judge, Good}
 use Rattle.told.proofs.Tabulate.{tabulate-at, tabulate-length, some-inj, none-some, only-true, only-is}
@@ -30,8 +30,8 @@ use Rattle.told.proofs.Regions.{regions-length, same-is, both-left, both-right}
 use Rattle.told.proofs.Fits.{free, fine-vp, fine-drop, fine-page, fine-vc}
 use Rattle.told.proofs.Grown.{decide}
 use Rattle.told.proofs.Memory.{fits-room}
-use Rattle.wording.specs.Words.{TargetIn, InRange, AllInRange}
-use Rattle.wording.proofs.Ranges.{sayable-iff}
+use Rattle.paper.specs.Words.{TargetIn, InRange, AllInRange}
+use Rattle.paper.proofs.Ranges.{sayable-iff}
 use Rattle.paper.proofs.Cells.{routing-of}
 use Rattle.promise.specs.Says.{Gives, IsVc, IsWide}
 use Rattle.promise.specs.Faults.{Before, wide, Faultless}

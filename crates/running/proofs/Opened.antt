@@ -11,7 +11,7 @@ use lib.Seq.{getD-set-same, getD-set-other}
 use borrow.Author.Tests.{eqb-true, eq-eqb}
 use Rattle.outlet.specs.declared.Limits.{Limits}
 use Rattle.card.specs.declared.Card.{Card}
-use Rattle.record.specs.Record.{size}
+use Rattle.lookup.specs.Record.{size}
 use Rattle.shelf.specs.Shelves.{unit, blank, declared, findIn, numberOf}
 use Rattle.shelf.specs.Sessions.{hears}
 use Rattle.shelf.specs.declared.Settings.{Settings}

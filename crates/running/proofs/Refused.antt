@@ -14,18 +14,18 @@ use Rattle.shelf.specs.declared.Found.the-variants as found
 use Rattle.soundness.specs.State.{soundOf}
 use Rattle.answer.specs.Answers.{numberOf, refused}
 use Rattle.answer.specs.Done.{Done}
-use Rattle.counters.specs.Counting.{settledTo}
-use Rattle.counters.specs.declared.Counters as C
-use Rattle.admit.specs.Admission.{atUnit, admitted, decided, toldApart, unitAt}
-use Rattle.admit.specs.declared.Admitted as A
-use Rattle.admit.specs.declared.Admitted.the-variants.{At, Refused}
+use Rattle.answer.specs.Counting.{settledTo}
+use Rattle.answer.specs.declared.Counters as C
+use Rattle.soundness.specs.Admission.{atUnit, admitted, decided, toldApart, unitAt}
+use Rattle.soundness.specs.declared.Admitted as A
+use Rattle.soundness.specs.declared.Admitted.the-variants.{At, Refused}
 use Rattle.arriving.specs.Arriving as arriving
 use Rattle.arriving.specs.declared.Way.{Way}
 use Rattle.arriving.specs.declared.Way.the-variants.{Bus, Lost}
 use Rattle.hearing.specs.Hearings as hearing
-use Rattle.queueing.specs.declared.Leaving as L
-use Rattle.queueing.specs.declared.Leaving.the-variants as leaves
-use Rattle.queueing.specs.Taking.{leaving}
+use Rattle.outlet.specs.declared.Leaving as L
+use Rattle.outlet.specs.declared.Leaving.the-variants as leaves
+use Rattle.outlet.specs.Taking.{leaving}
 use Rattle.taking.specs.Takes as taking
 use Rattle.framing.specs.Frames as framing
 use Rattle.entry.specs.Counts.{counted}

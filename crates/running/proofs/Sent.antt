@@ -25,7 +25,7 @@ use Rattle.answer.specs.declared.Hearing as A
 use Rattle.answer.specs.declared.Hearing.the-variants as fate·
 use Rattle.paper.specs.Counters.{sent, unheard, damaged, queued, full, clp, wide, hearingCounts, sentCounts, occurs}
 use Rattle.paper.proofs.Counters.{tallies, Agree, agree}
-use Rattle.admit.specs.Admission.{unitAt, withUnit, withInlet, Housed}
+use Rattle.soundness.specs.Admission.{unitAt, withUnit, withInlet, Housed}
 use Rattle.hearing.specs.Hearings.{copyOf, storeOf}
 use Rattle.framing.specs.Sending.{Listened, silence, after, heardFrom, storeFrom, heardByAll, sentRises}
 use Rattle.running.proofs.Changed.{set-or}

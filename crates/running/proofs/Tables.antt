@@ -8,21 +8,21 @@ use mathlib.Core.List.{List, [], _∷_, _++_, append-assoc}
 use lib.ListN.{length, getD, set, drop, replicate, length-append, length-drop, length-replicate, getD-replicate, replicate-append-replicate, List·getD-append}
 use lib.Seq.{drop-cons, getD-append-add, getD-drop, set-at}
 use Rattle.card.specs.declared.Card.{Card}
-use Rattle.record.specs.Record.{usable, cleared}
+use Rattle.lookup.specs.Record.{usable, cleared}
 use Rattle.line.specs.declared.Line.{Line}
 use Rattle.shelf.specs.Shelves.{fresh}
 use Rattle.soundness.specs.State.{soundOf}
 use Rattle.told.specs.Told.{shelfOf}
 use Rattle.told.proofs.Shelved.{shelved}
-use Rattle.counters.specs.Counting as C·
-use Rattle.counters.specs.declared.Counters as C
-use Rattle.counters.proofs.Settling.{settled-next}
+use Rattle.answer.specs.Counting as C·
+use Rattle.answer.specs.declared.Counters as C
+use Rattle.answer.proofs.Settling.{settled-next}
 use Rattle.answer.specs.Answers.{numberOf, valuesOf}
 use Rattle.answer.specs.declared.Rises.{Rises}
 use Rattle.table.specs.declared.Outcome as O
 use Rattle.table.specs.declared.Outcome.the-variants as outcome
 use Rattle.table.specs.Load.{load}
-use Rattle.loading.specs.Loads.{answerOf, doneOf}
+use Rattle.table.specs.Loads.{answerOf, doneOf}
 use Rattle.promise.specs.Says.{unitLines}
 use Rattle.promise.specs.Refusals.{Accepts, Refuses}
 use Rattle.promise.proofs.Refusals as promise

@@ -16,7 +16,7 @@ use denote.Triple.Entry.{Args, Res}
 use denote.Triple.Clauses.{AtExit}
 use Rattle.card.specs.declared.Card.{Card}
 use Rattle.answer.specs.declared.Answer.{Answer}
-use Rattle.counters.specs.declared.Counters as C
+use Rattle.answer.specs.declared.Counters as C
 use Rattle.entry.specs.Outcomes.{arrives, frames, hears, takes, countsOf, loads, LeavesStore, LeavesAll, LeavesBytes, LeavesMemory}
 use Rattle.entry.specs.declared.Counted.{Counted}
 use Rattle.entry.proofs.arrive as entry-arrive

@@ -6,9 +6,9 @@ use Rattle.card.specs.declared.Card.{Card}
 use Rattle.shelf.specs.Shelf.{Shelf}
 use Rattle.answer.specs.declared.Answer.the-variants as answer
 use Rattle.answer.specs.Done.{Done}
-use Rattle.counters.specs.Counting.{settled}
-use Rattle.counters.specs.declared.Counters as C
-use Rattle.admit.specs.Admission.{counted}
+use Rattle.answer.specs.Counting.{settled}
+use Rattle.answer.specs.declared.Counters as C
+use Rattle.soundness.specs.Admission.{counted}
 use Rattle.arriving.specs.Arriving.{arriveDone, arriveStore}
 use Rattle.framing.specs.Frames.{frameDone, frameStore, frameBuffer}
 use Rattle.hearing.specs.Hearings.{hearDone, hearStore}

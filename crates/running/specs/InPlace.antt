@@ -5,7 +5,7 @@ use mathlib.Core.Logic.{_⊎_}
 use mathlib.Core.List.{List}
 use lib.ListN.{getD}
 use Rattle.card.specs.declared.Card.{Card}
-use Rattle.counters.specs.declared.Counters as C
+use Rattle.answer.specs.declared.Counters as C
 use Rattle.answer.specs.declared.Answer.the-variants as answer
 use Rattle.paper.specs.State.{Formed}
 use Rattle.document.specs.Events.{Event, bytesOf, answers}

@@ -6,9 +6,9 @@ use mathlib.Core.List.{List, [], _∷_}
 use lib.ListN.{length}
 use Rattle.card.specs.declared.Card.{Card}
 use Rattle.soundness.specs.State.{soundOf}
-use Rattle.counters.specs.Counting.{settled}
-use Rattle.counters.specs.declared.Counters as C
-use Rattle.loading.specs.Loads.{loadDone, loadMemory}
+use Rattle.answer.specs.Counting.{settled}
+use Rattle.answer.specs.declared.Counters as C
+use Rattle.table.specs.Loads.{loadDone, loadMemory}
 use Rattle.document.specs.Events.{Event, numberSaid}
 use Rattle.running.specs.Events.{World, happens}
 use Rattle.running.specs.Lent.{does, runIn, loadedIn}

@@ -5,7 +5,7 @@ use mathlib.Core.List.{List, [], _∷_}
 use lib.ListN.{length}
 use Rattle.card.specs.declared.Card.{Card}
 use Rattle.state.specs.Bytes.{shelfIn}
-use Rattle.counters.specs.declared.Counters as C
+use Rattle.answer.specs.declared.Counters as C
 use Rattle.entry.specs.Outcomes.{Left, arrives, frames, hears, takes, countsOf, loads}
 use Rattle.document.specs.Events.{Event, arrive, frame, hear, take-cell, count, Said, answers}
 use Rattle.running.specs.Events.{World, Outcome, countSaid}

@@ -6,9 +6,9 @@ use mathlib.Core.List.{List, [], _∷_, _++_}
 use lib.ListN.{length, getD, drop, replicate}
 use Rattle.card.specs.declared.Card.{Card}
 use Rattle.line.specs.declared.Line.{Line}
-use Rattle.counters.specs.declared.Counters as C
+use Rattle.answer.specs.declared.Counters as C
 use Rattle.answer.specs.declared.Answer as A
-use Rattle.loading.specs.InPlace.{loadOut}
+use Rattle.table.specs.EventInPlace.{loadOut}
 use Rattle.paper.specs.Answers.{IsOk, IsRefused}
 use Rattle.paper.specs.Counters.{zeroRow}
 use Rattle.promise.specs.Says.{recordsOf, unitLines}

@@ -11,7 +11,7 @@ use Rattle.octets.specs.Octets as octets
 use Rattle.header.specs.Check as header·
 use Rattle.card.specs.declared.Card.{Card}
 use Rattle.bus.specs.Frame as bus
-use Rattle.record.specs.Record.{recordAt}
+use Rattle.lookup.specs.Record.{recordAt}
 use Rattle.lookup.specs.Lookup as lookup
 use Rattle.store.specs.Places as places
 use Rattle.store.specs.Rings as rings
@@ -24,9 +24,9 @@ use Rattle.answer.specs.Done.{Done}
 use Rattle.answer.specs.declared.Answer.the-variants.{Arrived}
 use Rattle.answer.specs.declared.Arrival as A
 use Rattle.answer.specs.declared.Arrival.the-variants as arrival
-use Rattle.counters.specs.Counting.{settled}
-use Rattle.admit.specs.Admission as admit
-use Rattle.admit.specs.declared.Admitted.the-variants as admitted
+use Rattle.answer.specs.Counting.{settled}
+use Rattle.soundness.specs.Admission as admit
+use Rattle.soundness.specs.declared.Admitted.the-variants as admitted
 use Rattle.arriving.specs.Arriving as arriving
 use Rattle.arriving.specs.declared.Way.{Way as Way·}
 use Rattle.arriving.specs.declared.Way.the-variants.{Bus, Lost as Lost·}

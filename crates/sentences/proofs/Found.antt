@@ -15,7 +15,7 @@ use Rattle.shelf.proofs.Finding.{find-at, find-nothing, declared-at}
 use Rattle.paper.specs.State.{units, unitAt, numberAt, blank, DeclaredAt, Declared, Sound, Whole}
 use Rattle.store.proofs.Slots.{by-lt}
 use lib.Seq.{set-getD}
-use Rattle.admit.specs.Admission as admit
+use Rattle.soundness.specs.Admission as admit
 use Rattle.sentences.specs.Changes.{withUnit}
 
 -- there are as many declared units as are counted

@@ -31,9 +31,9 @@ use Rattle.paper.specs.Hearing.{queuedIn}
 use Rattle.answer.specs.declared.Answer.the-variants.{Framed as Framed·}
 use Rattle.answer.specs.declared.Hearing as H
 use Rattle.answer.specs.declared.Hearing.the-variants as fate
-use Rattle.counters.specs.Counting.{settled}
-use Rattle.admit.specs.Admission as admit
-use Rattle.admit.proofs.Laws.{sound-housed, cell-length}
+use Rattle.answer.specs.Counting.{settled}
+use Rattle.soundness.specs.Admission as admit
+use Rattle.soundness.proofs.Laws.{sound-housed, cell-length}
 use Rattle.hearing.specs.Hearings as hearing
 use Rattle.hearing.specs.declared.Plan.the-variants.{Queue, Lost}
 use Rattle.octets.proofs.Parts.{getD-any}

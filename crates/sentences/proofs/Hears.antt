@@ -10,16 +10,16 @@ use lib.ListN.{length, getD, set, take, drop}
 use borrow.Author.Tests.{eqb-true, eq-eqb}
 use Rattle.octets.specs.Octets as octets
 use Rattle.card.specs.declared.Card.{Card}
-use Rattle.routing.specs.declared.Target as T
-use Rattle.routing.specs.declared.Target.the-variants as target
+use Rattle.bus.specs.declared.Target as T
+use Rattle.bus.specs.declared.Target.the-variants as target
 use Rattle.bus.specs.Frame.{heard}
 use Rattle.bus.specs.declared.Heard as B
 use Rattle.bus.specs.declared.Heard.the-variants as sort
 use Rattle.outlet.specs.Outlets as outlet
-use Rattle.queueing.specs.Hearing as queueing
-use Rattle.queueing.specs.declared.Fate.{Fate}
-use Rattle.queueing.specs.declared.Fate.the-variants as fates
-use Rattle.queueing.proofs.Fates.{fate-iff, queue-lt}
+use Rattle.outlet.specs.Hearing as queueing
+use Rattle.outlet.specs.declared.Fate.{Fate}
+use Rattle.outlet.specs.declared.Fate.the-variants as fates
+use Rattle.outlet.proofs.Fates.{fate-iff, queue-lt}
 use Rattle.store.specs.Places as places
 use Rattle.store.specs.Rings as rings
 use Rattle.shelf.specs.Shelves.{numberOf}
@@ -32,8 +32,8 @@ use Rattle.hearing.specs.declared.Plan.{Plan}
 use Rattle.hearing.specs.declared.Plan.the-variants.{Queue, Lost}
 use Rattle.hearing.proofs.Plans.{before-parity}
 use Rattle.answer.specs.Answers.{hearingRises, row}
-use Rattle.counters.specs.Counting.{settled}
-use Rattle.admit.specs.Admission as admit
+use Rattle.answer.specs.Counting.{settled}
+use Rattle.soundness.specs.Admission as admit
 use Rattle.document.specs.Events.{hear}
 use Rattle.running.specs.Events.{World, Outcome, happens, ended}
 use Rattle.paper.specs.Outlets.{queueAt, ringAt, held, slotAt, behind}

@@ -11,8 +11,8 @@ use Rattle.octets.specs.Octets.{splice, part}
 use Rattle.octets.proofs.Parts.{part-before, part-after}
 use Rattle.bus.specs.declared.Heard as B
 use Rattle.bus.specs.declared.Heard.the-variants as sort
-use Rattle.routing.specs.declared.Target as T
-use Rattle.routing.specs.declared.Target.the-variants as target
+use Rattle.bus.specs.declared.Target as T
+use Rattle.bus.specs.declared.Target.the-variants as target
 use Rattle.outlet.specs.Outlets.{capacity, queue}
 use Rattle.outlet.specs.declared.Ring.{Ring}
 use Rattle.store.specs.Places.{Cell, slotAt, outletSlot, cellAt, putAt, Inside}
@@ -22,7 +22,7 @@ use Rattle.shelf.specs.declared.Unit as U
 use Rattle.answer.specs.Answers.{queuedOne, isAddressed}
 use Rattle.answer.specs.declared.Hearing as H
 use Rattle.answer.specs.declared.Hearing.the-variants as fate
-use Rattle.admit.specs.Admission.{Housed, withInlet}
+use Rattle.soundness.specs.Admission.{Housed, withInlet}
 use Rattle.hearing.specs.Hearings.{addressed, planOf, copyOf, storeOf, storeBy, fateBy, copyBy}
 use Rattle.hearing.specs.declared.Plan.{Plan}
 use Rattle.hearing.specs.declared.Plan.the-variants.{Queue, Lost}

@@ -10,16 +10,16 @@ use lib.ListN.{length, getD, set, drop}
 use borrow.Author.Tests.{eq-eqb}
 use Rattle.card.specs.declared.Card.{Card}
 use Rattle.outlet.specs.Outlets as outlet
-use Rattle.queueing.specs.Taking as queueing
-use Rattle.queueing.specs.declared.Leaving.{Leaving}
+use Rattle.outlet.specs.Taking as queueing
+use Rattle.outlet.specs.declared.Leaving.{Leaving}
 use Rattle.store.specs.Places as places
 use Rattle.store.specs.Rings as rings
 use Rattle.shelf.specs.declared.Unit as U
 use Rattle.shelf.specs.Shelf.{Shelf}
 use Rattle.answer.specs.Answers.{#taken}
-use Rattle.counters.specs.Counting.{settledTo}
-use Rattle.admit.specs.Admission as admit
-use Rattle.admit.specs.declared.Admitted.the-variants as admitted
+use Rattle.answer.specs.Counting.{settledTo}
+use Rattle.soundness.specs.Admission as admit
+use Rattle.soundness.specs.declared.Admitted.the-variants as admitted
 use Rattle.taking.specs.Takes as taking
 use Rattle.entry.specs.Counts as counting
 use Rattle.document.specs.Events.{take-cell, count, answers, counts}

@@ -5,3 +5,5 @@ pub mod Numbered
 pub mod Sounding
 pub mod Witness
 pub mod Kept
+pub mod Laws
+pub mod InPlace

@@ -3,3 +3,4 @@ pub mod Lanes
 pub mod Numbered
 pub mod Soundings
 pub mod Examples
+pub mod Admission

@@ -1,7 +1,8 @@
-// When the state in lent bytes is sound: what every event asks before anything else.
+// When lent bytes are a sound state; and what every event asks before anything else.
 use arbiter::NOBODY;
 use card::Card;
 use outlet::Outlet;
+use shelf::Found;
 use shelf::Unit;
 ghost use mathlib.Core.Path.{_≡_};
 ghost use mathlib.Core.Bool.{_&&_, cond};
@@ -14,6 +15,7 @@ ghost use Rattle.soundness.specs.State.{roomy as roomyIn, nobodyOr};
 ghost use Rattle.soundness.specs.Lanes.{highestLink, lesser, settingsAt, limitsAt, ringsAt, laneAt, laneGood, lanes};
 ghost use Rattle.soundness.specs.Numbered.{marks, standing as standingOf, Standings, asksHeld, grantIn, Places, numbersHeld};
 ghost use Rattle.soundness.specs.Soundings.{soundIn};
+ghost use Rattle.soundness.specs.Admission.{admittedIn, toldApart, countedIn};
 
 // Whether the bus has a size, and there is room for its units.
 fn roomy(bus: u8, count: u8, store: usize, rows: usize) -> bool
@@ -273,4 +275,50 @@ pub fn sound(card: Card, s: &[u8], store: usize, rows: usize) -> bool
         return false;
     }
     numbers_good(s)
+}
+
+// The unit stands in this place, or the event is refused with this number.
+pub enum Admitted {
+    At(usize),
+    Refused(u8),
+}
+
+// Which row is read: the one in a place, with number 0, or none, with the number of the refusal.
+pub struct Place {
+    pub number: u8,
+    pub at: usize,
+}
+
+// Whether an event at the unit with this number is let in; whether its slice has the right length.
+pub fn admit(card: Card, s: &[u8], store: usize, rows: usize, unit: u8, right: bool) -> Admitted
+    requires { ⌜ length (now s) ≡ 2048 ⌝ }
+    ensures { λ r. ⌜ r ≡ admittedIn card (now (s .entry)) store rows unit right ⌝ }
+{
+    if !sound(card, s, store, rows) {
+        return Admitted::Refused(8);
+    }
+    let Found::At(place) = state::find(s, unit) else {
+        return Admitted::Refused(9);
+    };
+    if !right {
+        return Admitted::Refused(10);
+    }
+    Admitted::At(place)
+}
+
+// The same as a struct.
+fn told_apart(a: Admitted) -> Place
+    ensures { λ r. ⌜ r ≡ toldApart a ⌝ }
+{
+    match a {
+        Admitted::At(at) => Place { number: 0, at },
+        Admitted::Refused(number) => Place { number, at: 0 },
+    }
+}
+
+// Which row is read for the unit with this number.
+pub fn counted(card: Card, s: &[u8; 2048], store: &[u8], rows: usize, unit: u8) -> Place
+    ensures { λ r. ⌜ r ≡ countedIn card (now (s .entry)) (length (now (store .entry))) rows unit ⌝ }
+{
+    told_apart(admit(card, s, store.len(), rows, unit, true))
 }

@@ -9,10 +9,10 @@ use lib.ListN.{length, drop, replicate, length-append, length-replicate, length-
 use lib.Seq.{drop-at}
 use borrow.Author.Tests.{lt-ltb, le-ltb}
 use Rattle.card.specs.declared.Card.{Card}
-use Rattle.record.specs.Record.{size, most, usable, cleared, image}
-use Rattle.record.proofs.Laws.{image-length}
+use Rattle.lookup.specs.Record.{size, most, usable, cleared, image}
+use Rattle.lookup.proofs.RecordLaws.{image-length}
 use Rattle.line.specs.declared.Line.{Line}
-use Rattle.ranged.specs.declared.Wrong.the-variants.{Newline}
+use Rattle.line.specs.declared.Wrong.the-variants.{Newline}
 use Rattle.line.specs.declared.Reading.{Reading}
 use Rattle.line.specs.declared.Reading.the-variants.{Good as Read, Bad}
 use Rattle.line.specs.Lines.{readingOf}
@@ -20,9 +20,9 @@ use Rattle.line.proofs.Ranges.{read-in-range}
 use Rattle.state.specs.Bytes.{shelfIn}
 use Rattle.state.specs.Placing.{freshBytes}
 use Rattle.text.specs.Text.{split}
-use Rattle.verdict.specs.declared.Verdict.{Verdict}
-use Rattle.verdict.specs.declared.Verdict.the-variants.{Form}
-use Rattle.verdict.specs.Verdicts.{numberOf, isFine}
+use Rattle.judge.specs.declared.Verdict.{Verdict}
+use Rattle.judge.specs.declared.Verdict.the-variants.{Form}
+use Rattle.judge.specs.Verdicts.{numberOf, isFine}
 use Rattle.told.specs.Told.{total, recordOf, records, shelfOf, memoryOf}
 use Rattle.told.specs.Lines.{judge, verdictOn, with, Ran, done, stopped, run, Good}
 use Rattle.told.proofs.Regions.{regions-length}

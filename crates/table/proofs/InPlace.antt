@@ -3,14 +3,14 @@ use mathlib.Core.Path.{_≡_}
 use mathlib.Core.List.{List}
 use Prim.Native.Nat.{ℕ}
 use Rattle.card.specs.declared.Card.{Card}
-use Rattle.record.specs.Record.{usable}
+use Rattle.lookup.specs.Record.{usable}
 use Rattle.state.specs.Bytes.{shelfIn}
 use Rattle.state.specs.Placing.{freshBytes}
 use Rattle.state.proofs.Afresh.{fresh-shelf}
 use Rattle.told.specs.Told.{shelfOf}
 use Rattle.told.specs.Lines.{Ran, done, stopped}
 use Rattle.told.proofs.Grown.{decide}
-use Rattle.given.proofs.InPlace.{Well, fresh-well}
+use Rattle.table.proofs.GivenInPlace.{Well, fresh-well}
 use Rattle.table.specs.Load.{ranOf, tooLittle, loadingOf, isLong, load}
 use Rattle.table.specs.InPlace.{stateRan, stateLoaded}
 use Rattle.table.proofs.Standing.{stands}

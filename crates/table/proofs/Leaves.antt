@@ -6,9 +6,9 @@ use Prim.Native.Nat.{ℕ, _+_}
 use Rattle.card.specs.declared.Card.{Card}
 use Rattle.shelf.specs.Shelf.{Shelf}
 use Rattle.line.specs.declared.Reading.{Reading}
-use Rattle.verdict.specs.declared.Verdict.{Verdict}
-use Rattle.verdict.specs.declared.Verdict.the-variants.{Fine, Form, Order, Twice, Wide, Room}
-use Rattle.verdict.specs.Verdicts.{isFine}
+use Rattle.judge.specs.declared.Verdict.{Verdict}
+use Rattle.judge.specs.declared.Verdict.the-variants.{Fine, Form, Order, Twice, Wide, Room}
+use Rattle.judge.specs.Verdicts.{isFine}
 use Rattle.told.specs.Enact.{usedIn, memoryIn}
 use Rattle.table.specs.Load.{progressBy, memoryAfter}
 use Rattle.table.specs.InPlace.{stateRead, stateAfter}

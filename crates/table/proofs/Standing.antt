@@ -3,18 +3,18 @@ use mathlib.Core.Path.{_≡_, sym, ap, subst, _∙_}
 use mathlib.Core.List.{List, [], _∷_}
 use Prim.Native.Nat.{ℕ, _*_, _<_}
 use Rattle.card.specs.declared.Card.{Card}
-use Rattle.record.specs.Record.{size}
+use Rattle.lookup.specs.Record.{size}
 use Rattle.shelf.specs.Shelf.{Shelf}
 use Rattle.state.specs.Bytes.{shelfIn}
 use Rattle.state.proofs.Afresh.{fresh-shelf}
 use Rattle.line.specs.declared.Line.{Line}
 use Rattle.line.specs.declared.Line.the-variants.{Bus, Unit as L·Unit, Vp, Drop, Page, Vc, Mc}
-use Rattle.verdict.specs.declared.Verdict.the-variants.{Fine}
+use Rattle.judge.specs.declared.Verdict.the-variants.{Fine}
 use Rattle.told.specs.Told.{total, shelfBy, shelfOf}
 use Rattle.told.specs.Lines.{judge, Good}
 use Rattle.told.proofs.Memory.{Ranged, AllRanged}
 use Rattle.told.proofs.Shelved.{shelved, place-left}
-use Rattle.given.proofs.InPlace.{Roomy, Well, fresh-well, state-well, state-decodes}
+use Rattle.table.proofs.GivenInPlace.{Roomy, Well, fresh-well, state-well, state-decodes}
 use Rattle.table.specs.InPlace.{stateOf}
 
 module _ (card : Card) (room : ℕ) where

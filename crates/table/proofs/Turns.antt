@@ -9,7 +9,7 @@ use lib.Dec.{eqb, ltb}
 use lib.ListN.{length, take, drop, length-take, length-drop}
 use borrow.Author.Tests.{ltb-true, ltb-false, lt-ltb, ne-eqb}
 use Rattle.card.specs.declared.Card.{Card}
-use Rattle.record.specs.Record.{size, most, usable, recordAt, cleared, Holds}
+use Rattle.lookup.specs.Record.{size, most, usable, recordAt, cleared, Holds}
 use Rattle.shelf.specs.Shelf.{Shelf}
 use Rattle.state.specs.Bytes.{shelfIn}
 use Rattle.state.specs.Placing.{freshBytes}
@@ -17,19 +17,19 @@ use Rattle.text.specs.Text.{split, at}
 use Rattle.line.specs.Lines.{readingOf}
 use Rattle.line.specs.declared.Line.{Line}
 use Rattle.line.specs.declared.Line.the-variants.{Bus, Unit as L·Unit, Vp, Drop, Page, Vc, Mc}
-use Rattle.ranged.specs.declared.Wrong.the-variants.{Newline}
+use Rattle.line.specs.declared.Wrong.the-variants.{Newline}
 use Rattle.line.specs.declared.Reading.{Reading}
 use Rattle.line.specs.declared.Reading.the-variants.{Good as Read, Bad}
 use Rattle.line.specs.Ranges.{InRange}
 use Rattle.text.proofs.Split.{split-some, split-end, split-more, split-last}
 use Rattle.line.proofs.Ranges.{read-in-range}
-use Rattle.verdict.specs.declared.Verdict.{Verdict}
-use Rattle.verdict.specs.declared.Verdict.the-variants.{Fine}
-use Rattle.verdict.specs.Verdicts.{isFine}
+use Rattle.judge.specs.declared.Verdict.{Verdict}
+use Rattle.judge.specs.declared.Verdict.the-variants.{Fine}
+use Rattle.judge.specs.Verdicts.{isFine}
 use Rattle.told.specs.Told.{Whose, total, opens, takes, shelfOf, recordOf, memoryOf}
 use Rattle.told.specs.Lines.{isFirst, judge, verdictOn, run, done, stopped, Good}
 use Rattle.told.specs.Enact.{verdictAt, memoryBy, Places}
-use Rattle.given.specs.InPlace.{stateBy}
+use Rattle.table.specs.GivenInPlace.{stateBy}
 use Rattle.told.proofs.Grown.{decide, grown}
 use Rattle.told.proofs.Memory.{Ranged, AllRanged, fits-room, records-hold, memory-none}
 use Rattle.told.proofs.Shelved.{shelved, place-left}

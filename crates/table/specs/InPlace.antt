@@ -3,16 +3,16 @@ use Prim.Native.Nat.{ℕ, _*_}
 use mathlib.Core.Bool.{cond}
 use mathlib.Core.List.{List, [], _∷_}
 use Rattle.card.specs.declared.Card.{Card}
-use Rattle.record.specs.Record.{size, usable}
+use Rattle.lookup.specs.Record.{size, usable}
 use Rattle.state.specs.Placing.{freshBytes}
 use Rattle.line.specs.declared.Line.{Line}
 use Rattle.line.specs.declared.Reading.{Reading}
 use Rattle.line.specs.declared.Reading.the-variants.{Good, Bad}
-use Rattle.verdict.specs.declared.Verdict.{Verdict}
-use Rattle.verdict.specs.Verdicts.{isFine}
+use Rattle.judge.specs.declared.Verdict.{Verdict}
+use Rattle.judge.specs.Verdicts.{isFine}
 use Rattle.told.specs.Told.{total, shelfOf}
 use Rattle.told.specs.Lines.{Ran, done, stopped}
-use Rattle.given.specs.InPlace.{stateBy}
+use Rattle.table.specs.GivenInPlace.{stateBy}
 use Rattle.table.specs.Load.{ranOf, tooLittle, isLong}
 use Rattle.table.specs.declared.Progress.{Progress}
 

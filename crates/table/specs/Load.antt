@@ -5,21 +5,21 @@ use mathlib.Core.List.{List, [], _∷_}
 use lib.Dec.{eqb, ltb}
 use lib.ListN.{length}
 use Rattle.card.specs.declared.Card.{Card}
-use Rattle.record.specs.Record.{size, usable, recordAt, cleared}
+use Rattle.lookup.specs.Record.{size, usable, recordAt, cleared}
 use Rattle.shelf.specs.Shelves.{fresh}
 use Rattle.shelf.specs.Shelf.{Shelf}
 use Rattle.text.specs.Text.{split}
 use Rattle.line.specs.Lines.{readingOf}
 use Rattle.line.specs.declared.Line.{Line}
-use Rattle.ranged.specs.declared.Wrong.the-variants.{Newline}
+use Rattle.line.specs.declared.Wrong.the-variants.{Newline}
 use Rattle.line.specs.declared.Reading.{Reading}
-use Rattle.verdict.specs.declared.Verdict.{Verdict}
-use Rattle.verdict.specs.declared.Verdict.the-variants.{Fine, Form}
+use Rattle.judge.specs.declared.Verdict.{Verdict}
+use Rattle.judge.specs.declared.Verdict.the-variants.{Fine, Form}
 use Rattle.table.specs.declared.Progress.{Progress}
 use Rattle.table.specs.declared.Outcome.{Outcome}
 use Rattle.table.specs.declared.Outcome.the-variants.{Loaded, Refused}
 use Rattle.table.specs.Loading.{Loading}
-use Rattle.verdict.specs.Verdicts.{numberOf, isFine}
+use Rattle.judge.specs.Verdicts.{numberOf, isFine}
 use Rattle.told.specs.Told.{total, shelfOf, memoryOf}
 use Rattle.told.specs.Enact.{verdictAt, usedIn, memoryIn}
 use Rattle.told.specs.Lines.{Ran, done, stopped, run}

@@ -1,21 +1,200 @@
-// Loading a route table: lines into memory and a fresh state.
+// The loader: what a line that is fine gives; text into lines, lines judged and enacted; and loading as an event.
+use answer::Answer;
+use answer::Rises;
 use card::Card;
+use judge::Owner;
+use judge::Verdict;
 use line::Line;
 use line::Reading;
-use ranged::Wrong;
-use verdict::Verdict;
+use line::Wrong;
+use lookup::Record;
+use outlet::Outlet;
+use shelf::Found;
 ghost use mathlib.Core.Path.{_≡_};
-ghost use mathlib.Core.List.{[]};
 ghost use Prim.Native.Nat.{_≤_, min};
 ghost use lib.ListN.{length};
-ghost use Rattle.record.specs.Record.{usable as usableIn, cleared};
+ghost use mathlib.Core.List.{[]};
+ghost use Rattle.shelf.specs.Shelves.{declared as declaredIn, findIn};
 ghost use Rattle.state.specs.Bytes.{shelfIn};
+ghost use Rattle.told.specs.Told.{opens, takes as takesOf, memoryOf};
+ghost use Rattle.told.specs.Enact.{putBy, putVc, memoryBy, Places};
+ghost use Rattle.lookup.specs.Record.{usable as usableIn, cleared};
 ghost use Rattle.state.specs.Placing.{freshBytes};
-ghost use Rattle.told.specs.Told.{memoryOf};
 ghost use Rattle.told.specs.Lines.{done};
-ghost use Rattle.told.specs.Enact.{Places};
+ghost use Rattle.table.specs.GivenInPlace.{joinedAt, stateBy};
 ghost use Rattle.table.specs.Load.{progressBy, memoryAfter, verdictIn, progressOf, toldIn, ranOf, tooLittle, load as loadingOf, loaded};
 ghost use Rattle.table.specs.InPlace.{stateAfter, stateOf, stateLoaded};
+ghost use Rattle.table.specs.Loads.{answerOf, loadMemory};
+ghost use Rattle.table.specs.EventInPlace.{outcomeBy, loadOut, loadState};
+
+// Writes a record at a VPI of a declared unit.
+fn put_path(card: Card, memory: &mut [u8], o: Owner, vpi: u16, r: Record)
+    ensures { λ _. ⌜ now (memory .exit) ≡ putBy card (now (memory .entry)) o vpi r ⌝ }
+{
+    if !o.known {
+        return;
+    }
+    let unit = o.unit;
+    lookup::put(card, memory, judge::spot(unit, vpi), r);
+}
+
+// Writes a record at a VCI of the page that stands at a VPI.
+fn put_circuit(card: Card, memory: &mut [u8], o: Owner, vpi: u16, vci: u16, r: Record)
+    ensures { λ _. ⌜ now (memory .exit) ≡ putVc card (now (memory .entry)) o vpi vci r ⌝ }
+{
+    if !o.known {
+        return;
+    }
+    let unit = o.unit;
+    let page = judge::page_in(lookup::get(card, memory, judge::spot(unit, vpi)));
+    if !page.known {
+        return;
+    }
+    lookup::put(card, memory, judge::vci_spot(page, vci), r);
+}
+
+// Writes what a line gives.
+pub fn write(card: Card, memory: &mut [u8], s: &[u8], used: u32, line: Line)
+    requires { ⌜ length (now s) ≡ 2048 ⌝ }
+    ensures { λ _. ⌜ now (memory .exit) ≡ memoryBy card (now (memory .entry)) (shelfIn (now (s .entry))) used line ⌝ }
+{
+    match line {
+        Line::Bus(_) => {}
+        Line::Unit {
+            settings: _,
+            limits: _,
+        } => {}
+        Line::Vp {
+            unit,
+            vpi,
+            target,
+            class,
+            outvpi,
+        } => {
+            let header = bus::write(target, class);
+            let r = Record::Route {
+                header,
+                vpi: outvpi,
+                vci: 0,
+            };
+            put_path(card, memory, judge::find_owner(s, unit), vpi, r);
+        }
+        Line::Drop { unit, vpi } => {
+            put_path(card, memory, judge::find_owner(s, unit), vpi, Record::Drop);
+        }
+        Line::Page { unit, vpi, top } => {
+            let r = Record::Page { top, place: used };
+            put_path(card, memory, judge::find_owner(s, unit), vpi, r);
+        }
+        Line::Vc {
+            unit,
+            vpi,
+            vci,
+            target,
+            class,
+            outvpi,
+            outvci,
+        } => {
+            let header = bus::write(target, class);
+            let r = Record::Route {
+                header,
+                vpi: outvpi,
+                vci: outvci,
+            };
+            put_circuit(card, memory, judge::find_owner(s, unit), vpi, vci, r);
+        }
+        Line::Mc {
+            unit: _,
+            session: _,
+        } => {}
+    }
+}
+
+// A unit hears one session more.
+fn join(s: &mut [u8], number: u8, session: u8)
+    requires { ⌜ length (now s) ≡ 2048 ⌝ }
+    ensures { λ _. ⌜ now (s .exit) ≡ joinedAt (now (s .entry)) (findIn (declaredIn (shelfIn (now (s .entry)))) number) session ⌝ }
+{
+    let Found::At(i) = state::find(s, number) else {
+        return;
+    };
+    state::join(s, i, session);
+}
+
+// Writes a line into the state.
+pub fn enter(s: &mut [u8], used: u32, line: Line)
+    requires { ⌜ (length (now s) ≡ 2048) × Places (shelfIn (now s)) (Reading.Good line) ⌝ }
+    ensures { λ _. ⌜ now (s .exit) ≡ stateBy line used (now (s .entry)) ⌝ }
+{
+    match line {
+        Line::Bus(bus) => state::fresh(s, bus),
+        Line::Unit { settings, limits } => {
+            state::declare(s, settings, Outlet::fresh(limits), used);
+        }
+        Line::Vp {
+            unit: _,
+            vpi: _,
+            target: _,
+            class: _,
+            outvpi: _,
+        } => {}
+        Line::Drop { unit: _, vpi: _ } => {}
+        Line::Page {
+            unit: _,
+            vpi: _,
+            top: _,
+        } => {}
+        Line::Vc {
+            unit: _,
+            vpi: _,
+            vci: _,
+            target: _,
+            class: _,
+            outvpi: _,
+            outvci: _,
+        } => {}
+        Line::Mc { unit, session } => join(s, unit, session),
+    }
+}
+
+// How many records a line takes.
+pub fn takes(line: Line) -> u32
+    ensures { λ r. ⌜ (r ≡ takesOf (opens line)) × (r ≤ 65536) ⌝ }
+{
+    match line {
+        Line::Bus(_) => 0,
+        Line::Unit {
+            settings,
+            limits: _,
+        } => (settings.top as u32) + 1,
+        Line::Vp {
+            unit: _,
+            vpi: _,
+            target: _,
+            class: _,
+            outvpi: _,
+        } => 0,
+        Line::Drop { unit: _, vpi: _ } => 0,
+        Line::Page {
+            unit: _,
+            vpi: _,
+            top,
+        } => (top as u32) + 1,
+        Line::Vc {
+            unit: _,
+            vpi: _,
+            vci: _,
+            target: _,
+            class: _,
+            outvpi: _,
+            outvci: _,
+        } => 0,
+        Line::Mc {
+            unit: _,
+            session: _,
+        } => 0,
+    }
+}
 
 // The longest text that is read.
 const LONGEST: usize = 65536;
@@ -51,17 +230,17 @@ fn enact(
     let used = p.used;
     let lines = p.lines;
     let verdict = judge::judge(card, room, lines == 0, memory, s, used, line);
-    if !verdict::is_fine(verdict) {
+    if !judge::is_fine(verdict) {
         return Progress {
             used,
             lines: lines + 1,
             verdict,
         };
     }
-    given::write(card, memory, s, used, line);
-    given::enter(s, used, line);
+    write(card, memory, s, used, line);
+    enter(s, used, line);
     Progress {
-        used: used + 8 * given::takes(line),
+        used: used + 8 * takes(line),
         lines: lines + 1,
         verdict,
     }
@@ -107,10 +286,10 @@ fn begin() -> Progress
 fn usable(bytes: usize) -> usize
     ensures { λ r. ⌜ r ≡ min bytes 262144 ⌝ }
 {
-    if bytes < record::MOST {
+    if bytes < lookup::MOST {
         bytes
     } else {
-        record::MOST
+        lookup::MOST
     }
 }
 
@@ -136,7 +315,7 @@ fn read_lines(card: Card, text: &[u8], memory: &mut [u8], s: &mut [u8]) -> Progr
         let reading = line::read(&text[from..end], end < text.len());
         p = step(card, room, memory, s, p, reading);
         let verdict = p.verdict;
-        if !verdict::is_fine(verdict) {
+        if !judge::is_fine(verdict) {
             return p;
         }
         from = end + 1;
@@ -151,7 +330,7 @@ fn refused(memory: &mut [u8], s: &mut [u8], number: u8, line: u32) -> Outcome
     ensures { λ _. ⌜ now (memory .exit) ≡ cleared (now (memory .entry)) ⌝ }
     ensures { λ _. ⌜ now (s .exit) ≡ freshBytes 16 ⌝ }
 {
-    record::clear(memory);
+    lookup::clear(memory);
     state::fresh(s, 16);
     Outcome::Refused { number, line }
 }
@@ -166,7 +345,7 @@ fn too_little(s: &[u8], store: usize, rows: usize) -> bool
 }
 
 // Loads a table; the answer, the memory that holds its records, and the state with its units.
-pub fn load(
+pub fn load_text(
     card: Card,
     text: &[u8],
     memory: &mut [u8],
@@ -182,15 +361,57 @@ pub fn load(
     if LONGEST < text.len() {
         return refused(memory, s, 1, 0);
     }
-    record::clear(memory);
+    lookup::clear(memory);
     state::fresh(s, 16);
     let p = read_lines(card, text, memory, s);
     let verdict = p.verdict;
-    if !verdict::is_fine(verdict) {
-        return refused(memory, s, verdict::number(verdict), p.lines);
+    if !judge::is_fine(verdict) {
+        return refused(memory, s, judge::number(verdict), p.lines);
     }
     if too_little(s, store, rows) {
         return refused(memory, s, 7, 0);
     }
     Outcome::Loaded(p.used)
+}
+
+// What loading answers.
+fn answer_of(outcome: Outcome) -> Answer
+    ensures { λ r. ⌜ r ≡ answerOf outcome ⌝ }
+{
+    match outcome {
+        Outcome::Loaded(used) => Answer::Loaded(used),
+        Outcome::Refused { number, line } => Answer::Unloaded { number, line },
+    }
+}
+
+// The rows of the declared units start anew; a refused table declares none.
+fn outcome_of(outcome: Outcome, units: u8) -> answer::Outcome
+    ensures { λ r. ⌜ r ≡ outcomeBy outcome units ⌝ }
+{
+    let rises = Rises {
+        from: 0,
+        to: shelf::declared_count(units),
+        anew: true,
+        each: [0; 32],
+    };
+    answer::Outcome {
+        answer: answer_of(outcome),
+        rises,
+    }
+}
+
+// Loads a table; everything but the counter rows, of which there are so many.
+pub fn load(
+    card: Card,
+    text: &[u8],
+    memory: &mut [u8],
+    s: &mut [u8; 2048],
+    store: &[u8],
+    rows: usize,
+) -> answer::Outcome
+    ensures { λ r. ⌜ (r ≡ loadOut card (now (text .entry)) (now (memory .entry)) (length (now (store .entry))) rows) × ((now (memory .exit) ≡ loadMemory card (now (text .entry)) (now (memory .entry)) (length (now (store .entry))) rows) × (now (s .exit) ≡ loadState card (now (text .entry)) (now (memory .entry)) (length (now (store .entry))) rows)) ⌝ }
+    ensures fits { λ r. ⌜ (r .rises .to ≤ 32) × (r .rises .to ≤ rows) ⌝ }
+{
+    let outcome = load_text(card, text, memory, s, store.len(), rows);
+    outcome_of(outcome, s[805])
 }

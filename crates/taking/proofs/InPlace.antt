@@ -11,9 +11,9 @@ use Rattle.header.specs.declared.Link.{Link}
 use Rattle.outlet.specs.Outlets.{queue, capacity}
 use Rattle.outlet.specs.declared.Outlet.{Outlet}
 use Rattle.outlet.specs.declared.Ring.{Ring}
-use Rattle.queueing.specs.Taking.{leaving}
-use Rattle.queueing.specs.declared.Leaving as L
-use Rattle.queueing.specs.declared.Leaving.the-variants as leaves
+use Rattle.outlet.specs.Taking.{leaving}
+use Rattle.outlet.specs.declared.Leaving as L
+use Rattle.outlet.specs.declared.Leaving.the-variants as leaves
 use Rattle.store.specs.Places.{slotAt, outletSlot, cellAt}
 use Rattle.store.specs.Rings.{popped}
 use Rattle.shelf.specs.Shelves.{blank}
@@ -26,10 +26,10 @@ use Rattle.soundness.proofs.Kept.{formed-ring}
 use Rattle.answer.specs.declared.Answer.the-variants.{Taken, Empty}
 use Rattle.answer.specs.Done.{Done, outcomeOf}
 use Rattle.answer.specs.Answers.{#taken, none, row, refused}
-use Rattle.admit.specs.declared.Admitted.the-variants as lets
-use Rattle.admit.specs.Admission.{decided, unitAt, withUnit, Housed}
-use Rattle.admit.proofs.Laws.{decided-all, decided-both}
-use Rattle.admit.proofs.InPlace.{formed-in, in-place, below-count}
+use Rattle.soundness.specs.declared.Admitted.the-variants as lets
+use Rattle.soundness.specs.Admission.{decided, unitAt, withUnit, Housed}
+use Rattle.soundness.proofs.Laws.{decided-all, decided-both}
+use Rattle.soundness.proofs.InPlace.{formed-in, in-place, below-count}
 use Rattle.taking.specs.Takes.{outward, handed, oldest, without, doneBy, bufferBy, doneAt, bufferAt, takeDone}
 use Rattle.taking.specs.InPlace.{stateBy, stateAt, comesIn, takeState}
 use Rattle.taking.proofs.Laws.{leaving-few, oldest-inside}

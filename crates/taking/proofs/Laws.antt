@@ -11,13 +11,13 @@ use Rattle.header.specs.Check.{check}
 use Rattle.outlet.specs.Outlets.{capacity, queue}
 use Rattle.outlet.specs.declared.Mode.{Mode}
 use Rattle.outlet.specs.declared.Mode.the-variants.{One, Four}
-use Rattle.queueing.specs.Taking.{leaving, queues}
-use Rattle.queueing.specs.declared.Leaving.the-variants as leaves
-use Rattle.queueing.proofs.Leaves.{leaving-iff}
+use Rattle.outlet.specs.Taking.{leaving, queues}
+use Rattle.outlet.specs.declared.Leaving.the-variants as leaves
+use Rattle.outlet.proofs.Leaves.{leaving-iff}
 use Rattle.store.specs.Places.{slotAt, outletSlot}
 use Rattle.store.proofs.Slots.{start-inside, slot-inside}
 use Rattle.shelf.specs.declared.Unit as U
-use Rattle.admit.specs.Admission.{Housed}
+use Rattle.soundness.specs.Admission.{Housed}
 use Rattle.taking.specs.Takes.{lineCell}
 
 -- what is written one after the other is the line cell

@@ -5,16 +5,16 @@ use lib.Dec.{eqb}
 use Rattle.card.specs.declared.Card.{Card}
 use Rattle.outlet.specs.Outlets.{queue, capacity}
 use Rattle.outlet.specs.declared.Outlet.{Outlet}
-use Rattle.queueing.specs.Taking.{leaving}
-use Rattle.queueing.specs.declared.Leaving as L
-use Rattle.queueing.specs.declared.Leaving.the-variants as leaves
+use Rattle.outlet.specs.Taking.{leaving}
+use Rattle.outlet.specs.declared.Leaving as L
+use Rattle.outlet.specs.declared.Leaving.the-variants as leaves
 use Rattle.store.specs.Rings.{popped}
 use Rattle.state.specs.Bytes.{unitIn, shelfIn, withRing}
 use Rattle.answer.specs.Answers.{refusedWith}
 use Rattle.answer.specs.Done.{outcomeOf}
 use Rattle.answer.specs.declared.Outcome.{Outcome}
-use Rattle.admit.specs.declared.Admitted as D
-use Rattle.admit.specs.Admission.{admittedIn, formedOr, decided}
+use Rattle.soundness.specs.declared.Admitted as D
+use Rattle.soundness.specs.Admission.{admittedIn, formedOr, decided}
 use Rattle.taking.specs.Takes.{takeDone, takeBuffer}
 
 -- the bytes after the oldest cell of a queue has left the outlet of the unit in a place

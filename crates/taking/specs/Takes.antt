@@ -9,9 +9,9 @@ use Rattle.header.specs.declared.Link.{Link}
 use Rattle.card.specs.declared.Card.{Card}
 use Rattle.outlet.specs.Outlets.{capacity, queue}
 use Rattle.outlet.specs.declared.Outlet.{Outlet}
-use Rattle.queueing.specs.Taking.{leaving, marks, outgoing}
-use Rattle.queueing.specs.declared.Leaving as L
-use Rattle.queueing.specs.declared.Leaving.the-variants as leaves
+use Rattle.outlet.specs.Taking.{leaving, marks, outgoing}
+use Rattle.outlet.specs.declared.Leaving as L
+use Rattle.outlet.specs.declared.Leaving.the-variants as leaves
 use Rattle.store.specs.Rings.{popped}
 use Rattle.store.specs.Places.{Cell, outletSlot, cellAt}
 use Rattle.shelf.specs.declared.Unit as U
@@ -19,8 +19,8 @@ use Rattle.shelf.specs.Shelf.{Shelf}
 use Rattle.answer.specs.declared.Answer.the-variants.{Taken, Empty}
 use Rattle.answer.specs.Done.{Done}
 use Rattle.answer.specs.Answers.{#taken, none, row, ends, refused}
-use Rattle.admit.specs.declared.Admitted as D
-use Rattle.admit.specs.Admission.{admitted, decided, unitAt, withUnit, withQueue}
+use Rattle.soundness.specs.declared.Admitted as D
+use Rattle.soundness.specs.Admission.{admitted, decided, unitAt, withUnit, withQueue}
 
 -- "A line cell is 53 bytes: header 4, check 1, payload 48."
 unfoldable pub lineCell : ℕ → List ℕ → List ℕ

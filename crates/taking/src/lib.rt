@@ -1,15 +1,15 @@
 // Take: the oldest cell of a unit's outlet, or of the lowest class held, as it leaves on the link; or empty.
-use admit::Admitted;
 use answer::Answer;
 use answer::Single;
 use card::Card;
 use header::Link;
+use outlet::Leaving;
 use outlet::Outlet;
-use queueing::Leaving;
+use soundness::Admitted;
 ghost use mathlib.Core.Path.{_≡_};
 ghost use Prim.Native.Nat.{_<_, _≤_};
 ghost use lib.ListN.{length};
-ghost use Rattle.admit.specs.Admission.{Housed};
+ghost use Rattle.soundness.specs.Admission.{Housed};
 ghost use Rattle.answer.specs.Done.{outcomeOf};
 ghost use Rattle.answer.specs.Answers.{outcomeBy};
 ghost use Rattle.state.specs.Bytes.{unitIn, shelfIn};
@@ -34,7 +34,7 @@ fn hand_out(link: Link, outlet: Outlet, cell: &[u8], buffer: &mut [u8])
     requires { ⌜ (length (now cell) ≡ 56) × (length (now buffer) ≡ 53) ⌝ }
     ensures { λ _. ⌜ now (buffer .exit) ≡ outward link outlet (now (cell .entry)) ⌝ }
 {
-    let header = queueing::outgoing(link, queueing::marks(outlet), octets::four(cell, 4));
+    let header = outlet::outgoing(link, outlet::marks(outlet), octets::four(cell, 4));
     write_cell(header, &cell[8..56], buffer);
 }
 
@@ -45,7 +45,7 @@ fn take_at(s: &mut [u8], place: usize, store: &[u8], buffer: &mut [u8]) -> Singl
     ensures kept { λ _. ⌜ (now (s .exit) ≡ stateAt (now (s .entry)) place) × (now (buffer .exit) ≡ bufferAt (shelfIn (now (s .entry))) place (now (store .entry)) (now (buffer .entry))) ⌝ }
 {
     let outlet = state::outlet_at(s, place);
-    let Leaving::Queue(queue) = queueing::leaving_of(outlet) else {
+    let Leaving::Queue(queue) = outlet::leaving_of(outlet) else {
         return answer::uncounted(Answer::Empty);
     };
     let limits = outlet.limits;
@@ -71,7 +71,7 @@ pub fn take(
     ensures { λ r. ⌜ (outcomeBy r ≡ takeOut card (now (s .entry)) (length (now (store .entry))) rows unit (length (now (buffer .entry)))) × ((now (s .exit) ≡ takeState card (now (s .entry)) (length (now (store .entry))) rows unit (length (now (buffer .entry)))) × (now (buffer .exit) ≡ takeBufferIn card (now (s .entry)) (now (store .entry)) rows unit (now (buffer .entry)))) ⌝ }
     ensures fits { λ r. ⌜ (outcomeBy r .rises .to ≤ 32) × (outcomeBy r .rises .to ≤ rows) ⌝ }
 {
-    match admit::admit(card, s, store.len(), rows, unit, buffer.len() == 53) {
+    match soundness::admit(card, s, store.len(), rows, unit, buffer.len() == 53) {
         Admitted::At(place) => take_at(s, place, store, buffer),
         Admitted::Refused(number) => answer::uncounted(Answer::Refused(number)),
     }

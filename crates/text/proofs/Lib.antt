@@ -1,3 +1,7 @@
 pub mod Split
 pub mod Same
 pub mod Numbers
+pub mod Splices
+pub mod HexLaws
+pub mod NumberLaws
+pub mod Roundtrip

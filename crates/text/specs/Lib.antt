@@ -1,2 +1,7 @@
 pub mod Text
 pub mod Digits
+pub mod Hex
+pub mod Writing
+pub mod Decimals
+pub mod Fnv
+pub mod Published

@@ -1,9 +1,16 @@
-// A text's fields, parted by one byte, and what a field says as a word or as decimal digits.
+// Bytes as text: the fields of a text, parted by one byte; decimal numbers and hex digits, read from a slice and written into one; the FNV-1a sum.
 ghost use mathlib.Core.Path.{_≡_};
-ghost use Prim.Native.Nat.{_+_, _≤_};
+ghost use Prim.Native.Nat.{_+_, _≤_, _*_, _/_};
 ghost use lib.ListN.{length, drop};
+ghost use mathlib.Core.Bool.{true};
+ghost use lib.Bits.{bitXor};
+ghost use Rattle.octets.specs.Octets.{splice};
 ghost use Rattle.text.specs.Text.{at, split, fieldsOf, fieldOf, afterOf, same};
 ghost use Rattle.text.specs.Digits.{digits as digitsOf, decimalOf};
+ghost use Rattle.text.specs.Hex.{hexDigit, isHex, unhex as unhexed, capital as capitalOf, hexOf};
+ghost use Rattle.text.specs.Writing.{Wrote};
+ghost use Rattle.text.specs.Decimals.{decimal as inDecimal, numberField, numberFields, numberOf};
+ghost use Rattle.text.specs.Fnv.{step as stepped, sum as sumOf};
 
 const TAB: u8 = b'\t';
 
@@ -114,4 +121,193 @@ pub fn decimal(s: &[u8]) -> bool
         }
     }
     digits(s)
+}
+
+// The value of a hex digit; 16 of what is none.
+fn hex_digit(b: u8) -> u8
+    ensures { λ r. ⌜ r ≡ hexDigit b ⌝ }
+{
+    if b < b'0' {
+        return 16;
+    }
+    if b <= b'9' {
+        return b - 48;
+    }
+    if b < b'A' {
+        return 16;
+    }
+    if b <= b'F' {
+        return b - 55;
+    }
+    if b < b'a' {
+        return 16;
+    }
+    if b <= b'f' {
+        return b - 87;
+    }
+    16
+}
+
+// Whether s is pairs of hex digits.
+pub fn is_hex(s: &[u8]) -> bool
+    ensures { λ r. ⌜ r ≡ isHex (now (s .entry)) ⌝ }
+{
+    if s.len() % 2 != 0 {
+        return false;
+    }
+    let mut i: usize = 0;
+    while i < s.len() {
+        if 15 < hex_digit(s[i]) {
+            return false;
+        }
+        i += 1;
+    }
+    true
+}
+
+// Writes the bytes that the pairs of s say, from place at on.
+pub fn unhex(s: &[u8], out: &mut [u8], at: usize)
+    requires { ⌜ (isHex (now s) ≡ true) × (at + length (now s) / 2 ≤ length (now out)) ⌝ }
+    ensures { λ _. ⌜ now (out .exit) ≡ splice (now (out .entry)) at (unhexed (now (s .entry))) ⌝ }
+{
+    let n = s.len() / 2;
+    let mut i: usize = 0;
+    while i < n {
+        out[at + i] = hex_digit(s[2 * i]) * 16 + hex_digit(s[2 * i + 1]);
+        i += 1;
+    }
+}
+
+// A capital hex digit.
+fn capital(d: u8) -> u8
+    requires { ⌜ d ≤ 15 ⌝ }
+    ensures { λ r. ⌜ r ≡ capitalOf d ⌝ }
+{
+    if d < 10 { 48 + d } else { 55 + d }
+}
+
+// Writes bytes as pairs of capital hex digits, and says where they end.
+pub fn put_hex(out: &mut [u8], at: usize, bytes: &[u8]) -> usize
+    requires { ⌜ at + 2 * length (now bytes) ≤ length (now out) ⌝ }
+    ensures { λ r. ⌜ Wrote (now (out .entry)) at (hexOf (now (bytes .entry))) r (now (out .exit)) × (r ≡ at + 2 * length (now (bytes .entry))) ⌝ }
+{
+    let mut i: usize = 0;
+    while i < bytes.len() {
+        let b = bytes[i];
+        out[at + 2 * i] = capital(b / 16);
+        out[at + 2 * i + 1] = capital(b % 16);
+        i += 1;
+    }
+    at + 2 * bytes.len()
+}
+
+// What a text says as a number.
+pub enum Numeral {
+    Is(u64),
+    // a number above the most that is asked for
+    Above,
+    None,
+}
+
+// Writes a text, and says where it ends.
+pub fn put(out: &mut [u8], at: usize, text: &[u8]) -> usize
+    requires { ⌜ at + length (now text) ≤ length (now out) ⌝ }
+    ensures { λ r. ⌜ Wrote (now (out .entry)) at (now (text .entry)) r (now (out .exit)) ⌝ }
+{
+    octets::copy(text, out, at);
+    at + text.len()
+}
+
+// Writes n in decimal, and says where it ends.
+pub fn put_decimal(out: &mut [u8], at: usize, n: u64) -> usize
+    requires { ⌜ at + 20 ≤ length (now out) ⌝ }
+    ensures { λ r. ⌜ Wrote (now (out .entry)) at (inDecimal n) r (now (out .exit)) × (r ≤ at + 20) ⌝ }
+{
+    let mut digits = [0u8; 20];
+    let mut left = n;
+    let mut k: usize = 20;
+    while 9 < left {
+        k -= 1;
+        digits[k] = 48 + (left % 10) as u8;
+        left = left / 10;
+    }
+    k -= 1;
+    digits[k] = 48 + left as u8;
+    put(out, at, &digits[k..])
+}
+
+// Writes a tab and n in decimal, and says where they end.
+pub fn put_number(out: &mut [u8], at: usize, n: u64) -> usize
+    requires { ⌜ at + 21 ≤ length (now out) ⌝ }
+    ensures { λ r. ⌜ Wrote (now (out .entry)) at (numberField n) r (now (out .exit)) × (r ≤ at + 21) ⌝ }
+{
+    let next = put(out, at, b"\t");
+    put_decimal(out, next, n)
+}
+
+// Writes numbers, each behind a tab, and says where they end.
+pub fn put_numbers(out: &mut [u8], at: usize, numbers: &[u64]) -> usize
+    requires { ⌜ at + 21 * length (now numbers) ≤ length (now out) ⌝ }
+    ensures { λ r. ⌜ Wrote (now (out .entry)) at (numberFields (now (numbers .entry))) r (now (out .exit)) × (r ≤ at + 21 * length (now (numbers .entry))) ⌝ }
+{
+    let mut next = at;
+    let mut i: usize = 0;
+    while i < numbers.len() {
+        next = put_number(out, next, numbers[i]);
+        i += 1;
+    }
+    next
+}
+
+// The number that s says, if it is at most most.
+pub fn number(s: &[u8], most: u64) -> Numeral
+    ensures { λ r. ⌜ r ≡ numberOf most (now (s .entry)) ⌝ }
+{
+    if !decimal(s) {
+        return Numeral::None;
+    }
+    let mut v: u64 = 0;
+    let mut i: usize = 0;
+    while i < s.len() {
+        let digit = (s[i] - b'0') as u64;
+        if most < digit {
+            return Numeral::Above;
+        }
+        // that v * 10 + digit is above most, said without a sum that wraps
+        if (most - digit) / 10 < v {
+            return Numeral::Above;
+        }
+        v = v * 10 + digit;
+        i += 1;
+    }
+    Numeral::Is(v)
+}
+
+// A call, so that its result is known to be a byte.
+fn mix(byte: u8, low: u8) -> u8
+    ensures { λ r. ⌜ r ≡ bitXor byte low ⌝ }
+{
+    byte ^ low
+}
+
+// The sum after one byte more.
+fn step(sum: u32, byte: u8) -> u32
+    ensures { λ r. ⌜ r ≡ stepped sum byte ⌝ }
+{
+    let low = mix(byte, (sum % 256) as u8);
+    let mixed = (sum / 256) as u64 * 256 + (low as u64);
+    (mixed * 16777619 % 4294967296) as u32
+}
+
+// The sum of all bytes.
+pub fn fnv(bytes: &[u8]) -> u32
+    ensures { λ r. ⌜ r ≡ sumOf (now (bytes .entry)) ⌝ }
+{
+    let mut sum: u32 = 2166136261;
+    let mut i: usize = 0;
+    while i < bytes.len() {
+        sum = step(sum, bytes[i]);
+        i += 1;
+    }
+    sum
 }

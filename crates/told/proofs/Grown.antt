@@ -7,16 +7,16 @@ use Prim.Native.Nat.{ℕ, _*_}
 use native.Mathlib.Omega.{arith}
 use lib.Dec.{eqb}
 use borrow.Author.Tests.{eqb-true, eqb-false, eq-eqb, ne-eqb}
-use Rattle.routing.specs.Routing.{routing}
+use Rattle.bus.specs.Routing.{routing}
 use Rattle.card.specs.declared.Card.{Card}
-use Rattle.record.specs.Record.{size}
-use Rattle.record.specs.declared.Record as R
-use Rattle.record.specs.declared.Record.the-variants.{Empty, Drop as R·Drop, Route, Page as R·Page}
+use Rattle.lookup.specs.Record.{size}
+use Rattle.lookup.specs.declared.Record as R
+use Rattle.lookup.specs.declared.Record.the-variants.{Empty, Drop as R·Drop, Route, Page as R·Page}
 use Rattle.outlet.specs.declared.Limits.{Limits}
 use Rattle.shelf.specs.declared.Settings.{Settings}
 use Rattle.line.specs.declared.Line.{Line}
 use Rattle.line.specs.declared.Line.the-variants.{Bus, Unit as L·Unit, Vp, Drop, Page, Vc, Mc}
-use Rattle.verdict.specs.declared.Verdict.the-variants.{Fine}
+use Rattle.judge.specs.declared.Verdict.the-variants.{Fine}
 pub use Rattle.outlet.proofs.Truth.{decide}
 use Rattle.told.specs.Told.{Whose, ofUnit, ofPage, same, Opening, opens, Giving, gives, only, else, topBy, topOf, total, recordOf}
 use Rattle.told.specs.Lines.{judge, Good}

@@ -9,9 +9,9 @@ use native.Mathlib.Omega.{arith}
 use lib.Dec.{eqb}
 use borrow.Author.Tests.{eqb-true, eq-eqb}
 use Rattle.card.specs.declared.Card.{Card}
-use Rattle.record.specs.Record.{size}
-use Rattle.record.specs.declared.Record as R
-use Rattle.record.specs.declared.Record.the-variants.{Empty}
+use Rattle.lookup.specs.Record.{size}
+use Rattle.lookup.specs.declared.Record as R
+use Rattle.lookup.specs.declared.Record.the-variants.{Empty}
 use Rattle.shelf.specs.Shelf.{Shelf}
 use Rattle.shelf.specs.declared.Found.{Found}
 use Rattle.shelf.specs.declared.Found.the-variants.{At, Nothing}

@@ -11,19 +11,19 @@ use native.Mathlib.Omega.{arith}
 use lib.Dec.{eqb}
 use lib.ListN.{length, getD, set, drop, replicate, replicate-append-replicate}
 use borrow.Author.Tests.{leb-true, eq-eqb}
-use Rattle.routing.specs.Routing.{routing}
-use Rattle.routing.specs.Routing.{Sayable}
-use Rattle.routing.proofs.Laws.{routing-lt}
+use Rattle.bus.specs.Routing.{routing}
+use Rattle.bus.specs.Routing.{Sayable}
+use Rattle.bus.proofs.RoutingLaws.{routing-lt}
 use Rattle.card.specs.Cards.{holds, narrowHolds}
 use Rattle.card.specs.declared.Card.{Card}
 use Rattle.card.specs.declared.Card.the-variants.{Narrow, Wide}
 use Rattle.card.specs.declared.Ask.the-variants.{Out}
 use Rattle.octets.specs.Octets.{cat}
-use Rattle.record.specs.Record.{size, most, usable, recordAt, written, cleared, Holds, image}
-use Rattle.record.specs.declared.Record as R
-use Rattle.record.specs.declared.Record.the-variants.{Empty, Drop as R·Drop, Route, Page as R·Page}
-use Rattle.record.specs.declared.Got.the-variants.{Is}
-use Rattle.record.proofs.Laws.{image-get, image-put, image-append, image-empty}
+use Rattle.lookup.specs.Record.{size, most, usable, recordAt, written, cleared, Holds, image}
+use Rattle.lookup.specs.declared.Record as R
+use Rattle.lookup.specs.declared.Record.the-variants.{Empty, Drop as R·Drop, Route, Page as R·Page}
+use Rattle.lookup.specs.declared.Got.the-variants.{Is}
+use Rattle.lookup.proofs.RecordLaws.{image-get, image-put, image-append, image-empty}
 use Rattle.outlet.specs.declared.Limits.{Limits}
 use Rattle.shelf.specs.declared.Settings.{Settings}
 use Rattle.line.specs.declared.Line.{Line}

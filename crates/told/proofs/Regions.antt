@@ -9,7 +9,7 @@ use lib.Dec.{eqb}
 use lib.ListN.{length, getD, set, length-append, List·getD-append}
 use lib.Seq.{set-append-left, getD-append-add}
 use borrow.Author.Tests.{eqb-true, eq-eqb}
-use Rattle.record.specs.declared.Record as R
+use Rattle.lookup.specs.declared.Record as R
 use Rattle.line.specs.declared.Line.{Line}
 use Rattle.told.specs.Told.{Whose, ofUnit, ofPage, same, Opening, opens, either, topBy, topOf, takes, total, regionBy, regions}
 use Rattle.told.proofs.Tabulate.{some-inj, none-some, only-true, only-is, only-false, either-left, either-right, set-behind, tabulate-length, tabulate-at, tabulate-same, tabulate-put}

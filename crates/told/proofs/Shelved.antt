@@ -14,7 +14,7 @@ use lib.Seq.{take-suc-set, getD-set-same, getD-set-other, take-set-lt, length-ta
 use borrow.Author.Tests.{eqb-true, eqb-false, eq-eqb, ne-eqb}
 use Rattle.outlet.specs.declared.Limits.{Limits}
 use Rattle.card.specs.declared.Card.{Card}
-use Rattle.record.specs.Record.{size}
+use Rattle.lookup.specs.Record.{size}
 use Rattle.shelf.specs.Shelves.{unit, blank, declared, numberOf, findIn, placeFrom}
 use Rattle.shelf.specs.Sessions.{hears, withSession}
 use Rattle.shelf.specs.declared.Settings.{Settings}
@@ -25,7 +25,7 @@ use Rattle.shelf.proofs.Finding.{orElse, find-declared, find-kept}
 use Rattle.shelf.proofs.Hearing.{hears-with, hears-none}
 use Rattle.line.specs.declared.Line.{Line}
 use Rattle.line.specs.declared.Line.the-variants.{Bus, Unit as L·Unit, Vp, Drop, Page, Vc, Mc}
-use Rattle.verdict.specs.declared.Verdict.the-variants.{Fine}
+use Rattle.judge.specs.declared.Verdict.the-variants.{Fine}
 use Rattle.told.specs.Told.{ofUnit, same, opens, topOf, total, hearsBy, hearsIn, declare, hearing, joinAt, shelfBy, shelfOf}
 use Rattle.told.specs.Lines.{isFirst, judge, Good}
 use Rattle.told.proofs.Tabulate.{some-inj, none-some}

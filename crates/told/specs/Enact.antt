@@ -2,24 +2,24 @@
 use Prim.Native.Nat.{ℕ, _+_, _*_, _<_}
 use mathlib.Core.Bool.{Bool, cond}
 use mathlib.Core.List.{List}
-use Rattle.routing.specs.Routing.{routing}
+use Rattle.bus.specs.Routing.{routing}
 use Rattle.card.specs.declared.Card.{Card}
-use Rattle.record.specs.Record.{size, recordAt, written}
-use Rattle.record.specs.declared.Record as R
-use Rattle.record.specs.declared.Record.the-variants.{Drop as R·Drop, Route, Page as R·Page}
-use Rattle.record.specs.declared.Got.{Got}
+use Rattle.lookup.specs.Record.{size, recordAt, written}
+use Rattle.lookup.specs.declared.Record as R
+use Rattle.lookup.specs.declared.Record.the-variants.{Drop as R·Drop, Route, Page as R·Page}
+use Rattle.lookup.specs.declared.Got.{Got}
 use Rattle.outlet.specs.Outlets.{Given}
 use Rattle.shelf.specs.Shelf.{Shelf}
 use Rattle.line.specs.declared.Reading.{Reading}
 use Rattle.line.specs.declared.Reading.the-variants.{Good, Bad}
 use Rattle.line.specs.declared.Line.{Line}
 use Rattle.line.specs.declared.Line.the-variants.{Bus, Unit as L·Unit, Vp, Drop, Page, Vc, Mc}
-use Rattle.verdict.specs.declared.Owner.{Owner}
-use Rattle.verdict.specs.declared.Paged.{Paged}
-use Rattle.verdict.specs.declared.Verdict.{Verdict}
-use Rattle.verdict.specs.declared.Verdict.the-variants.{Form}
-use Rattle.verdict.specs.Verdicts.{pageIn}
-use Rattle.verdict.specs.Owners.{ownerOf, spot}
+use Rattle.judge.specs.declared.Owner.{Owner}
+use Rattle.judge.specs.declared.Paged.{Paged}
+use Rattle.judge.specs.declared.Verdict.{Verdict}
+use Rattle.judge.specs.declared.Verdict.the-variants.{Form}
+use Rattle.judge.specs.Verdicts.{pageIn}
+use Rattle.judge.specs.Owners.{ownerOf, spot}
 use Rattle.judge.specs.Standing.{judgeAt}
 use Rattle.told.specs.Told.{opens, takes, shelfBy}
 

@@ -5,15 +5,15 @@ use mathlib.Core.Bool.{Bool, true, false, cond}
 use mathlib.Core.List.{List, [], _∷_}
 use mathlib.Core.Option.{Option, none, some}
 use Rattle.card.specs.declared.Card.{Card}
-use Rattle.record.specs.Record.{size}
-use Rattle.record.specs.declared.Got.the-variants.{Is}
+use Rattle.lookup.specs.Record.{size}
+use Rattle.lookup.specs.declared.Got.the-variants.{Is}
 use Rattle.line.specs.declared.Line.{Line}
 use Rattle.line.specs.declared.Line.the-variants.{Bus, Unit as L·Unit, Vp, Drop, Page, Vc, Mc}
 use Rattle.line.specs.declared.Reading.{Reading}
 use Rattle.line.specs.declared.Reading.the-variants.{Good as Read, Bad}
-use Rattle.verdict.specs.declared.Verdict.{Verdict}
-use Rattle.verdict.specs.declared.Verdict.the-variants.{Fine, Form, Order}
-use Rattle.verdict.specs.Verdicts.{isFine}
+use Rattle.judge.specs.declared.Verdict.{Verdict}
+use Rattle.judge.specs.declared.Verdict.the-variants.{Fine, Form, Order}
+use Rattle.judge.specs.Verdicts.{isFine}
 use Rattle.judge.specs.Judge.{judgeBus, judgeUnit, judgeVp, judgeDrop, judgePage, judgeVc, judgeMc}
 use Rattle.told.specs.Told.{ofUnit, ofPage, topOf, hearsIn, total, recordOf, shelfOf}
 

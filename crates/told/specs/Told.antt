@@ -5,11 +5,11 @@ use mathlib.Core.List.{List, [], _∷_, _++_}
 use mathlib.Core.Option.{Option, none, some}
 use lib.Dec.{eqb}
 use lib.ListN.{getD, set, drop, replicate}
-use Rattle.routing.specs.Routing.{routing}
+use Rattle.bus.specs.Routing.{routing}
 use Rattle.card.specs.declared.Card.{Card}
-use Rattle.record.specs.Record.{size, usable, image}
-use Rattle.record.specs.declared.Record as R
-use Rattle.record.specs.declared.Record.the-variants.{Empty, Drop as R·Drop, Route, Page as R·Page}
+use Rattle.lookup.specs.Record.{size, usable, image}
+use Rattle.lookup.specs.declared.Record as R
+use Rattle.lookup.specs.declared.Record.the-variants.{Empty, Drop as R·Drop, Route, Page as R·Page}
 use Rattle.shelf.specs.Shelves.{unit, fresh, declared, findIn, blank}
 use Rattle.shelf.specs.Sessions.{withSession}
 use Rattle.shelf.specs.declared.Unit as U

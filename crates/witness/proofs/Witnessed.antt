@@ -11,11 +11,11 @@ use Rattle.header.specs.declared.Link.the-variants.{Uni, Nni}
 use Rattle.card.specs.Cards.{holds as card-holds, narrowHolds}
 use Rattle.card.specs.declared.Card.{Card}
 use Rattle.card.specs.declared.Card.the-variants.{Narrow, Wide}
-use Rattle.record.specs.Record.{most, usable}
+use Rattle.lookup.specs.Record.{most, usable}
 use Rattle.text.specs.Text.{split, same as same-word}
 use Rattle.text.specs.Digits.{digit, digits, plain, decimalOf, value}
-use Rattle.ranged.specs.Ranged.{ranged, aimOf}
-use Rattle.unitline.specs.Units.{settingsOn, settingsOf, limitsIn, limitsOf}
+use Rattle.line.specs.Ranged.{ranged, aimOf}
+use Rattle.line.specs.Units.{settingsOn, settingsOf, limitsIn, limitsOf}
 use Rattle.line.specs.Lines.{busLine, unitLine, keyOf, wayOf, vpLine, dropLine, pageLine, vcOn, vcLine, mcLine, lineOf, wordOf, spoken, readingOf}
 use Rattle.judge.specs.Judge.{judgeBus, judgeUnit, judgeVp, judgeDrop, judgePage, judgeVc, judgeMc}
 use Rattle.told.specs.Told.{same as same-whose, opens, gives as gives-record, hearsBy, topOf, total, recordOf, hearsIn, declare, joinAt, shelfBy, shelfOf}
@@ -27,10 +27,10 @@ use Rattle.promise.proofs.Cards.{narrow-refuses-iff}
 use Rattle.running.specs.Lent.{Lent, does}
 use Rattle.running.proofs.InPlace.{loaded-seen}
 use Rattle.table.specs.Load.{readingsOf, ranOf, loadingOf, load}
-use Rattle.counters.specs.declared.Counters as C
+use Rattle.answer.specs.declared.Counters as C
 use Rattle.answer.specs.Answers.{numberOf, valuesOf}
 use Rattle.answer.specs.declared.Answer.the-variants.{Refused}
-use Rattle.loading.specs.Loads.{answerOf}
+use Rattle.table.specs.Loads.{answerOf}
 use Rattle.outlet.specs.Outlets.{capacity, given, ringFits, queueFits, ringsFit}
 use Rattle.soundness.specs.State.{every, among, noneRepeated, roomy, settingsGiven, asksKnown, arbiterKnown, soundOf}
 use Rattle.soundness.specs.Lanes.{lanes}
@@ -38,7 +38,7 @@ use Rattle.soundness.specs.Soundings.{soundIn}
 use Rattle.state.specs.Bytes.{linkOf, modeOf, unitBy, unitsFrom, shelfIn}
 use Rattle.sentences.specs.Changes.{StateGood}
 use Rattle.sentences.proofs.Refused.{refused as rule}
-use Rattle.wording.specs.Words.{numeralTo, numeral, fieldsOf, parted, wordsOf, textOf, AllInRange}
+use Rattle.paper.specs.Words.{numeralTo, numeral, fieldsOf, parted, wordsOf, textOf, AllInRange}
 use Rattle.promise.specs.Says.{recordsOf, unitLines}
 use Rattle.promise.specs.Refusals.{Long, Accepts}
 use Rattle.promise.proofs.Faults.{good-iff}

@@ -9,7 +9,7 @@ use Rattle.card.specs.declared.Card.the-variants.{Narrow, Wide}
 use Rattle.state.specs.Bytes.{shelfIn}
 use Rattle.soundness.specs.State.{soundOf}
 use Rattle.soundness.specs.Soundings.{soundIn}
-use Rattle.counters.specs.declared.Counters as C
+use Rattle.answer.specs.declared.Counters as C
 use Rattle.answer.specs.declared.Answer.the-variants.{Refused}
 use Rattle.promise.specs.Starred.{path}
 use Rattle.document.specs.Events.{Event, Said, answers}

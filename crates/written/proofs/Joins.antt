@@ -4,8 +4,8 @@ use mathlib.Core.List.{List, [], _++_}
 use Prim.Native.Nat.{ℕ, _≤_, _<_}
 use lib.ListN.{length}
 use borrow.Author.Tests.{le-leb, lt-leb}
-use Rattle.hex.specs.Writing.{Wrote}
-use Rattle.hex.proofs.Splices.{then, nothing}
+use Rattle.text.specs.Writing.{Wrote}
+use Rattle.text.proofs.Splices.{then, nothing}
 use Rattle.written.specs.Lines.{fitting}
 
 -- a word, what is said, a newline

@@ -1,1 +1,4 @@
+pub mod Phrases
+pub mod Answers
 pub mod Lines
+pub mod Shown

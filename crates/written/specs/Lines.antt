@@ -4,17 +4,17 @@ use mathlib.Core.Bool.{cond}
 use mathlib.Core.List.{List, [], _∷_, _++_}
 use lib.Dec.{leb}
 use lib.ListN.{length}
-use Rattle.words.specs.Decimals.{numberFields}
+use Rattle.text.specs.Decimals.{numberFields}
 use Rattle.event.specs.Names.{wArrive, wFrame, wTake, wCount}
 use Rattle.event.specs.declared.Event as Ev
 use Rattle.event.specs.declared.Event.the-variants.{Arrive, Frame, Take, Count, Bad}
 use Rattle.answer.specs.declared.Answer as An
-use Rattle.phrases.specs.Phrases.{fields}
-use Rattle.answered.specs.Answers.{answerFields}
+use Rattle.written.specs.Phrases.{fields}
+use Rattle.written.specs.Answers.{answerFields}
 use Rattle.written.specs.declared.Outcome as Ou
 use Rattle.written.specs.declared.Outcome.the-variants.{Nothing, Answered, Counted}
-use Rattle.counters.specs.Counting.{listed}
-use Rattle.counters.specs.declared.Counters.{Counters}
+use Rattle.answer.specs.Counting.{listed}
+use Rattle.answer.specs.declared.Counters.{Counters}
 
 abbrev pub wTable : List ℕ
 wTable = 116 ∷ 97 ∷ 98 ∷ 108 ∷ 101 ∷ []

@@ -9,9 +9,9 @@ use Rattle.state.specs.Bytes.{shelfIn}
 use Rattle.answer.specs.declared.Outcome.{Outcome}
 use Rattle.answer.specs.Done.{outcomeOf}
 use Rattle.answer.specs.Answers.{refused, refusedWith, spread, outcomeBy}
-use Rattle.admit.specs.Admission.{unitAt}
-use Rattle.admit.proofs.Laws.{decided-at, decided-refused}
-use Rattle.admit.proofs.InPlace.{in-place, came-in, kept-out}
+use Rattle.soundness.specs.Admission.{unitAt}
+use Rattle.soundness.proofs.Laws.{decided-at, decided-refused}
+use Rattle.soundness.proofs.InPlace.{in-place, came-in, kept-out}
 use Rattle.arriving.specs.Arriving.{wayOf, doneAt, storeAt}
 use Rattle.arriving.proofs.InPlace.{out-fits}
 use borrow.Author.Needs.{needs}

@@ -3,7 +3,7 @@ use mathlib.Core.Path.{_≡_, sym}
 use mathlib.Core.Bool.{true, false}
 use lib.ListN.{getD}
 use Rattle.octets.specs.Octets.{four}
-use Rattle.record.specs.Record.{recordAt}
+use Rattle.lookup.specs.Record.{recordAt}
 use Rattle.lookup.specs.Lookup.{soundHeader, translated}
 use Rattle.arriving.proofs.Leaves.{unheaded, headed}
 use Rattle.arriving.specs.Arriving.{wayBy}

@@ -2,9 +2,9 @@
 use mathlib.Core.Path.{_≡_, sym, ap, ap₂, _∙_}
 use lib.Seq.{length-take-le}
 use Rattle.octets.specs.Octets.{two, four}
-use Rattle.routing.specs.Routing.{address}
+use Rattle.bus.specs.Routing.{address}
 use Rattle.bus.specs.Frame.{delivered}
-use Rattle.routing.specs.declared.Address.the-variants.{Bad, To}
+use Rattle.bus.specs.declared.Address.the-variants.{Bad, To}
 use Rattle.bus.proofs.Laws.{heard-length, heard-parity, heard-address}
 use native.Mathlib.Omega.{arith}
 use borrow.Author.Needs.{needs}

@@ -1,6 +1,6 @@
 -- `command::read` meets its contract. Assumes nothing.
 use mathlib.Core.Path.{sym, ap, _∙_}
-use Rattle.fields.specs.Fields.{placeIn}
+use Rattle.command.specs.Fields.{placeIn}
 use Rattle.command.specs.Names.{commands}
 use Rattle.command.specs.Commands.{readingOf, spoken}
 use borrow.Author.Tests.{le-leb, lt-leb}

@@ -15,29 +15,29 @@ use denote.Index.{place-is, elem-out, elem-back, looks-slice, shuts-slice}
 use denote.Steps.{only}
 use denote.Struct.Laws as LL
 use denote.Enum.Laws as EL
-use Rattle.counters.specs.declared.Counters.{Counters}
-use Rattle.counters.specs.Counting.{zeros}
-use Rattle.admit.specs.declared.Place.{Place}
-use Rattle.admit.specs.Admission.{countedIn as placeOf}
-use Rattle.admit.proofs.InPlace.{row-there}
+use Rattle.answer.specs.declared.Counters.{Counters}
+use Rattle.answer.specs.Counting.{zeros}
+use Rattle.soundness.specs.declared.Place.{Place}
+use Rattle.soundness.specs.Admission.{countedIn as placeOf}
+use Rattle.soundness.proofs.InPlace.{row-there}
 use Rattle.entry.specs.Counts.{countOf}
 use Rattle.entry.specs.declared.Counted.the-variants as answer
 use Rattle.entry.proofs.Placed.{found-row, refused-row}
 use Rattle.entry.specs.declared.Counted as Co
-use Rattle.counters.proofs.Calls.{Of, calls-of, calls-plain}
-use Rattle.counters.proofs.Row as R
+use Rattle.answer.proofs.Calls.{Of, calls-of, calls-plain}
+use Rattle.answer.proofs.Row as R
 use Rattle.card.proofs.Card as C
 use Rattle.card.proofs.Card.Laws as C′
-use Rattle.counters.proofs.Counters as T
-use Rattle.counters.proofs.Counters.Laws as T′
-use Rattle.admit.proofs.Place as P
-use Rattle.admit.proofs.Place.Laws as P′
+use Rattle.answer.proofs.Counters as T
+use Rattle.answer.proofs.Counters.Laws as T′
+use Rattle.soundness.proofs.Place as P
+use Rattle.soundness.proofs.Place.Laws as P′
 use Rattle.entry.proofs.Counted as N
 use Rattle.entry.proofs.Counted.Laws as N′
-use Rattle.admit.proofs.counted as placed
-use Rattle.admit.proofs.counted.Symbol as placed-def
-use Rattle.admit.proofs.counted.Symbol.{name as #placed}
-use Rattle.admit.proofs.counted.Met as placed-thm
+use Rattle.soundness.proofs.counted as placed
+use Rattle.soundness.proofs.counted.Symbol as placed-def
+use Rattle.soundness.proofs.counted.Symbol.{name as #placed}
+use Rattle.soundness.proofs.counted.Met as placed-thm
 use Rattle.entry.proofs.row_at as row-at
 use Rattle.entry.proofs.row_at.Symbol as row-at-def
 use Rattle.entry.proofs.row_at.Symbol.{name as #row-at}
@@ -243,7 +243,7 @@ count-spec 𝓤 H 𝓜 𝓖 𝓡 =
     entered 𝓤 H (tripleOf 𝓤 H (𝓖 .A) count.signature (count.spec 𝓤 H (𝓖 .A) (𝓜 .mem) (𝓡 .run)))
     (tables 𝓤 H 𝓜 𝓡 code.env .C) (tables 𝓤 H 𝓜 𝓡 code.env .Λ) #count code.function (code.unfolded 𝓤 H 𝓜 𝓡)
     (count-meets 𝓤 H (𝓖 .A) (givenOf 𝓤 H 𝓜 𝓖) (𝓜 .mem) (𝓡 .run) (tablesOf 𝓤 H 𝓜 (tables 𝓤 H 𝓜 𝓡 code.env))
-    (cited 𝓤 H (Placed 𝓤 H (𝓖 .A) (𝓜 .mem) (𝓡 .run)) 𝓜 𝓡 code.env #placed placed-def.routine code.calls-admit·counted (placed-thm.met 𝓤 H 𝓜 𝓖 𝓡))
+    (cited 𝓤 H (Placed 𝓤 H (𝓖 .A) (𝓜 .mem) (𝓡 .run)) 𝓜 𝓡 code.env #placed placed-def.routine code.calls-soundness·counted (placed-thm.met 𝓤 H 𝓜 𝓖 𝓡))
     (cited 𝓤 H (Number 𝓤 H (𝓖 .A) (𝓜 .mem) (𝓡 .run)) 𝓜 𝓡 code.env #number number-def.routine code.calls-entry·number-of (number-thm.met 𝓤 H 𝓜 𝓖 𝓡))
     (cited 𝓤 H (Refusal 𝓤 H (𝓖 .A) (𝓜 .mem) (𝓡 .run)) 𝓜 𝓡 code.env #refusal refusal-def.routine code.calls-entry·refusal (refusal-thm.met 𝓤 H 𝓜 𝓖 𝓡))
     (cited 𝓤 H (RowAt 𝓤 H (𝓖 .A) (𝓜 .mem) (𝓡 .run)) 𝓜 𝓡 code.env #row-at row-at-def.routine code.calls-entry·row-at (row-at-thm.met 𝓤 H 𝓜 𝓖 𝓡))

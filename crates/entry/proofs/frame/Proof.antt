@@ -1,5 +1,5 @@
 -- `entry::frame` meets its contract: a walk of its MIR, by hand. It is four calls, and all that it knows of the callees is that each meets its contract. What rises at each unit stands in a local array, which is lent to
--- the covered function to be written and then to `counters::raise_each` to be read, each time for a lifetime that the walk makes. Assumes nothing.
+-- the covered function to be written and then to `answer::raise_each` to be read, each time for a lifetime that the walk makes. Assumes nothing.
 use Rattle.entry.proofs.Walking.{_≡_, refl, _∙_, ap, subst, none, ℕ, _≤_, List, [], _∷_, _++_, length, URA, fullShare, Ty, named, imm, mut, w64, tyUnit, tyRef, Val, vunit, vint, vptr, SProp, ent, emp, id⊢, via, fst∗, Lft, Share, flft, Memory, Routine, Heap, Env, WpFn, Tables, Atoms, toks, Fun, givenOf, tables, tablesOf, Given, Item, ‵, raw, runs, atRet, Sq, _$_, _∵_, !, qed, by, move, keep, drop, join, use1, fsplit, fjoin, feqL, suffices, frame, done, ⋆, look, init, stop, hop, fld, from, load, addr, of-opd, and-then, no-more, assigns, land, returns, enter, alloc1, alloc0, params1, pass1, pass0, agg, whole, sub, look-in, fmOf, WpFn-mono, owns, Is, shows, uint-makes, uint-lawful, u8, usize, sliceTy, finally, slice-vals, mut-slice-tells, owned, facts, nothing, ptr-vals, mut-tells, onEntry, Meets, tripleOf, Contract, Triple, entered, cited, says, Stays, stay-dropped, gave-slice, gave-ref, walkOf, goes-dropped, goes-gave-slice, goes-gave-ref, Walks, ends-at, walked, walk-meets, yes, plain}
 use Rattle.entry.proofs.Arguments.{Got, Lent, Whole, taken, val, byte, word, row, lent, again, Arg, the-card, the-state, the-each, State, Each, all-of, finally-state, bytes, sets, is-written, the-rows, kinds, args, valss, machine, tokens-of, lifetimes, shares, numbered, Cell, cells, passed, Typed, card-vals, card-tells, card-typed, answer-typed}
 use Rattle.entry.proofs.Entering.{each, tokens, held, parted, packed, untied, tied, living, lived, freed, told, asking, answer-owned, Raise-each, raises-each}
@@ -20,17 +20,17 @@ use denote.Laws.{Makes}
 use denote.Slice.{sliceVal, Room}
 use denote.Steps.{only}
 use denote.Struct.Laws as LL
-use Rattle.counters.proofs.Calls.{Of, calls-of, calls-plain}
-use Rattle.counters.proofs.Arrays.{lends-whole, whole-back, shares-array, shared-back}
-use Rattle.counters.specs.declared.Counters.{Counters}
+use Rattle.answer.proofs.Calls.{Of, calls-of, calls-plain}
+use Rattle.answer.proofs.Arrays.{lends-whole, whole-back, shares-array, shared-back}
+use Rattle.answer.specs.declared.Counters.{Counters}
 use Rattle.answer.specs.declared.Answer.{Answer}
 use Rattle.answer.specs.declared.Outcome.{Outcome}
 use Rattle.framing.specs.declared.Framed.{Framed}
-use Rattle.counters.specs.Counting.{settled}
+use Rattle.answer.specs.Counting.{settled}
 use Rattle.framing.specs.InPlace.{framedBy, frameOut, frameState, frameStoreIn, frameBufferIn}
 use Rattle.card.proofs.Card as C
 use Rattle.card.proofs.Card.Laws as C′
-use Rattle.counters.proofs.Counters as T
+use Rattle.answer.proofs.Counters as T
 use Rattle.framing.proofs.Framed as F
 use Rattle.framing.proofs.Framed.Laws as F′
 use Rattle.answer.proofs.Answer as N
@@ -47,9 +47,9 @@ use Rattle.entry.proofs.framed_answer as reply
 use Rattle.entry.proofs.framed_answer.Symbol as reply-def
 use Rattle.entry.proofs.framed_answer.Symbol.{name as #reply}
 use Rattle.entry.proofs.framed_answer.Met as reply-thm
-use Rattle.counters.proofs.raise_each.Symbol as raise-def
-use Rattle.counters.proofs.raise_each.Symbol.{name as #raise}
-use Rattle.counters.proofs.raise_each.Met as raise-thm
+use Rattle.answer.proofs.raise_each.Symbol as raise-def
+use Rattle.answer.proofs.raise_each.Symbol.{name as #raise}
+use Rattle.answer.proofs.raise_each.Met as raise-thm
 use Rattle.entry.proofs.frame.Key.{name as #frame}
 use Rattle.entry.proofs.frame as frame
 use Rattle.entry.proofs.frame.Statement as stated
@@ -244,5 +244,5 @@ frame-spec 𝓤 H 𝓜 𝓖 𝓡 =
     (frame-meets 𝓤 H (𝓖 .A) (givenOf 𝓤 H 𝓜 𝓖) (𝓜 .mem) (𝓡 .run) (tablesOf 𝓤 H 𝓜 (tables 𝓤 H 𝓜 𝓡 code.env))
     (cited 𝓤 H (Core 𝓤 H (𝓖 .A) (𝓜 .mem) (𝓡 .run)) 𝓜 𝓡 code.env #core core-def.routine code.calls-framing·frame (core-thm.met 𝓤 H 𝓜 𝓖 𝓡))
     (cited 𝓤 H (Last 𝓤 H (𝓖 .A) (𝓜 .mem) (𝓡 .run)) 𝓜 𝓡 code.env #last last-def.routine code.calls-entry·framed-to (last-thm.met 𝓤 H 𝓜 𝓖 𝓡))
-    (cited 𝓤 H (Raise-each 𝓤 H (𝓖 .A) (𝓜 .mem) (𝓡 .run)) 𝓜 𝓡 code.env #raise raise-def.routine code.calls-counters·raise-each (raise-thm.met 𝓤 H 𝓜 𝓖 𝓡))
+    (cited 𝓤 H (Raise-each 𝓤 H (𝓖 .A) (𝓜 .mem) (𝓡 .run)) 𝓜 𝓡 code.env #raise raise-def.routine code.calls-answer·raise-each (raise-thm.met 𝓤 H 𝓜 𝓖 𝓡))
     (cited 𝓤 H (Reply 𝓤 H (𝓖 .A) (𝓜 .mem) (𝓡 .run)) 𝓜 𝓡 code.env #reply reply-def.routine code.calls-entry·framed-answer (reply-thm.met 𝓤 H 𝓜 𝓖 𝓡)))

@@ -2,15 +2,15 @@
 use Rattle.entry.proofs.Walking.{_≡_, refl, _∙_, ap, subst, none, ℕ, _≤_, List, [], _∷_, _++_, length, URA, named, mut, w8, w64, tyUnit, tyRef, Val, vunit, vint, vptr, SProp, ent, emp, id⊢, via, fst∗, Lft, Share, flft, Memory, Routine, Heap, Env, WpFn, Tables, Atoms, toks, Fun, givenOf, tables, tablesOf, Given, Item, ‵, raw, runs, atRet, Sq, _$_, _∵_, !, qed, by, move, keep, drop, join, use1, fsplit, fjoin, feqL, suffices, frame, done, ⋆, look, init, stop, hop, fld, from, load, addr, of-opd, and-then, no-more, assigns, land, returns, enter, alloc1, alloc0, params1, pass1, pass0, agg, whole, sub, look-in, fmOf, WpFn-mono, owns, Is, uint-makes, uint-vals, uint-tells, u8, usize, sliceTy, finally, slice-vals, mut-slice-tells, shr-slice-tells, owned, nothing, ptr-vals, mut-tells, onEntry, Meets, tripleOf, Contract, Triple, entered, cited, says, Stays, stay-dropped, gave-slice, gave-ref, walkOf, goes-dropped, goes-gave-slice, goes-gave-ref, Walks, ends-at, walked, walk-meets, yes, plain, shrSlice}
 use Rattle.entry.proofs.Arguments.{Got, Lent, taken, val, byte, word, row, shared, lent, again, Arg, the-card, the-state, State, Whole, all-of, finally-state, bytes, the-unit, is-read, is-written, the-rows, kinds, args, valss, machine, tokens-of, lifetimes, shares, numbered, Cell, cells, passed, card-vals, card-tells, card-typed, byte-typed, single-typed, answer-typed}
 use Rattle.entry.proofs.Entering.{each, tokens, held, parted, packed, untied, tied, living, lived, freed, told, unasked, places, answer-owned, Raise, Answered, raises, answers}
-use Rattle.counters.proofs.Calls.{Of, calls-of}
-use Rattle.counters.specs.declared.Counters.{Counters}
+use Rattle.answer.proofs.Calls.{Of, calls-of}
+use Rattle.answer.specs.declared.Counters.{Counters}
 use Rattle.answer.specs.declared.Outcome.{Outcome}
 use Rattle.answer.specs.Answers.{outcomeBy}
-use Rattle.counters.specs.Counting.{settled}
+use Rattle.answer.specs.Counting.{settled}
 use Rattle.hearing.specs.InPlace.{hearOut, hearState, hearStoreIn}
 use Rattle.card.proofs.Card as C
 use Rattle.card.proofs.Card.Laws as C′
-use Rattle.counters.proofs.Counters as T
+use Rattle.answer.proofs.Counters as T
 use Rattle.answer.proofs.Single as D
 use Rattle.answer.proofs.Single.Laws as D′
 use Rattle.answer.proofs.Answer as N
@@ -19,12 +19,12 @@ use Rattle.hearing.proofs.hear as core
 use Rattle.hearing.proofs.hear.Symbol as core-def
 use Rattle.hearing.proofs.hear.Symbol.{name as #core}
 use Rattle.hearing.proofs.hear.Met as core-thm
-use Rattle.counters.proofs.answer_by.Symbol as reply-def
-use Rattle.counters.proofs.answer_by.Symbol.{name as #reply}
-use Rattle.counters.proofs.answer_by.Met as reply-thm
-use Rattle.counters.proofs.raise.Symbol as raise-def
-use Rattle.counters.proofs.raise.Symbol.{name as #raise}
-use Rattle.counters.proofs.raise.Met as raise-thm
+use Rattle.answer.proofs.answer_by.Symbol as reply-def
+use Rattle.answer.proofs.answer_by.Symbol.{name as #reply}
+use Rattle.answer.proofs.answer_by.Met as reply-thm
+use Rattle.answer.proofs.raise.Symbol as raise-def
+use Rattle.answer.proofs.raise.Symbol.{name as #raise}
+use Rattle.answer.proofs.raise.Met as raise-thm
 use Rattle.entry.proofs.hear.Key.{name as #hear}
 use Rattle.entry.proofs.hear as hear
 use Rattle.entry.proofs.hear.Statement as stated
@@ -154,5 +154,5 @@ hear-spec 𝓤 H 𝓜 𝓖 𝓡 =
     (tables 𝓤 H 𝓜 𝓡 code.env .C) (tables 𝓤 H 𝓜 𝓡 code.env .Λ) #hear code.function (code.unfolded 𝓤 H 𝓜 𝓡)
     (hear-meets 𝓤 H (𝓖 .A) (givenOf 𝓤 H 𝓜 𝓖) (𝓜 .mem) (𝓡 .run) (tablesOf 𝓤 H 𝓜 (tables 𝓤 H 𝓜 𝓡 code.env))
     (cited 𝓤 H (Core 𝓤 H (𝓖 .A) (𝓜 .mem) (𝓡 .run)) 𝓜 𝓡 code.env #core core-def.routine code.calls-hearing·hear (core-thm.met 𝓤 H 𝓜 𝓖 𝓡))
-    (cited 𝓤 H (Raise 𝓤 H (𝓖 .A) (𝓜 .mem) (𝓡 .run)) 𝓜 𝓡 code.env #raise raise-def.routine code.calls-counters·raise (raise-thm.met 𝓤 H 𝓜 𝓖 𝓡))
-    (cited 𝓤 H (Answered 𝓤 H (𝓖 .A) (𝓜 .mem) (𝓡 .run)) 𝓜 𝓡 code.env #reply reply-def.routine code.calls-counters·answer-by (reply-thm.met 𝓤 H 𝓜 𝓖 𝓡)))
+    (cited 𝓤 H (Raise 𝓤 H (𝓖 .A) (𝓜 .mem) (𝓡 .run)) 𝓜 𝓡 code.env #raise raise-def.routine code.calls-answer·raise (raise-thm.met 𝓤 H 𝓜 𝓖 𝓡))
+    (cited 𝓤 H (Answered 𝓤 H (𝓖 .A) (𝓜 .mem) (𝓡 .run)) 𝓜 𝓡 code.env #reply reply-def.routine code.calls-answer·answer-by (reply-thm.met 𝓤 H 𝓜 𝓖 𝓡)))

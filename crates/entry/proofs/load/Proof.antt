@@ -2,33 +2,33 @@
 use Rattle.entry.proofs.Walking.{_≡_, refl, subst, none, ℕ, _≤_, List, [], _∷_, _++_, length, URA, named, mut, w64, tyUnit, tyRef, Val, vunit, vint, vptr, SProp, ent, emp, id⊢, via, fst∗, Lft, Share, flft, Memory, Routine, Heap, Env, WpFn, Tables, Atoms, toks, Fun, givenOf, tables, tablesOf, Given, Item, ‵, raw, runs, atRet, Sq, _$_, _∵_, !, qed, by, move, keep, drop, join, use1, fsplit, fjoin, feqL, suffices, frame, done, ⋆, look, init, stop, hop, fld, from, load, addr, of-opd, and-then, no-more, assigns, land, returns, enter, alloc1, alloc0, params1, pass1, pass0, agg, whole, sub, look-in, fmOf, WpFn-mono, owns, Is, uint-makes, u8, usize, sliceTy, finally, slice-vals, mut-slice-tells, shr-slice-tells, owned, nothing, ptr-vals, mut-tells, onEntry, Meets, tripleOf, Contract, Triple, entered, cited, says, Stays, stay-dropped, gave-slice, gave-ref, walkOf, goes-dropped, goes-gave-slice, goes-gave-ref, Walks, ends-at, walked, walk-meets, yes, plain, shrSlice}
 use Rattle.entry.proofs.Arguments.{Got, Lent, taken, val, byte, word, row, shared, lent, again, Arg, the-card, the-state, State, Whole, all-of, finally-state, bytes, is-read, is-written, the-rows, kinds, args, valss, machine, tokens-of, lifetimes, shares, numbered, Cell, cells, passed, card-vals, card-tells, card-typed, done-typed, rises-typed, answer-typed}
 use Rattle.entry.proofs.Entering.{each, tokens, held, parted, packed, untied, tied, living, lived, freed, told, unasked, places, answer-owned, Risen, Replied, Settle, risen, replied, settles}
-use Rattle.counters.proofs.Calls.{Of, calls-of}
-use Rattle.counters.specs.declared.Counters.{Counters}
+use Rattle.answer.proofs.Calls.{Of, calls-of}
+use Rattle.answer.specs.declared.Counters.{Counters}
 use Rattle.answer.specs.declared.Outcome.{Outcome}
-use Rattle.counters.specs.Counting.{settled}
-use Rattle.loading.specs.InPlace.{loadOut, loadState}
-use Rattle.loading.specs.Loads.{loadMemory}
+use Rattle.answer.specs.Counting.{settled}
+use Rattle.table.specs.EventInPlace.{loadOut, loadState}
+use Rattle.table.specs.Loads.{loadMemory}
 use Rattle.card.proofs.Card as C
 use Rattle.card.proofs.Card.Laws as C′
-use Rattle.counters.proofs.Counters as T
+use Rattle.answer.proofs.Counters as T
 use Rattle.answer.proofs.Outcome as D
 use Rattle.answer.proofs.Outcome.Laws as D′
 use Rattle.answer.proofs.Answer as N
 use Rattle.answer.proofs.Answer.Laws as N′
-use Rattle.loading.proofs.load as core
-use Rattle.loading.proofs.load.Symbol as core-def
-use Rattle.loading.proofs.load.Symbol.{name as #core}
-use Rattle.loading.proofs.load.Met as core-thm
+use Rattle.table.proofs.load as core
+use Rattle.table.proofs.load.Symbol as core-def
+use Rattle.table.proofs.load.Symbol.{name as #core}
+use Rattle.table.proofs.load.Met as core-thm
 use Rattle.answer.proofs.Rises.Laws as R′
-use Rattle.counters.proofs.rises_of.Symbol as rises-def
-use Rattle.counters.proofs.rises_of.Symbol.{name as #rises}
-use Rattle.counters.proofs.rises_of.Met as rises-thm
-use Rattle.counters.proofs.answer_of.Symbol as reply-def
-use Rattle.counters.proofs.answer_of.Symbol.{name as #reply}
-use Rattle.counters.proofs.answer_of.Met as reply-thm
-use Rattle.counters.proofs.settle.Symbol as settle-def
-use Rattle.counters.proofs.settle.Symbol.{name as #settle}
-use Rattle.counters.proofs.settle.Met as settle-thm
+use Rattle.answer.proofs.rises_of.Symbol as rises-def
+use Rattle.answer.proofs.rises_of.Symbol.{name as #rises}
+use Rattle.answer.proofs.rises_of.Met as rises-thm
+use Rattle.answer.proofs.answer_of.Symbol as reply-def
+use Rattle.answer.proofs.answer_of.Symbol.{name as #reply}
+use Rattle.answer.proofs.answer_of.Met as reply-thm
+use Rattle.answer.proofs.settle.Symbol as settle-def
+use Rattle.answer.proofs.settle.Symbol.{name as #settle}
+use Rattle.answer.proofs.settle.Met as settle-thm
 use Rattle.entry.proofs.load.Key.{name as #load}
 use Rattle.entry.proofs.load as load
 use Rattle.entry.proofs.load.Statement as stated
@@ -160,7 +160,7 @@ load-spec 𝓤 H 𝓜 𝓖 𝓡 =
     entered 𝓤 H (tripleOf 𝓤 H (𝓖 .A) load.signature (load.spec 𝓤 H (𝓖 .A) (𝓜 .mem) (𝓡 .run)))
     (tables 𝓤 H 𝓜 𝓡 code.env .C) (tables 𝓤 H 𝓜 𝓡 code.env .Λ) #load code.function (code.unfolded 𝓤 H 𝓜 𝓡)
     (load-meets 𝓤 H (𝓖 .A) (givenOf 𝓤 H 𝓜 𝓖) (𝓜 .mem) (𝓡 .run) (tablesOf 𝓤 H 𝓜 (tables 𝓤 H 𝓜 𝓡 code.env))
-    (cited 𝓤 H (Core 𝓤 H (𝓖 .A) (𝓜 .mem) (𝓡 .run)) 𝓜 𝓡 code.env #core core-def.routine code.calls-loading·load (core-thm.met 𝓤 H 𝓜 𝓖 𝓡))
-    (cited 𝓤 H (Risen 𝓤 H (𝓖 .A) (𝓜 .mem) (𝓡 .run)) 𝓜 𝓡 code.env #rises rises-def.routine code.calls-counters·rises-of (rises-thm.met 𝓤 H 𝓜 𝓖 𝓡))
-    (cited 𝓤 H (Settle 𝓤 H (𝓖 .A) (𝓜 .mem) (𝓡 .run)) 𝓜 𝓡 code.env #settle settle-def.routine code.calls-counters·settle (settle-thm.met 𝓤 H 𝓜 𝓖 𝓡))
-    (cited 𝓤 H (Replied 𝓤 H (𝓖 .A) (𝓜 .mem) (𝓡 .run)) 𝓜 𝓡 code.env #reply reply-def.routine code.calls-counters·answer-of (reply-thm.met 𝓤 H 𝓜 𝓖 𝓡)))
+    (cited 𝓤 H (Core 𝓤 H (𝓖 .A) (𝓜 .mem) (𝓡 .run)) 𝓜 𝓡 code.env #core core-def.routine code.calls-table·load (core-thm.met 𝓤 H 𝓜 𝓖 𝓡))
+    (cited 𝓤 H (Risen 𝓤 H (𝓖 .A) (𝓜 .mem) (𝓡 .run)) 𝓜 𝓡 code.env #rises rises-def.routine code.calls-answer·rises-of (rises-thm.met 𝓤 H 𝓜 𝓖 𝓡))
+    (cited 𝓤 H (Settle 𝓤 H (𝓖 .A) (𝓜 .mem) (𝓡 .run)) 𝓜 𝓡 code.env #settle settle-def.routine code.calls-answer·settle (settle-thm.met 𝓤 H 𝓜 𝓖 𝓡))
+    (cited 𝓤 H (Replied 𝓤 H (𝓖 .A) (𝓜 .mem) (𝓡 .run)) 𝓜 𝓡 code.env #reply reply-def.routine code.calls-answer·answer-of (reply-thm.met 𝓤 H 𝓜 𝓖 𝓡)))

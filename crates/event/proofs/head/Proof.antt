@@ -2,7 +2,7 @@
 use mathlib.Core.Path.{refl, ap, _∙_}
 use native.Mathlib.Omega.{arith}
 use Rattle.octets.specs.Octets.{splice}
-use Rattle.hex.specs.Hex.{unhex as unhexed}
+use Rattle.text.specs.Hex.{unhex as unhexed}
 use Rattle.event.proofs.Heads.{room, hexes-hex, head-filled}
 use borrow.Author.Needs.{needs}
 use Rattle.event.proofs.head.Statement.{statement}

@@ -1,7 +1,7 @@
 -- `event::unit_of` meets its contract. Assumes nothing.
 use mathlib.Core.Path.{sym, _∙_}
 use native.Mathlib.Omega.{arith}
-use Rattle.words.proofs.NumberLaws.{number-in}
+use Rattle.text.proofs.NumberLaws.{number-in}
 use borrow.Author.Needs.{needs}
 use Rattle.event.proofs.unit_of.Statement.{statement}
 use Rattle.event.proofs.unit_of.Tie as tie

@@ -10,8 +10,8 @@ use Rattle.soundness.proofs.Facts.{sound-iff}
 use Rattle.answer.specs.declared.Outcome.{Outcome}
 use Rattle.answer.specs.Done.{outcomeOf}
 use Rattle.answer.specs.Answers.{refused}
-use Rattle.admit.proofs.Laws.{sound-housed}
-use Rattle.admit.proofs.InPlace.{sound-in}
+use Rattle.soundness.proofs.Laws.{sound-housed}
+use Rattle.soundness.proofs.InPlace.{sound-in}
 use Rattle.framing.specs.Frames.{doneAt, storeAt, bufferAt}
 use Rattle.framing.specs.InPlace.{stateAt, framedBy}
 use Rattle.framing.proofs.Sends.{housed-in, checked-unsound, checked-misfit, checked-good}

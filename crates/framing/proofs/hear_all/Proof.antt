@@ -6,7 +6,7 @@ use mathlib.Core.Bool.{false, _||_}
 use lib.ListN.{length, set, getD, length-set}
 use Rattle.state.specs.Bytes.{unitIn}
 use Rattle.answer.specs.Answers.{hearingRises, queuedOne, isAddressed}
-use Rattle.admit.specs.Admission.{Housed}
+use Rattle.soundness.specs.Admission.{Housed}
 use Rattle.hearing.specs.Hearings.{planOf}
 use Rattle.hearing.proofs.Plans.{plan-queue}
 use Rattle.hearing.proofs.InPlace.{state-long, state-there}

@@ -1,8 +1,8 @@
 -- `framing::hear_sent` meets its contract. Assumes nothing.
 use mathlib.Core.Path.{_≡_, sym, ap, ap₂, _∙_}
 use Rattle.octets.specs.Octets.{two, four}
-use Rattle.routing.specs.Routing.{address}
-use Rattle.routing.specs.declared.Address.the-variants.{Bad, To}
+use Rattle.bus.specs.Routing.{address}
+use Rattle.bus.specs.declared.Address.the-variants.{Bad, To}
 use Rattle.bus.specs.Frame.{delivered}
 use Rattle.bus.proofs.Wire.{heard-sealed}
 use borrow.Author.Needs.{needs}

@@ -9,8 +9,8 @@ use Rattle.outlet.specs.declared.Ring.{Ring}
 use Rattle.store.specs.Rings.{popped}
 use Rattle.store.specs.Places.{slotAt, inletSlot}
 use Rattle.state.specs.Bytes.{unitIn, withRing}
-use Rattle.admit.specs.Admission.{Housed}
-use Rattle.admit.proofs.Laws.{cell-length}
+use Rattle.soundness.specs.Admission.{Housed}
+use Rattle.soundness.proofs.Laws.{cell-length}
 use Rattle.framing.specs.Scenes.{talliedBy, AllHousedIn}
 use Rattle.framing.specs.InPlace.{outState}
 use Rattle.framing.proofs.Sends.{head-inside, sealed-cell, inlet-in, out-long, out-housed-in, frame-is, sent-tally, sent-bytes, sent-store}

@@ -7,8 +7,8 @@ use lib.ListN.{length}
 use borrow.Author.Tests.{eqb-true}
 use Rattle.answer.specs.declared.Outcome.{Outcome}
 use Rattle.answer.specs.Answers.{spread, outcomeBy}
-use Rattle.admit.proofs.Laws.{decided-at, decided-refused}
-use Rattle.admit.proofs.InPlace.{LetInPlace, in-place}
+use Rattle.soundness.proofs.Laws.{decided-at, decided-refused}
+use Rattle.soundness.proofs.InPlace.{LetInPlace, in-place}
 use Rattle.hearing.proofs.InPlace.{out-at, store-at, out-refused, store-refused}
 use borrow.Author.Needs.{needs}
 use Rattle.hearing.proofs.hear.Statement.{statement}

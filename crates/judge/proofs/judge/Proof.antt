@@ -1,7 +1,7 @@
 -- `judge::judge` meets its contract. Assumes nothing.
 use mathlib.Core.Path.{sym, ap, _∙_}
 use lib.ListN.{getD}
-use Rattle.record.specs.Record.{recordAt}
+use Rattle.lookup.specs.Record.{recordAt}
 use Rattle.state.specs.Bytes.{shelfIn}
 use Rattle.judge.specs.Judge.{judgeBus, judgeUnit}
 use Rattle.judge.specs.Standing.{judgeAt}

@@ -1,7 +1,7 @@
 -- `judge::judge_drop` meets its contract. Assumes nothing.
 use mathlib.Core.Path.{sym, ap, _∙_}
-use Rattle.record.specs.Record.{recordAt}
-use Rattle.verdict.specs.Verdicts.{taken}
+use Rattle.lookup.specs.Record.{recordAt}
+use Rattle.judge.specs.Verdicts.{taken}
 use Rattle.judge.proofs.Chains.{nobody, somebody, drop-above, drop-taken, drop-fine}
 use borrow.Author.Needs.{needs}
 use Rattle.judge.proofs.judge_drop.Statement.{statement}

@@ -2,8 +2,8 @@
 use mathlib.Core.Path.{sym, ap, subst, _∙_}
 use Prim.Native.Nat.{_+_, _*_, _<_, _≤_}
 use borrow.Author.Tests.{not-true, not-false}
-use Rattle.record.specs.Record.{size, recordAt}
-use Rattle.verdict.specs.Verdicts.{taken, pageIn}
+use Rattle.lookup.specs.Record.{size, recordAt}
+use Rattle.judge.specs.Verdicts.{taken, pageIn}
 use Rattle.judge.proofs.Chains.{nobody, somebody, vc-above, vc-no-page, vc-over, vc-off, vc-taken, vc-asked}
 use borrow.Author.Needs.{needs}
 use Rattle.judge.proofs.judge_vc.Statement.{statement}

@@ -1,9 +1,9 @@
 -- `line::key_of` meets its contract. Assumes nothing.
 use mathlib.Core.Path.{sym, ap, _∙_}
-use Rattle.ranged.proofs.Numbers.{ranged-in}
+use Rattle.line.proofs.Numbers.{ranged-in}
 use Rattle.line.specs.Lines.{keyOf}
 use Rattle.text.proofs.Split.{after-fields}
-use Rattle.ranged.specs.Ranged.{ranged}
+use Rattle.line.specs.Ranged.{ranged}
 use native.Mathlib.Omega.{arith}
 use borrow.Author.Needs.{needs}
 use Rattle.line.proofs.key_of.Statement.{statement}

@@ -1,8 +1,8 @@
 -- `line::page_line` meets its contract. Assumes nothing.
 use mathlib.Core.Path.{sym, ap, _∙_}
 use Rattle.line.specs.Lines.{pageLine}
-use Rattle.ranged.specs.Ranged.{ranged}
-use Rattle.unitline.proofs.Rests.{second-fields}
+use Rattle.line.specs.Ranged.{ranged}
+use Rattle.line.proofs.UnitRests.{second-fields}
 use borrow.Author.Needs.{needs}
 use Rattle.line.proofs.page_line.Statement.{statement}
 use Rattle.line.proofs.page_line.Tie as tie

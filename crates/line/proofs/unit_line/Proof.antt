@@ -1,7 +1,7 @@
 -- `line::unit_line` meets its contract. Assumes nothing.
 use mathlib.Core.Path.{sym, _∙_}
 use Rattle.line.specs.Lines.{unitLine}
-use Rattle.unitline.proofs.Rests.{limits-rest}
+use Rattle.line.proofs.UnitRests.{limits-rest}
 use borrow.Author.Needs.{needs}
 use Rattle.line.proofs.unit_line.Statement.{statement}
 use Rattle.line.proofs.unit_line.Tie as tie

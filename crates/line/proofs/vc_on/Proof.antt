@@ -1,8 +1,8 @@
 -- `line::vc_on` meets its contract. Assumes nothing.
 use mathlib.Core.Path.{sym, ap, _∙_}
 use Rattle.line.specs.Lines.{vcOn}
-use Rattle.ranged.specs.Ranged.{ranged}
-use Rattle.unitline.proofs.Rests.{fourth-fields}
+use Rattle.line.specs.Ranged.{ranged}
+use Rattle.line.proofs.UnitRests.{fourth-fields}
 use Rattle.line.proofs.Rests.{vc-way-rest}
 use borrow.Author.Needs.{needs}
 use Rattle.line.proofs.vc_on.Statement.{statement}

@@ -1,9 +1,9 @@
 -- `line::way_of` meets its contract. Assumes nothing.
 use mathlib.Core.Path.{sym, ap, _∙_}
-use Rattle.ranged.proofs.Numbers.{ranged-in}
-use Rattle.ranged.specs.Ranged.{ranged, aimOf}
+use Rattle.line.proofs.Numbers.{ranged-in}
+use Rattle.line.specs.Ranged.{ranged, aimOf}
 use Rattle.text.proofs.Split.{after-fields}
-use Rattle.unitline.proofs.Rests.{second-fields}
+use Rattle.line.proofs.UnitRests.{second-fields}
 use native.Mathlib.Omega.{arith}
 use borrow.Author.Needs.{needs}
 use Rattle.line.proofs.way_of.Statement.{statement}

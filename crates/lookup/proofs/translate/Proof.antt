@@ -1,6 +1,6 @@
 -- `lookup::translate` meets its contract. Assumes nothing.
 use mathlib.Core.Path.{_≡_, sym, ap, _∙_}
-use Rattle.record.specs.Record.{recordAt}
+use Rattle.lookup.specs.Record.{recordAt}
 use Rattle.lookup.proofs.Laws.{no-path, above-top, by-record}
 use Rattle.lookup.specs.Lookup.{byGot, byFields, translated}
 use borrow.Author.Needs.{needs}

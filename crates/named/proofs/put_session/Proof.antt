@@ -1,6 +1,6 @@
 -- `named::put_session` meets its contract. Assumes nothing.
 use mathlib.Core.Path.{sym, _∙_}
-use Rattle.hex.proofs.Splices.{nothing}
+use Rattle.text.proofs.Splices.{nothing}
 use Rattle.named.specs.Named.{sessionText}
 use native.Mathlib.Omega.{arith}
 use borrow.Author.Needs.{needs}

@@ -2,8 +2,8 @@
 use mathlib.Core.Path.{_≡_, refl}
 use Prim.Native.Nat.{_+_, _*_, _≤_, _-_}
 use lib.ListN.{length}
-use Rattle.hex.specs.Writing.{Wrote}
-use Rattle.hex.proofs.Splices.{then}
+use Rattle.text.specs.Writing.{Wrote}
+use Rattle.text.proofs.Splices.{then}
 use Rattle.named.specs.Named.{heardBelow}
 use Rattle.named.proofs.Written.{no-session, next-session}
 use native.Mathlib.Omega.{arith}

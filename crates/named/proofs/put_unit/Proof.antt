@@ -1,5 +1,5 @@
 -- `named::put_unit` meets its contract. Assumes nothing.
-use Rattle.hex.proofs.Splices.{then}
+use Rattle.text.proofs.Splices.{then}
 use Rattle.named.specs.Named.{placeText}
 use native.Mathlib.Omega.{arith}
 use borrow.Author.Needs.{needs}

@@ -1,6 +1,6 @@
 -- `owned::arrive` meets its contract. Assumes nothing.
 use mathlib.Core.Path.{ap, _∙_}
-use Rattle.counters.specs.Counting.{settled}
+use Rattle.answer.specs.Counting.{settled}
 use Rattle.answer.specs.declared.Outcome.{Outcome}
 use borrow.Author.Needs.{needs}
 use Rattle.owned.proofs.arrive.Statement.{statement}

@@ -4,7 +4,7 @@ use Prim.Native.Nat.{_<_}
 use native.Mathlib.Omega.{arith}
 use lib.ListN.{length}
 use Rattle.outlet.proofs.Laws.{length-mapped}
-use Rattle.counters.proofs.Settling.{counted-last, settled-uncounted}
+use Rattle.answer.proofs.Settling.{counted-last, settled-uncounted}
 use Rattle.owned.proofs.Laws.{risen}
 use borrow.Author.Needs.{needs}
 use Rattle.owned.proofs.raise.Statement.{statement}

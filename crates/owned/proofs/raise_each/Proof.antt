@@ -3,8 +3,8 @@ use mathlib.Core.Path.{_≡_, refl, sym, ap, _∙_}
 use mathlib.Core.Logic.{inl}
 use Prim.Native.Nat.{_≤_, _<_, _-_}
 use lib.ListN.{length}
-use Rattle.counters.specs.Counting.{settledTo, risesTo}
-use Rattle.counters.proofs.Settling.{rises-own, settled-none, settled-end}
+use Rattle.answer.specs.Counting.{settledTo, risesTo}
+use Rattle.answer.proofs.Settling.{rises-own, settled-none, settled-end}
 use Rattle.outlet.proofs.Laws.{length-mapped}
 use Rattle.owned.proofs.Laws.{turned}
 use native.Mathlib.Omega.{arith}

@@ -3,8 +3,8 @@ use mathlib.Core.Path.{_≡_, sym, ap, _∙_}
 use mathlib.Core.Logic.{_⊎_, inl, inr}
 use Prim.Native.Nat.{_≤_, _<_, _-_}
 use lib.ListN.{length}
-use Rattle.counters.specs.Counting.{rowBy, settledTo, settled}
-use Rattle.counters.proofs.Settling.{row-by, settled-none, settled-end}
+use Rattle.answer.specs.Counting.{rowBy, settledTo, settled}
+use Rattle.answer.proofs.Settling.{row-by, settled-none, settled-end}
 use Rattle.outlet.proofs.Laws.{length-mapped}
 use Rattle.owned.proofs.Laws.{turned}
 use native.Mathlib.Omega.{arith}

@@ -15,19 +15,19 @@ use denote.Slice.{sliceVal, Room}
 use denote.Lend.{Held}
 use denote.Struct.Laws as LL
 use denote.Signature.Array.{arrayOf}
-use Rattle.counters.proofs.Calls.{Of, calls-of, calls-plain}
-use Rattle.counters.proofs.Arrays.{lends-array, array-back}
-use Rattle.counters.proofs.Row as R
-use Rattle.counters.specs.declared.Counters.{Counters}
+use Rattle.answer.proofs.Calls.{Of, calls-of, calls-plain}
+use Rattle.answer.proofs.Arrays.{lends-array, array-back}
+use Rattle.answer.proofs.Row as R
+use Rattle.answer.specs.declared.Counters.{Counters}
 use Rattle.answer.specs.declared.Answer.{Answer}
 use Rattle.answer.specs.declared.Outcome.{Outcome}
 use Rattle.owned.specs.declared.After.{After}
-use Rattle.counters.specs.Counting.{settled}
+use Rattle.answer.specs.Counting.{settled}
 use Rattle.taking.specs.InPlace.{takeOut, takeState, takeBufferIn}
 use Rattle.card.proofs.Card as C
 use Rattle.card.proofs.Card.Laws as C′
-use Rattle.counters.proofs.Counters as T
-use Rattle.counters.proofs.Counters.Laws as T′
+use Rattle.answer.proofs.Counters as T
+use Rattle.answer.proofs.Counters.Laws as T′
 use Rattle.answer.proofs.Answer as N
 use Rattle.answer.proofs.Answer.Laws as N′
 use Rattle.owned.proofs.After as F

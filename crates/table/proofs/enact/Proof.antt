@@ -2,7 +2,7 @@
 use mathlib.Core.Path.{sym, ap, _∙_}
 use Prim.Native.Nat.{_+_, _*_}
 use borrow.Author.Tests.{not-true, not-false}
-use Rattle.record.specs.Record.{size}
+use Rattle.lookup.specs.Record.{size}
 use Rattle.state.specs.Bytes.{shelfIn}
 use Rattle.line.specs.declared.Reading.the-variants.{Good}
 use Rattle.table.proofs.Leaves.{step-stopped, memory-kept, state-kept, step-fine, memory-enacted, state-enacted, fine-is}

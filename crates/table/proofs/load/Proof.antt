@@ -1,151 +1,41 @@
 -- `table::load` meets its contract. Assumes nothing.
-use mathlib.Core.Path.{sym, ap, ap₂, _∙_}
-use borrow.Author.Tests.{not-true, not-false}
-use Rattle.record.specs.Record.{usable, cleared}
-use Rattle.told.specs.Told.{memoryOf}
-use Rattle.table.specs.Load.{progressOf, toldIn, ranOf}
-use Rattle.table.specs.InPlace.{stateOf}
-use Rattle.table.specs.declared.Outcome.the-variants.{Refused}
-use Rattle.table.proofs.Cleared.{cleared-usable, cleared-twice, memory-cleared, after-long, after-stopped, after-little, after-done}
+use Prim.Native.Nat.{_≤_}
+use native.Mathlib.Omega.{arith}
+use mathlib.Core.Path.{sym, ap, ap₂, subst, _∙_}
+use lib.ListN.{length, getD}
+use Rattle.answer.specs.declared.Outcome.{Outcome}
+use Rattle.shelf.specs.Shelf.{Shelf}
+use Rattle.table.specs.EventInPlace.{outcomeBy}
+use Rattle.table.proofs.Laws.{load-rows}
+use Rattle.table.proofs.EventInPlace.{load-decodes}
 use borrow.Author.Needs.{needs}
 use Rattle.table.proofs.load.Statement.{statement}
 use Rattle.table.proofs.load.Tie as tie
 
-refused-requires : tie.Need-refused-requires
-refused-requires c κs = search needs
+load-text-requires : tie.Need-load-text-requires
+load-text-requires c κs = search needs
+
+element-copy-out-outcome-of : tie.Need-element-copy-out-outcome-of
+element-copy-out-outcome-of c = search needs
+
+outcome-of-requires : tie.Need-outcome-of-requires
+outcome-of-requires c κs = search needs
 
 same-length : tie.Need-same-length
 same-length c = search needs
 
-same-length-2 : tie.Need-same-length-2
-same-length-2 c = search needs
-
 returns : tie.Need-returns
 returns c =
-    let a = c .before .before .before .before .before .before .before .before .before .before .before .args in
-    let e = c .before .before .before .before .refused .ensures in
-    let o = after-long (a .card) (a .text .now) (a .memory .now) (a .store) (a .rows) (c .before .before .before .before .before .before .before .if1 .taken) in
-    (e .0 ∙ o .0, (e .1 .0 ∙ o .1, e .1 .1 ∙ o .2))
-
-clear-requires : tie.Need-clear-requires
-clear-requires c κs = search needs
-
-fresh-requires : tie.Need-fresh-requires
-fresh-requires c κs = search needs
-
-read-lines-requires : tie.Need-read-lines-requires
-read-lines-requires c κs =
-    let e = c .before .before .before .before .before .before .before .before .clear .ensures in
-    (c .before .before .before .before .before .before .before .before .before .before .if1 .left, e ∙ sym (cleared-twice _) ∙ ap cleared (sym e), c .before .before .before .before .fresh .ensures)
-
-is-fine-requires : tie.Need-is-fine-requires
-is-fine-requires c κs = search needs
-
-number-requires : tie.Need-number-requires
-number-requires c κs = search needs
-
-refused-requires-2 : tie.Need-refused-requires-2
-refused-requires-2 c κs = search needs
-
-same-length-3 : tie.Need-same-length-3
-same-length-3 c = search needs
-
-same-length-4 : tie.Need-same-length-4
-same-length-4 c = search needs
-
-returns-2 : tie.Need-returns-2
-returns-2 c =
-    let a = c .before .before .before .before .before .before .before .before .before .before .before .before .before .before .before .before .before .before .before .before .before .before .before .before .before .before .before .before .before .args in
-    let m = a .memory .now in
-    let t = a .text .now in
-    let k = c .before .before .before .before .before .before .before .before .before .before .before .before .before .before .before .before .before .before .before .before .before .before .before .clear .ensures in
-    let l = c .before .before .before .before .before .before .before .before .before .before .before .before .before .before .read-lines in
-    let p = l .result in
-    let r = ap (λ x. ranOf (a .card) (usable x) t) k ∙ ap (λ n. ranOf (a .card) n t) (cleared-usable m) in
-    let come = l .ensures .0 ∙ ap progressOf r in
-    let holding = l .ensures .1 .0 ∙ ap₂ (λ x y. memoryOf (a .card) x (toldIn y)) k r ∙ memory-cleared (a .card) m (toldIn (ranOf (a .card) (usable m) t)) in
-    let standing = l .ensures .1 .1 ∙ ap (λ y. stateOf (toldIn y)) r in
-    let short = c .before .before .before .before .before .before .before .before .before .before .before .before .before .before .before .before .before .before .before .before .before .before .before .before .before .if1 .left in
-    let f = sym (c .before .before .before .before .before .before .before .before .before .is-fine .ensures) in
-    let o = after-stopped (a .card) t m (a .store) (a .rows) short p come _ _ holding standing (f ∙ not-true _ (c .before .before .before .before .before .before .before .before .if2 .taken)) in
-    let e = c .before .before .before .before .refused2 .ensures in
-    (e .0 ∙ ap (λ n. Refused n (p .lines)) (c .before .before .before .before .before .number .ensures) ∙ o .0, (e .1 .0 ∙ o .1, e .1 .1 ∙ o .2))
-
-too-little-requires : tie.Need-too-little-requires
-too-little-requires c κs = search needs
-
-refused-requires-3 : tie.Need-refused-requires-3
-refused-requires-3 c κs = search needs
-
-same-length-5 : tie.Need-same-length-5
-same-length-5 c = search needs
-
-same-length-6 : tie.Need-same-length-6
-same-length-6 c = search needs
-
-returns-3 : tie.Need-returns-3
-returns-3 c =
-    let a = c .before .before .before .before .before .before .before .before .before .before .before .before .before .before .before .before .before .before .before .before .before .before .before .before .before .before .before .before .before .before .before .args in
-    let m = a .memory .now in
-    let t = a .text .now in
-    let k = c .before .before .before .before .before .before .before .before .before .before .before .before .before .before .before .before .before .before .before .before .before .before .before .before .before .clear .ensures in
-    let l = c .before .before .before .before .before .before .before .before .before .before .before .before .before .before .before .before .read-lines in
-    let p = l .result in
-    let r = ap (λ x. ranOf (a .card) (usable x) t) k ∙ ap (λ n. ranOf (a .card) n t) (cleared-usable m) in
-    let come = l .ensures .0 ∙ ap progressOf r in
-    let holding = l .ensures .1 .0 ∙ ap₂ (λ x y. memoryOf (a .card) x (toldIn y)) k r ∙ memory-cleared (a .card) m (toldIn (ranOf (a .card) (usable m) t)) in
-    let standing = l .ensures .1 .1 ∙ ap (λ y. stateOf (toldIn y)) r in
-    let short = c .before .before .before .before .before .before .before .before .before .before .before .before .before .before .before .before .before .before .before .before .before .before .before .before .before .before .before .if1 .left in
-    let f = sym (c .before .before .before .before .before .before .before .before .before .before .before .is-fine .ensures) in
-    let o = after-little (a .card) t m (a .store) (a .rows) short p come _ _ holding standing (f ∙ not-false _ (c .before .before .before .before .before .before .before .before .before .before .if2 .left)) (sym (c .before .before .before .before .before .before .before .before .too-little .ensures) ∙ c .before .before .before .before .before .before .before .if3 .taken) in
-    let e = c .before .before .before .before .refused3 .ensures in
-    (e .0 ∙ o .0, (e .1 .0 ∙ o .1, e .1 .1 ∙ o .2))
-
-same-length-7 : tie.Need-same-length-7
-same-length-7 c = search needs
-
-same-length-8 : tie.Need-same-length-8
-same-length-8 c = search needs
-
-returns-4 : tie.Need-returns-4
-returns-4 c =
-    let a = c .before .before .before .before .before .before .before .before .before .before .before .before .before .before .before .before .before .before .before .before .before .before .before .before .args in
-    let m = a .memory .now in
-    let t = a .text .now in
-    let k = c .before .before .before .before .before .before .before .before .before .before .before .before .before .before .before .before .before .before .clear .ensures in
-    let l = c .before .before .before .before .before .before .before .before .before .read-lines in
-    let p = l .result in
-    let r = ap (λ x. ranOf (a .card) (usable x) t) k ∙ ap (λ n. ranOf (a .card) n t) (cleared-usable m) in
-    let come = l .ensures .0 ∙ ap progressOf r in
-    let holding = l .ensures .1 .0 ∙ ap₂ (λ x y. memoryOf (a .card) x (toldIn y)) k r ∙ memory-cleared (a .card) m (toldIn (ranOf (a .card) (usable m) t)) in
-    let standing = l .ensures .1 .1 ∙ ap (λ y. stateOf (toldIn y)) r in
-    let short = c .before .before .before .before .before .before .before .before .before .before .before .before .before .before .before .before .before .before .before .before .if1 .left in
-    let f = sym (c .before .before .before .before .is-fine .ensures) in
-    let o = after-done (a .card) t m (a .store) (a .rows) short p come _ _ holding standing (f ∙ not-false _ (c .before .before .before .if2 .left)) (sym (c .before .too-little .ensures) ∙ c .if3 .left) in
-    (o .0, (o .1, o .2))
+    let a = c .before .before .before .before .before .before .before .before .before .before .args in
+    let l = c .before .before .before .before .load-text .ensures in
+    let n = length (a .store .now) in
+    let count = ap (λ b. getD b 805 0) (l .1 .1) ∙ ap (λ (s : Shelf). s .count) (load-decodes (a .card) (a .text .now) (a .memory .now) n (a .rows)) in
+    let e = c .outcome-of .ensures ∙ ap₂ outcomeBy (l .0) count in (
+      (e, (l .1 .0, l .1 .1)),
+      subst (λ (x : Outcome). (x .rises .to ≤ 32) × (x .rises .to ≤ a .rows)) (sym e) (omega arith, omega (arith, load-rows (a .card) (a .text .now) (a .memory .now) n (a .rows))),
+    )
 
 pub load-spec : {M : Type 1} → statement M
 load-spec =
     tie.close
-    (tie.spec
-    refused-requires
-    same-length
-    same-length-2
-    returns
-    clear-requires
-    fresh-requires
-    read-lines-requires
-    is-fine-requires
-    number-requires
-    refused-requires-2
-    same-length-3
-    same-length-4
-    returns-2
-    too-little-requires
-    refused-requires-3
-    same-length-5
-    same-length-6
-    returns-3
-    same-length-7
-    same-length-8
-    returns-4)
+    (tie.spec load-text-requires element-copy-out-outcome-of outcome-of-requires same-length returns)

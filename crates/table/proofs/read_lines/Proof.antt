@@ -4,11 +4,11 @@ use mathlib.Core.List.{List, []}
 use Prim.Native.Nat.{_+_, _-_}
 use lib.ListN.{length}
 use borrow.Author.Tests.{eq-eqb, not-true, not-false}
-use Rattle.record.specs.Record.{usable}
+use Rattle.lookup.specs.Record.{usable}
 use Rattle.state.specs.Bytes.{shelfIn}
 use Rattle.line.specs.declared.Line.{Line}
-use Rattle.verdict.specs.declared.Verdict.the-variants.{Fine}
-use Rattle.verdict.specs.Verdicts.{isFine}
+use Rattle.judge.specs.declared.Verdict.the-variants.{Fine}
+use Rattle.judge.specs.Verdicts.{isFine}
 use Rattle.told.specs.Told.{total, memoryOf}
 use Rattle.told.specs.Enact.{Places}
 use Rattle.told.proofs.Memory.{memory-none}

@@ -1,7 +1,7 @@
 -- `table::step` meets its contract. Assumes nothing.
 use mathlib.Core.Path.{_≡_, sym, ap, subst, _∙_}
 use Rattle.state.specs.Bytes.{shelfIn}
-use Rattle.verdict.specs.declared.Verdict.the-variants.{Fine}
+use Rattle.judge.specs.declared.Verdict.the-variants.{Fine}
 use Rattle.told.specs.Enact.{Places}
 use Rattle.table.specs.Load.{progressBy, memoryAfter, verdictIn}
 use Rattle.table.specs.InPlace.{stateAfter}

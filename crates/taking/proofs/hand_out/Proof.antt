@@ -2,7 +2,7 @@
 use Rattle.taking.specs.Takes.{lineCell}
 use mathlib.Core.Path.{ap, _∙_}
 use Rattle.octets.specs.Octets.{part}
-use Rattle.queueing.specs.Taking.{outgoing}
+use Rattle.outlet.specs.Taking.{outgoing}
 use borrow.Author.Needs.{needs}
 use Rattle.taking.proofs.hand_out.Statement.{statement}
 use Rattle.taking.proofs.hand_out.Tie as tie

@@ -5,14 +5,14 @@ use mathlib.Core.Path.{_≡_, refl, sym, ap, subst, _∙_}
 use lib.Dec.{eqb}
 use lib.ListN.{length}
 use borrow.Author.Tests.{eqb-true}
-use Rattle.queueing.specs.Taking.{leaving}
+use Rattle.outlet.specs.Taking.{leaving}
 use Rattle.state.specs.Bytes.{shelfIn}
 use Rattle.answer.specs.declared.Outcome.{Outcome}
 use Rattle.answer.specs.Done.{outcomeOf}
 use Rattle.answer.specs.Answers.{refused, refusedWith, spread, outcomeBy}
-use Rattle.admit.specs.Admission.{unitAt}
-use Rattle.admit.proofs.Laws.{decided-at, decided-refused}
-use Rattle.admit.proofs.InPlace.{in-place, came-in, kept-out}
+use Rattle.soundness.specs.Admission.{unitAt}
+use Rattle.soundness.proofs.Laws.{decided-at, decided-refused}
+use Rattle.soundness.proofs.InPlace.{in-place, came-in, kept-out}
 use Rattle.taking.specs.Takes.{doneAt, bufferAt}
 use Rattle.taking.proofs.InPlace.{out-fits}
 use borrow.Author.Needs.{needs}

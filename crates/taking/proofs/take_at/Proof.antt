@@ -8,7 +8,7 @@ use Rattle.store.specs.Places.{slotAt, outletSlot, cellAt}
 use Rattle.store.specs.Rings.{popped}
 use Rattle.state.specs.Bytes.{linkOf, withRing}
 use Rattle.answer.specs.Answers.{spread, outcomeBy}
-use Rattle.admit.proofs.Laws.{cell-length}
+use Rattle.soundness.proofs.Laws.{cell-length}
 use Rattle.taking.specs.Takes.{outward}
 use Rattle.taking.proofs.InPlace.{empty-out, empty-state, empty-buffer, few, inside, taken-out, taken-state, taken-buffer}
 use borrow.Author.Needs.{needs}

@@ -1,6 +1,6 @@
 -- `written::put_counters` meets its contract. Assumes nothing.
 use Rattle.octets.specs.Octets.{cat}
-use Rattle.hex.proofs.Splices.{then}
+use Rattle.text.proofs.Splices.{then}
 use native.Mathlib.Omega.{arith}
 use borrow.Author.Needs.{needs}
 use Rattle.written.proofs.put_counters.Statement.{statement}

@@ -1,6 +1,6 @@
 -- `written::put_outcome` meets its contract. Assumes nothing.
 use native.Mathlib.Omega.{arith}
-use Rattle.hex.proofs.Splices.{nothing}
+use Rattle.text.proofs.Splices.{nothing}
 use Rattle.written.specs.Lines.{outcomeText}
 use borrow.Author.Needs.{needs}
 use Rattle.written.proofs.put_outcome.Statement.{statement}

@@ -1,0 +1,31 @@
+-- `bus::write` meets its contract. Assumes nothing.
+use Rattle.remainder.proofs.Laws.{residue-lt}
+use Rattle.bus.specs.Routing.{divisor, check, routing}
+use native.Mathlib.Omega.{arith}
+use borrow.Author.Needs.{needs}
+use Rattle.bus.proofs.write.Statement.{statement}
+use Rattle.bus.proofs.write.Tie as tie
+
+upper-requires : tie.Need-upper-requires
+upper-requires c κs = search needs
+
+mul-result : tie.Need-mul-result
+mul-result c = search needs
+
+check-requires : tie.Need-check-requires
+check-requires c κs = search needs
+
+cast-result : tie.Need-cast-result
+cast-result c = search needs
+
+add-result : tie.Need-add-result
+unfolding check
+add-result c = omega (arith, c .check .ensures, residue-lt divisor 12 (c .before .upper .result))
+
+returns : tie.Need-returns
+unfolding routing
+returns c = rw (c .check .ensures, c .before .upper .ensures .0)
+
+pub write-spec : {M : Type 1} → statement M
+write-spec =
+    tie.close (tie.spec upper-requires mul-result check-requires cast-result add-result returns)

@@ -1,0 +1,52 @@
+-- `command::show_unit` meets its contract. Assumes nothing.
+use mathlib.Core.Path.{sym, ap, _∙_}
+use Rattle.text.specs.Text.{same}
+use Rattle.command.specs.LentNames.{wUnit}
+use Rattle.command.specs.Lent.{showUnit}
+use borrow.Author.Needs.{needs}
+use Rattle.command.proofs.show_unit.Statement.{statement}
+use Rattle.command.proofs.show_unit.Tie as tie
+
+field-requires : tie.Need-field-requires
+field-requires c κs = search needs
+
+slice-aggregate-is : tie.Need-slice-aggregate-is
+slice-aggregate-is c = search needs
+
+is-requires : tie.Need-is-requires
+is-requires c κs = search needs
+
+unit-at-requires : tie.Need-unit-at-requires
+unit-at-requires c κs = search needs
+
+enum-known-unit : tie.Need-enum-known-unit
+enum-known-unit c = search needs
+
+enum-told : tie.Need-enum-told
+enum-told c = search needs
+
+returns : tie.Need-returns
+unfolding showUnit
+returns c = simp (ap (λ x. same x wUnit) (sym (c .before .before .before .before .before .before .before .field .ensures)) ∙ sym (c .before .before .before .before .before .is .ensures) ∙ c .before .before .before .before .if1 .taken, sym (c .before .before .before .unit-at .ensures) ∙ c .before .unit .given .1)
+
+returns-2 : tie.Need-returns-2
+unfolding showUnit
+returns-2 c = simp (ap (λ x. same x wUnit) (sym (c .before .before .before .before .before .before .field .ensures)) ∙ sym (c .before .before .before .before .is .ensures) ∙ c .before .before .before .if1 .taken, sym (c .before .before .unit-at .ensures) ∙ c .enum-told .given .1)
+
+returns-3 : tie.Need-returns-3
+unfolding showUnit
+returns-3 c = simp (ap (λ x. same x wUnit) (sym (c .before .before .before .field .ensures)) ∙ sym (c .before .is .ensures) ∙ c .if1 .left)
+
+pub show-unit-spec : {M : Type 1} → statement M
+show-unit-spec =
+    tie.close
+    (tie.spec
+    field-requires
+    slice-aggregate-is
+    is-requires
+    unit-at-requires
+    enum-known-unit
+    enum-told
+    returns
+    returns-2
+    returns-3)

@@ -1,0 +1,55 @@
+-- `lookup::bytes` meets its contract. Assumes nothing.
+use mathlib.Core.Path.{_∙_}
+use Rattle.lookup.specs.Record.{bytesOf}
+use borrow.Author.Needs.{needs}
+use Rattle.lookup.proofs.bytes.Statement.{statement}
+use Rattle.lookup.proofs.bytes.Tie as tie
+
+enum-told : tie.Need-enum-told
+enum-told c = search needs
+
+enum-told-2 : tie.Need-enum-told-2
+enum-told-2 c = search needs
+
+enum-known-r : tie.Need-enum-known-r
+enum-known-r c = search needs
+
+route-requires : tie.Need-route-requires
+route-requires c κs = search needs
+
+enum-known-r-2 : tie.Need-enum-known-r-2
+enum-known-r-2 c = search needs
+
+page-requires : tie.Need-page-requires
+page-requires c κs = search needs
+
+returns : tie.Need-returns
+unfolding bytesOf
+returns c = rw (c .enum-told .given .1)
+
+returns-2 : tie.Need-returns-2
+unfolding bytesOf
+returns-2 c = rw (c .enum-told2 .given .1)
+
+returns-3 : tie.Need-returns-3
+unfolding bytesOf
+returns-3 c = c .route .ensures ∙ rw (c .before .before .r .given .1)
+
+returns-4 : tie.Need-returns-4
+unfolding bytesOf
+returns-4 c = c .page .ensures ∙ rw (c .before .before .r2 .given .1)
+
+pub bytes-spec : {M : Type 1} → statement M
+bytes-spec =
+    tie.close
+    (tie.spec
+    enum-told
+    enum-told-2
+    enum-known-r
+    route-requires
+    enum-known-r-2
+    page-requires
+    returns
+    returns-2
+    returns-3
+    returns-4)

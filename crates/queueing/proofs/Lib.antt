@@ -1,4 +1,0 @@
-pub mod Fates
-pub mod Leaves
-pub mod Headers
-pub mod Sheet

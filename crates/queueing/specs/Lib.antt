@@ -1,3 +1,0 @@
-pub mod Hearing
-pub mod Taking
-pub mod Figures

@@ -1,2 +1,0 @@
-pub mod Fnv
-pub mod Published

@@ -1,0 +1,22 @@
+-- `table::answer_of` meets its contract. Assumes nothing.
+use Rattle.table.specs.Loads.{answerOf}
+use borrow.Author.Needs.{needs}
+use Rattle.table.proofs.answer_of.Statement.{statement}
+use Rattle.table.proofs.answer_of.Tie as tie
+
+enum-known-outcome : tie.Need-enum-known-outcome
+enum-known-outcome c = search needs
+
+enum-known-outcome-2 : tie.Need-enum-known-outcome-2
+enum-known-outcome-2 c = search needs
+
+returns : tie.Need-returns
+unfolding answerOf
+returns c = rw (c .before .outcome .given .1)
+
+returns-2 : tie.Need-returns-2
+unfolding answerOf
+returns-2 c = rw (c .before .outcome2 .given .1)
+
+pub answer-of-spec : {M : Type 1} → statement M
+answer-of-spec = tie.close (tie.spec enum-known-outcome enum-known-outcome-2 returns returns-2)

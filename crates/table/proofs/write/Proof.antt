@@ -1,0 +1,148 @@
+-- `table::write` meets its contract. Assumes nothing.
+use mathlib.Core.Path.{_∙_}
+use Rattle.lookup.specs.declared.Record.the-variants.{Drop, Route, Page}
+use Rattle.told.specs.Enact.{putBy, putVc, memoryBy}
+use borrow.Author.Needs.{needs}
+use Rattle.table.proofs.write.Statement.{statement}
+use Rattle.table.proofs.write.Tie as tie
+
+enum-told : tie.Need-enum-told
+enum-told c = search needs
+
+enum-told-2 : tie.Need-enum-told-2
+enum-told-2 c = search needs
+
+enum-known-line : tie.Need-enum-known-line
+enum-known-line c = search needs
+
+write-requires : tie.Need-write-requires
+write-requires c κs = search needs
+
+find-owner-requires : tie.Need-find-owner-requires
+find-owner-requires c κs = search needs
+
+put-path-requires : tie.Need-put-path-requires
+put-path-requires c κs = search needs
+
+enum-known-line-2 : tie.Need-enum-known-line-2
+enum-known-line-2 c = search needs
+
+find-owner-requires-2 : tie.Need-find-owner-requires-2
+find-owner-requires-2 c κs = search needs
+
+put-path-requires-2 : tie.Need-put-path-requires-2
+put-path-requires-2 c κs = search needs
+
+enum-known-line-3 : tie.Need-enum-known-line-3
+enum-known-line-3 c = search needs
+
+find-owner-requires-3 : tie.Need-find-owner-requires-3
+find-owner-requires-3 c κs = search needs
+
+put-path-requires-3 : tie.Need-put-path-requires-3
+put-path-requires-3 c κs = search needs
+
+enum-known-line-4 : tie.Need-enum-known-line-4
+enum-known-line-4 c = search needs
+
+write-requires-2 : tie.Need-write-requires-2
+write-requires-2 c κs = search needs
+
+find-owner-requires-4 : tie.Need-find-owner-requires-4
+find-owner-requires-4 c κs = search needs
+
+put-circuit-requires : tie.Need-put-circuit-requires
+put-circuit-requires c κs = search needs
+
+enum-told-3 : tie.Need-enum-told-3
+enum-told-3 c = search needs
+
+returns : tie.Need-returns
+unfolding memoryBy
+returns c = rw (c .enum-told .given .1)
+
+returns-2 : tie.Need-returns-2
+unfolding memoryBy
+returns-2 c = rw (c .enum-told2 .given .1)
+
+same-length : tie.Need-same-length
+same-length c = search needs
+
+returns-3 : tie.Need-returns-3
+unfolding memoryBy
+returns-3 c =
+    let a = c .before .before .before .before .before .before .before .before .before .before .before .args in
+    let l = c .before .before .before .before .before .before .before .line .given in
+    c .before .before .put-path .ensures
+    ∙ (λ i. putBy (a .card) (a .memory .now) (c .before .before .before .find-owner .ensures i) (l .0 .1 .0) (Route (c .before .before .before .before .before .write .ensures i) (l .0 .1 .1 .1 .1 .0) 0))
+    ∙ rw (l .1)
+
+same-length-2 : tie.Need-same-length-2
+same-length-2 c = search needs
+
+returns-4 : tie.Need-returns-4
+unfolding memoryBy
+returns-4 c =
+    let a = c .before .before .before .before .before .before .before .before .before .before .args in
+    let l = c .before .before .before .before .before .before .line2 .given in
+    c .before .before .put-path2 .ensures ∙ (λ i. putBy (a .card) (a .memory .now) (c .before .before .before .find-owner2 .ensures i) (l .0 .1 .0) Drop) ∙ rw (l .1)
+
+same-length-3 : tie.Need-same-length-3
+same-length-3 c = search needs
+
+returns-5 : tie.Need-returns-5
+unfolding memoryBy
+returns-5 c =
+    let a = c .before .before .before .before .before .before .before .before .before .before .args in
+    let l = c .before .before .before .before .before .before .line3 .given in
+    c .before .before .put-path3 .ensures
+    ∙ (λ i. putBy (a .card) (a .memory .now) (c .before .before .before .find-owner3 .ensures i) (l .0 .1 .0) (Page (l .0 .1 .1 .0) (a .used))) ∙ rw (l .1)
+
+same-length-4 : tie.Need-same-length-4
+same-length-4 c = search needs
+
+returns-6 : tie.Need-returns-6
+unfolding memoryBy
+returns-6 c =
+    let a = c .before .before .before .before .before .before .before .before .before .before .before .args in
+    let l = c .before .before .before .before .before .before .before .line4 .given in
+    c .before .before .put-circuit .ensures
+    ∙ (λ i. putVc (a .card) (a .memory .now) (c .before .before .before .find-owner4 .ensures i) (l .0 .1 .0) (l .0 .1 .1 .0) (Route (c .before .before .before .before .before .write2 .ensures i) (l .0 .1 .1 .1 .1 .1 .0) (l .0 .1 .1 .1 .1 .1 .1 .0)))
+    ∙ rw (l .1)
+
+returns-7 : tie.Need-returns-7
+unfolding memoryBy
+returns-7 c = rw (c .enum-told3 .given .1)
+
+pub write-spec : {M : Type 1} → statement M
+write-spec =
+    tie.close
+    (tie.spec
+    enum-told
+    enum-told-2
+    enum-known-line
+    write-requires
+    find-owner-requires
+    put-path-requires
+    enum-known-line-2
+    find-owner-requires-2
+    put-path-requires-2
+    enum-known-line-3
+    find-owner-requires-3
+    put-path-requires-3
+    enum-known-line-4
+    write-requires-2
+    find-owner-requires-4
+    put-circuit-requires
+    enum-told-3
+    returns
+    returns-2
+    same-length
+    returns-3
+    same-length-2
+    returns-4
+    same-length-3
+    returns-5
+    same-length-4
+    returns-6
+    returns-7)
