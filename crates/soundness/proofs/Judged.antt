@@ -180,6 +180,15 @@ lanes-same f g count i (suc n) e =
     let u = e i (omega arith) (omega arith) in
     (λ t. (leb count i || u t) && r t)
 
+-- places at or past the count are not asked
+pub lanes-past : (f : ℕ → Bool) (count i n : ℕ) → ((j : ℕ) → i ≤ j → j < i + n → count ≤ j) → lanes f count i n ≡ true
+unfolding lanes
+lanes-past f count i zero h = refl
+lanes-past f count i (suc n) h =
+    let c = le-iff count i .1 (h i (omega arith) (omega arith)) in
+    let r = lanes-past f count (suc i) n (λ j a l. h j (omega arith) (omega arith)) in
+    (λ t. (c t || f i) && r t)
+
 -- all places, as the code goes through them: to begin with, one place more, and the end
 module _ (links last : ℕ) (b : List ℕ) (count : ℕ) where
   abbrev pub places : ℕ → ℕ → Bool
@@ -196,9 +205,13 @@ module _ (links last : ℕ) (b : List ℕ) (count : ℕ) where
       ∙ sym (and-assoc (eqb worst 0) (eqb least 0) (places (i + 1) (32 - (i + 1))))
       ∙ (λ t. sym n t && places (i + 1) (32 - (i + 1)))
 
-  pub places-end : (card : Card) (bus i worst : ℕ) → 0 < bus → ((j : ℕ) → getD b j 0 < 256) → links ≡ highestLink card → last ≡ bus - 1 → i ≡ 32 →
+  pub places-left : (i end : ℕ) → end ≤ i → (count ≤ end) ⊎ (end ≡ 32) → places i (32 - i) ≡ true
+  places-left i end h c =
+      lanes-past (λ j. laneAt links last (col b j)) count i (32 - i) (λ j a l. ⊎-elim (λ m. omega arith) (λ m. absurd (omega arith)) c)
+
+  pub places-end : (card : Card) (bus i worst : ℕ) → 0 < bus → ((j : ℕ) → getD b j 0 < 256) → links ≡ highestLink card → last ≡ bus - 1 → places i (32 - i) ≡ true →
       (eqb worst 0 && places i (32 - i)) ≡ places 0 32 → eqb worst 0 ≡ lanes (laneGood card bus b) count 0 32
   unfolding lanes
   places-end card bus i worst h bytes e l end t =
-      sym (ap (λ n. eqb worst 0 && places n (32 - n)) end ∙ and-true (eqb worst 0)) ∙ t
+      sym (ap (λ p. eqb worst 0 && p) end ∙ and-true (eqb worst 0)) ∙ t
       ∙ lanes-same (λ j. laneAt links last (col b j)) (laneGood card bus b) count 0 32 (λ j a k. (λ t. laneAt (e t) (l t) (col b j)) ∙ lane-by card bus b j h (bytes (3 * 32 + j)))

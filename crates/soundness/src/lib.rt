@@ -6,7 +6,8 @@ use shelf::Found;
 use shelf::Unit;
 ghost use mathlib.Core.Path.{_≡_};
 ghost use mathlib.Core.Bool.{_&&_, cond};
-ghost use Prim.Native.Nat.{_-_, _<_};
+ghost use mathlib.Core.Logic.{_⊎_};
+ghost use Prim.Native.Nat.{_-_, _<_, _≤_};
 ghost use lib.Dec.{eqb, leb};
 ghost use lib.ListN.{length};
 ghost use Rattle.outlet.specs.Outlets.{between, ringFits};
@@ -147,17 +148,25 @@ fn lane(s: &[u8], i: usize, links: u8, last: u8) -> u8
     )
 }
 
-// Whether each declared unit fits by itself. All 32 places are judged, and those past the count are not asked.
+// Up to where places are judged, 16 of them at a time: no unit is declared behind.
+fn reach(count: u8) -> usize
+    ensures { λ r. ⌜ (r ≤ 32) × ((count ≤ r) ⊎ (r ≡ 32)) ⌝ }
+{
+    if count <= 16 { 16 } else { 32 }
+}
+
+// Whether each declared unit fits by itself. Of the places that are judged those past the count are not asked.
 fn units_good(s: &[u8], card: Card, bus: u8, count: u8) -> bool
     requires { ⌜ (length (now s) ≡ 2048) × (0 < bus) ⌝ }
     ensures { λ r. ⌜ r ≡ lanes (laneGood card bus (now (s .entry))) count 0 32 ⌝ }
 {
     let links = highest_link(card);
     let last = over(bus, 1);
+    let end = reach(count);
     let mut worst: u8 = 0;
     let mut k: u8 = 0;
     let mut i: usize = 0;
-    while i < 32 {
+    while i < end {
         worst = worse(worst, least(over(count, k), lane(s, i, links, last)));
         k += 1;
         i += 1;

@@ -2,19 +2,20 @@
 use Prim.Native.Nat.{_≤_, _-_}
 use mathlib.Core.Path.{_≡_, refl, sym, _∙_}
 use mathlib.Core.Bool.{_&&_}
+use mathlib.Core.Logic.{_⊎_}
 use native.Mathlib.Omega.{arith}
 use lib.Dec.{eqb}
 use borrow.Author.Needs.{needs}
-use Rattle.soundness.proofs.Judged.{places, places-step, places-end}
+use Rattle.soundness.proofs.Judged.{places, places-step, places-left, places-end}
 use Rattle.soundness.proofs.units_good.Statement.{statement}
 use Rattle.soundness.proofs.units_good.Tie as tie
 
 abbrev Inv-loop : tie.InvT-loop
-Inv-loop s bus count links last worst₀ k₀ i₀ worst k i =
-    (i ≤ 32) × (k ≡ i) × (places links last s count 0 32 ≡ (eqb worst 0 && places links last s count i (32 - i)))
+Inv-loop s bus count links last end worst₀ k₀ i₀ worst k i =
+    ((end ≤ 32) × ((count ≤ end) ⊎ (end ≡ 32))) × (k ≡ i) × (places links last s count 0 32 ≡ (eqb worst 0 && places links last s count i (32 - i)))
 
 abbrev μ-loop : tie.MeasureT-loop
-μ-loop s bus count links last worst₀ k₀ i₀ worst k i = 32 - i
+μ-loop s bus count links last end worst₀ k₀ i₀ worst k i = end - i
 
 highest-link-requires : tie.Need-highest-link-requires Inv-loop μ-loop
 highest-link-requires c κs = search needs
@@ -22,8 +23,11 @@ highest-link-requires c κs = search needs
 over-requires : tie.Need-over-requires Inv-loop μ-loop
 over-requires c κs = search needs
 
+reach-requires : tie.Need-reach-requires Inv-loop μ-loop
+reach-requires c κs = search needs
+
 loop-holds : tie.Need-loop-holds Inv-loop μ-loop
-loop-holds c = (omega arith, refl, refl)
+loop-holds c = (c .reach .ensures, refl, refl)
 
 over-requires-2 : tie.Need-over-requires-2 Inv-loop μ-loop
 over-requires-2 c κs = search needs
@@ -50,23 +54,24 @@ loop-again : tie.Need-loop-again Inv-loop μ-loop
 loop-again c =
     let lane = c .before .before in
     let start = lane .before .before .before in
-    let over = start .before in
+    let over = start .before .before in
     let a = over .before .before .before .args in
     let l = start .loop in (
-      omega arith,
+      l .inv .0,
       omega arith,
       l .inv .2
           ∙ places-step (over .before .highest-link .result) (over .over .result) (a .s .now) (a .count) (l .i) (l .k) (l .worst) (lane .before .over2 .result) (lane .lane .result) (c .before .least .result) (c .worse .result)
-          (omega arith) (l .inv .1) (lane .before .over2 .ensures .1) (lane .lane .ensures) (c .before .least .ensures) (c .worse .ensures),
+          (let e = l .inv .0 .0 in omega (arith, e)) (l .inv .1) (lane .before .over2 .ensures .1) (lane .lane .ensures) (c .before .least .ensures) (c .worse .ensures),
     )
 
 returns : tie.Need-returns Inv-loop μ-loop
 returns c =
-    let over = c .before .before in
+    let over = c .before .before .before in
     let l = c .before .loop in
     let known = over .before .before in
     let a = known .before .args in
-    places-end (over .before .highest-link .result) (over .over .result) (a .s .now) (a .count) (a .card) (a .bus) (l .i) (l .worst) (known .before .pre .1) (λ j. let k = known .shared-slice-known .given j in omega (arith, k)) (over .before .highest-link .ensures) (over .over .ensures .0) (omega arith) (sym (l .inv .2))
+    places-end (over .before .highest-link .result) (over .over .result) (a .s .now) (a .count) (a .card) (a .bus) (l .i) (l .worst) (known .before .pre .1) (λ j. let k = known .shared-slice-known .given j in omega (arith, k)) (over .before .highest-link .ensures) (over .over .ensures .0)
+    (places-left (over .before .highest-link .result) (over .over .result) (a .s .now) (a .count) (l .i) (c .before .before .reach .result) (omega arith) (l .inv .0 .1)) (sym (l .inv .2))
 
 pub units-good-spec : {M : Type 1} → statement M
 units-good-spec =
@@ -76,6 +81,7 @@ units-good-spec =
     μ-loop
     highest-link-requires
     over-requires
+    reach-requires
     loop-holds
     over-requires-2
     lane-requires
