@@ -6,7 +6,7 @@ use native.Mathlib.Omega.{arith}
 use mathlib.Core.Path.{_≡_, refl, sym, _∙_, ap}
 use mathlib.Core.Logic.{_⊎_, ⊎-elim}
 use mathlib.Core.Bool.{Bool, true, false, cond}
-use mathlib.Core.List.{List}
+use mathlib.Core.List.{List, [], _∷_}
 use lib.Dec.{leb}
 use lib.ListN.{length, getD, set, length-set, replicate, length-replicate}
 use lib.Seq.{getD-set-same, getD-set-other}
@@ -15,7 +15,7 @@ use Rattle.answer.specs.declared.Rises.{Rises}
 use Rattle.answer.specs.declared.Single.{Single}
 use Rattle.answer.specs.Answers.{row, spread, outcomeBy}
 use Rattle.answer.specs.declared.Counters.{Counters}
-use Rattle.answer.specs.Counting.{value, zeros, raised, rowAfter, riseAt, riseOf, rowBy, settledTo, settled, risesTo}
+use Rattle.answer.specs.Counting.{value, zeros, raised, rowAfter, riseAt, rowBy, settledTo, settled, risesTo, raisedFrom, placeOf, manyOf}
 
 -- each counter rises by its own bit, and no other
 pub raised-value : (c : Counters) (n k : ℕ) → k < 13 → value (raised c n) k ≡ (value c k + n / 2 ^ k % 2) % 2 ^ 32
@@ -220,13 +220,39 @@ module _ (rows : List Counters) (rises : Rises) where
   settled-end i h w =
       ⊎-elim (λ (e : i ≤ rises .to). ap upTo (le-antisymm e h)) (λ (e : i ≤ rises .from). settled-none i e ∙ sym (settled-none (rises .to) (omega arith))) w
 
--- a row of a frame: by its own set, which is in hand; as it was by the empty one
+-- a row of a frame: by its own set, which is in hand
 pub rises-own : (c : Counters) (n : ℕ) (each : List ℕ) (i set : ℕ) → getD each i 0 ≡ set → raised c set ≡ rowAfter c (risesTo n each) i
 unfolding rowAfter
 rises-own c n each i set e = ap (raised c) (sym e)
 
-pub rises-none : (c : Counters) (n : ℕ) (each : List ℕ) (i : ℕ) → Fitting c → getD each i 0 ≡ 0 → c ≡ rowAfter c (risesTo n each) i
-rises-none c n each i f e = sym (raised-none c f) ∙ rises-own c n each i 0 e
+-- rows raised one after the other, each by its own set
+module _ (rows : List Counters) (at : ℕ) (sets : List ℕ) where
+  pub raised-start : raisedFrom rows at sets 0 ≡ rows
+  unfolding raisedFrom
+  raised-start = refl
+
+  pub raised-next : (k : ℕ) → raisedFrom rows at sets (k + 1) ≡ set (raisedFrom rows at sets k) (at + k) (raised (getD rows (at + k) zeros) (getD sets k 0))
+  unfolding raisedFrom
+  raised-next k = rw (add-one k)
+
+  pub length-raised : (k : ℕ) → length (raisedFrom rows at sets k) ≡ length rows
+  unfolding raisedFrom
+  length-raised none = refl
+  length-raised (suc k) = length-set (raisedFrom rows at sets k) (at + k) _ ∙ length-raised k
+
+  -- a row past those that are done is as it was
+  pub raised-ahead : (k i : ℕ) → at + k ≤ i → getD (raisedFrom rows at sets k) i zeros ≡ getD rows i zeros
+  unfolding raisedFrom
+  raised-ahead none i h = refl
+  raised-ahead (suc k) i h = getD-set-other (raisedFrom rows at sets k) (at + k) i _ zeros (λ e. omega arith) ∙ raised-ahead k i (omega arith)
+
+-- from the first row on: as of a frame
+pub raised-all : (rows : List Counters) (sets : List ℕ) (n k : ℕ) → raisedFrom rows 0 sets k ≡ settledTo rows (risesTo n sets) k
+unfolding raisedFrom settledTo rowAfter
+raised-all rows sets n none = refl
+raised-all rows sets n (suc k) =
+    let same : 0 + k ≡ k = omega arith in
+    rw (le-leb 0 k (omega arith), same) (ap (λ (l : List Counters). set l k (raised (getD rows k zeros) (getD sets k 0))) (raised-all rows sets n k))
 
 -- an event at one unit that is counted: one row changes
 one-row : (rows : List Counters) (place n : ℕ) → place < 32 → settled rows (row place n) ≡ set rows place (raised (getD rows place zeros) n)
@@ -249,33 +275,40 @@ module _ (rows : List Counters) (done : Single) where
   unfolding spread
   counted-last e = ap (λ (b : Bool). spread b (done .place) (done .counters) .to) e
 
-  pub counted-rise : done .counted ≡ true → riseOf done ≡ done .counters % 8192
-  unfolding riseOf
-  counted-rise e = rw e
-
-  -- a rise is of an event that is counted
-  pub risen-counted : (riseOf done ≡ 0 → ⊥) → done .counted ≡ true
-  unfolding riseOf
-  risen-counted some = by-counted (done .counted) refl
-    where
-      by-counted : (b : Bool) → done .counted ≡ b → b ≡ true
-      by-counted true e = refl
-      by-counted false e = absurd (some (rw e))
-
   pub settled-one : done .counted ≡ true → done .place < 32 → set rows (done .place) (raised (getD rows (done .place) zeros) (done .counters)) ≡ settled rows rising
   unfolding spread
   settled-one e h = sym (ap (λ (b : Bool). settled rows (spread b (done .place) (done .counters))) e ∙ one-row rows (done .place) (done .counters) h)
-
-  pub settled-counted : done .counted ≡ true → done .place < 32 → set rows (done .place) (raised (getD rows (done .place) zeros) (riseOf done)) ≡ settled rows rising
-  settled-counted e h =
-      ap (λ (c : Counters). set rows (done .place) c) (ap (raised (getD rows (done .place) zeros)) (counted-rise e) ∙ low-set (getD rows (done .place) zeros) (done .counters)) ∙ settled-one e h
 
   -- one that is not counted changes no row
   pub settled-uncounted : done .counted ≡ false → rows ≡ settled rows rising
   unfolding spread settledTo
   settled-uncounted e = sym (ap (λ (b : Bool). settled rows (spread b (done .place) (done .counters))) e)
 
-  -- nor does one by which nothing rises
-  pub settled-unrisen : done .counted ≡ true → done .place < 32 → Fitting (getD rows (done .place) zeros) → riseOf done ≡ 0 → set rows (done .place) (getD rows (done .place) zeros) ≡ settled rows rising
-  settled-unrisen e h f z =
-      ap (λ (c : Counters). set rows (done .place) c) (sym (ap (raised (getD rows (done .place) zeros)) z ∙ raised-none (getD rows (done .place) zeros) f)) ∙ settled-counted e h
+  -- the rows that change end at the last
+  pub placed-last : placeOf done + manyOf done ≡ rising .to
+  unfolding placeOf manyOf spread
+  placed-last = by-counted (done .counted)
+    where
+      by-counted : (b : Bool) → cond b (done .place) 0 + cond b 1 0 ≡ spread b (done .place) (done .counters) .to
+      by-counted true = refl
+      by-counted false = refl
+
+  -- and are one or none
+  pub few-rows : manyOf done ≤ 1
+  unfolding manyOf
+  few-rows = by-counted (done .counted)
+    where
+      by-counted : (b : Bool) → cond b 1 0 ≤ 1
+      by-counted true = omega arith
+      by-counted false = omega arith
+
+  -- raised by its one set, they are as they are to be
+  pub raised-one : rising .to ≤ 32 → raisedFrom rows (placeOf done) (done .counters ∷ []) (manyOf done) ≡ settled rows rising
+  unfolding placeOf manyOf raisedFrom
+  raised-one few = by-counted (done .counted) refl
+    where
+      by-counted : (b : Bool) → done .counted ≡ b → raisedFrom rows (cond b (done .place) 0) (done .counters ∷ []) (cond b 1 0) ≡ settled rows rising
+      by-counted true e =
+          let here : done .place + 0 ≡ done .place = omega arith in
+          ap (λ (i : ℕ). set rows i (raised (getD rows i zeros) (done .counters))) here ∙ settled-one e (omega (arith, counted-last e))
+      by-counted false e = settled-uncounted e

@@ -66,10 +66,6 @@ rowAfter c rises i = cond (rises .anew) zeros (raised c (getD (rises .each) i 0)
 unfoldable pub riseAt : Rises → ℕ → ℕ
 riseAt rises i = cond (rises .anew) 8192 (getD (rises .each) i 0 % 8192)
 
--- of an event at one unit: the set that rises in the row of its place, 0 where it is not counted
-unfoldable pub riseOf : Single → ℕ
-riseOf done = cond (done .counted) (done .counters % 8192) 0
-
 unfoldable pub rowBy : Counters → ℕ → Counters
 rowBy c n = cond (eqb n 8192) zeros (raised c n)
 
@@ -85,3 +81,15 @@ settled rows rises = settledTo rows rises (rises .to)
 -- of a frame: from the first row up to one, each by its own
 abbrev pub risesTo : ℕ → List ℕ → Rises
 risesTo to each = record { from = 0; to = to; anew = false; each = each }
+
+-- the row at place at + k, for the first n of k, has its own set raised
+unfoldable pub raisedFrom : List Counters → ℕ → List ℕ → ℕ → List Counters
+raisedFrom rows at sets none = rows
+raisedFrom rows at sets (suc k) = set (raisedFrom rows at sets k) (at + k) (raised (getD rows (at + k) zeros) (getD sets k 0))
+
+-- of an event at one unit: the place of the row that changes, and how many do; none where it is not counted
+unfoldable pub placeOf : Single → ℕ
+placeOf done = cond (done .counted) (done .place) 0
+
+unfoldable pub manyOf : Single → ℕ
+manyOf done = cond (done .counted) 1 0

@@ -1,9 +1,9 @@
 // What an event answers, and which counters of which units rise by it; the counters, and the one function that writes the lent rows.
 ghost use mathlib.Core.Path.{_≡_};
-ghost use Prim.Native.Nat.{_<_, _≤_};
+ghost use Prim.Native.Nat.{_+_, _<_, _≤_};
 ghost use lib.ListN.{length};
 ghost use Rattle.answer.specs.Answers.{arrivalRises, hearingRises, uncountedWith, countedWith, outcomeBy, #arrived, #queued, #taken};
-ghost use Rattle.answer.specs.Counting.{zeros, tick as ticked, raised as raisedBy, riseAt, riseOf, rowBy, risesTo, settled};
+ghost use Rattle.answer.specs.Counting.{zeros, tick as ticked, raised as raisedBy, riseAt, rowBy, settled, raisedFrom, placeOf, manyOf};
 
 // The fates of an arriving cell.
 pub enum Arrival {
@@ -365,20 +365,50 @@ pub fn settle(rows: &mut [Counters], rises: Rises)
     }
 }
 
-// What an event at one unit raises in the row of its place, in one number: 0 where it is not counted.
-pub fn rise_of(done: Single) -> u16
-    ensures { λ r. ⌜ r ≡ riseOf done ⌝ }
+// The one function that bumps the lent rows: the counters of sets[k] rise in the row at place at + k, for the first n of the sets. Most often a copy
+// is queued; a row is read, and written, only where something rises in it.
+pub fn raise(rows: &mut [Counters], at: usize, sets: &[u16], n: usize)
+    requires { ⌜ (n ≤ length (now sets)) × (at + n ≤ length (now rows)) ⌝ }
+    ensures { λ _. ⌜ now (rows .exit) ≡ raisedFrom (now (rows .entry)) at (now (sets .entry)) n ⌝ }
+{
+    let mut k: usize = 0;
+    while k < n {
+        let rise = sets[k];
+        let i = at + k;
+        if rise == QUEUED {
+            let c = rows[i];
+            rows[i] = queued_up(c);
+        } else if rise != 0 {
+            let c = rows[i];
+            rows[i] = risen(c, rise);
+        }
+        k += 1;
+    }
+}
+
+// What an event at one unit raises: the set of counters; the place of the row; in how many rows, one or none.
+pub fn set_of(done: Single) -> u16
+    ensures { λ r. ⌜ r ≡ done .counters ⌝ }
+{
+    done.counters
+}
+
+pub fn place_of(done: Single) -> usize
+    ensures { λ r. ⌜ r ≡ placeOf done ⌝ }
 {
     if done.counted {
-        return done.counters % ANEW;
+        return done.place;
     }
     0
 }
 
-pub fn place_of(done: Single) -> usize
-    ensures { λ r. ⌜ r ≡ done .place ⌝ }
+pub fn many_of(done: Single) -> usize
+    ensures { λ r. ⌜ r ≡ manyOf done ⌝ }
 {
-    done.place
+    if done.counted {
+        return 1;
+    }
+    0
 }
 
 // What it answers.
@@ -388,34 +418,14 @@ pub fn answer_by(done: Single) -> Answer
     done.answer
 }
 
-// The counters of an event at one unit: a row is read, and written, only where something rises in it.
-pub fn raise(rows: &mut [Counters], done: Single)
+// The counters of an event at one unit: `raise` is given a row of one set. It writes no row itself.
+pub fn raise_one(rows: &mut [Counters], done: Single)
     requires { ⌜ (outcomeBy done .rises .to ≤ 32) × (outcomeBy done .rises .to ≤ length (now rows)) ⌝ }
     ensures { λ _. ⌜ now (rows .exit) ≡ settled (now (rows .entry)) (outcomeBy done .rises) ⌝ }
 {
-    let rise = rise_of(done);
-    if rise != 0 {
-        let i = place_of(done);
-        let c = rows[i];
-        rows[i] = risen(c, rise);
-    }
-}
-
-// The counters of a frame, of which each unit has its own. What rises at most units is raised in its row.
-pub fn raise_each(rows: &mut [Counters], each: &[u16], to: usize)
-    requires { ⌜ (to ≤ length (now each)) × (to ≤ length (now rows)) ⌝ }
-    ensures { λ _. ⌜ now (rows .exit) ≡ settled (now (rows .entry)) (risesTo to (now (each .entry))) ⌝ }
-{
-    let mut i: usize = 0;
-    while i < to {
-        let rise = each[i];
-        if rise == QUEUED {
-            let c = rows[i];
-            rows[i] = queued_up(c);
-        } else if rise != 0 {
-            let c = rows[i];
-            rows[i] = risen(c, rise);
-        }
-        i += 1;
-    }
+    let at = place_of(done);
+    let n = many_of(done);
+    let set = set_of(done);
+    let sets = [set; 1];
+    raise(rows, at, &sets, n);
 }

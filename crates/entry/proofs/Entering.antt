@@ -1,10 +1,9 @@
--- What the walks of the entry points share: parameters taken apart and put together, and the calls that end each: what rises, `answer::settle`, what is given back; of an event at one unit `answer::raise`, what is given back; of a frame `answer::raise_each`.
+-- What the walks of the entry points share: parameters taken apart and put together, and the calls that end each: what rises, `answer::settle`, what is given back; of an event at one unit `answer::raise_one`, what is given back.
 --     parted, packed   from what all own together to what each owns, the last first, and back.        untied, tied     likewise of tokens
 --     living, lived    tokens one by one, as a walk has them, to what a signature asks, and back: by induction, since the two compared as they stand cost twice as much with each token more
 --     told             what a covered function leaves.        freed, places     the end: locals are freed
 --     risen, replied       the two parts of what is done.        settles     the rows go to `settle` with what rises; the token and the last rows come back
---     raises, answers      the same two ends of an event at one unit: the rows go to `raise` with what is done, whole
---     raises-each      of a frame: the rows go to `raise_each` with what rises at each unit, shared; both tokens and the last rows come back
+--     raises, answers      the same two ends of an event at one unit: the rows go to `raise_one` with what is done, whole
 -- Assumes `Given`, and that the table of calls is monotone under a frame.
 use mathlib.Core.Path.{_≡_, refl, sym, ap, subst}
 use Prim.Native.Nat.{ℕ, zero, suc, _+_, _≤_, _<_, _^_}
@@ -36,7 +35,7 @@ use denote.Enum.Laws as EL
 use denote.Triple.Statement.{Contract, Triple}
 use denote.Triple.Walked.{says}
 use Rattle.answer.specs.declared.Counters.{Counters}
-use Rattle.answer.specs.Counting.{settled, risesTo}
+use Rattle.answer.specs.Counting.{settled}
 use Rattle.answer.specs.declared.Outcome.{Outcome}
 use Rattle.answer.specs.declared.Answer.{Answer}
 use Rattle.answer.specs.declared.Rises.{Rises}
@@ -62,10 +61,9 @@ use Rattle.answer.proofs.settle as settle
 use Rattle.answer.proofs.settle.Symbol.{name as #settle}
 use Rattle.answer.proofs.answer_by as answer
 use Rattle.answer.proofs.answer_by.Symbol.{name as #answer}
-use Rattle.answer.proofs.raise as raise
-use Rattle.answer.proofs.raise.Symbol.{name as #raise}
-use Rattle.answer.proofs.raise_each as raise-each
-use Rattle.answer.proofs.raise_each.Symbol.{name as #raise-each}
+use Rattle.answer.proofs.Raising.{Rows}
+use Rattle.answer.proofs.raise_one as raise
+use Rattle.answer.proofs.raise_one.Symbol.{name as #raise}
 
 -- ---- what the parameters own, one by one
 abbrev pub each : (Ts : List RattleType) → Denots Ts → Valss Ts → List Fml
@@ -156,14 +154,6 @@ module _ {M : Type 1} {𝓤 : URA M} {H : Heap 𝓤} {A : Atoms 𝓤} {K : Type 
   pub answer-owned : K → (x : Answer) (v : Val) → Is N.the-row x (v ∷ []) → Step K W (‵ (N.the-row .own x (v ∷ [])) ∷ Γ) G Γ G
   answer-owned t x v ok = owned t N.the-row (Is N.the-row) (EL.makes N.the-type N′.the-plain 𝓤 H A) x (v ∷ []) ok
 
--- what the rows ys own, lent for κ
-abbrev pub Rows : Lft → ℕ → ℕ → GName → List Counters → Fml
-Rows κ b o γ ys = MutSlice (named 0) κ T.the-row .own (record { ptr = (b, o); name = γ; now = ys }) (sliceVal (b, o) (length ys) ∷ [])
-
--- what the sets es own, shared for κ
-abbrev pub Sets : Lft → ℕ → ℕ → GName → List ℕ → Fml
-Sets κ b o γ es = ShrSlice (named 1) κ builtin.u16 .own (record { ptr = (b, o); name = γ; now = es }) (sliceVal (b, o) (length es) ∷ [])
-
 -- the contracts of the five
 module _ {M : Type 1} (𝓤 : URA M) (H : Heap 𝓤) (A : Atoms 𝓤) (mem : Memory → SProp 𝓤) (run : Routine → Fun 𝓤) where
   abbrev pub Risen : Contract 𝓤
@@ -181,9 +171,6 @@ module _ {M : Type 1} (𝓤 : URA M) (H : Heap 𝓤) (A : Atoms 𝓤) (mem : Mem
   abbrev pub Raise : Contract 𝓤
   Raise = Of 𝓤 H A raise.ended (raise.clauses 𝓤 H A mem run)
 
-  abbrev pub Raise-each : Contract 𝓤
-  Raise-each = Of 𝓤 H A raise-each.ended (raise-each.clauses 𝓤 H A mem run)
-
   -- what the triples bind outside: what is done with its machine value; the rows ys lent for κ, and what rises with its own
   abbrev pub to-risen : Outcome → Val → Risen .Ghost
   to-risen d dv = ((tt, tt, tt, (d, tt), (dv ∷ [], tt)), tt)
@@ -199,10 +186,6 @@ module _ {M : Type 1} (𝓤 : URA M) (H : Heap 𝓤) (A : Atoms 𝓤) (mem : Mem
 
   abbrev pub to-raise : Lft → Share → ℕ → ℕ → GName → List Counters → Single → Val → Raise .Ghost
   to-raise κ s b o γ ys d dv = (((κ, tt), (s, tt), tt, (record { ptr = (b, o); name = γ; now = ys }, (d, tt)), (sliceVal (b, o) (length ys) ∷ [], (dv ∷ [], tt))), tt)
-
-  abbrev pub to-raise-each : Lft → Lft → Share → Share → ℕ → ℕ → GName → List Counters → ℕ → ℕ → GName → List ℕ → ℕ → Raise-each .Ghost
-  to-raise-each κ κ₁ s s₁ b o γ ys b₁ o₁ γ₁ es n =
-      (((κ, (κ₁, tt)), (s, (s₁, tt)), tt, (record { ptr = (b, o); name = γ; now = ys }, (record { ptr = (b₁, o₁); name = γ₁; now = es }, (n, tt))), (sliceVal (b, o) (length ys) ∷ [], (sliceVal (b₁, o₁) (length es) ∷ [], (vint w64 n ∷ [], tt)))), tt)
 
   goes-risen : Given 𝓤 H A → (d : Outcome) (dv : Val) → Is D.the-row d (dv ∷ []) → ent 𝓤 (emp 𝓤) (Risen .pre (to-risen d dv))
   goes-risen W d dv d-ok = qed W [] ∵ nothing ! $ owned ! D.the-row (Is D.the-row) (LL.makes D.the-type D′.the-plain 𝓤 H A) d _ d-ok $ fjoin ! $ nothing ! $ join ! $ frame ! $ done !
@@ -224,13 +207,6 @@ module _ {M : Type 1} (𝓤 : URA M) (H : Heap 𝓤) (A : Atoms 𝓤) (mem : Mem
   goes-raise W κ s b o γ ys d dv d-ok fits =
       qed W (‵ (flft κ s) ∷ ‵ (Rows κ b o γ ys) ∷ []) ∵ says ! fits $ nothing ! $ move ! (1 ∷ 0 ∷ []) $ join ! $ frame ! $
       nothing ! $ owned ! O.the-row (Is O.the-row) (LL.makes O.the-type O′.the-plain 𝓤 H A) d _ d-ok $ fjoin ! $ move ! (1 ∷ 0 ∷ []) $ fjoin ! $ done !
-
-  goes-raise-each : Given 𝓤 H A → (κ κ₁ : Lft) (s s₁ : Share) (b o : ℕ) (γ : GName) (ys : List Counters) (b₁ o₁ : ℕ) (γ₁ : GName) (es : List ℕ) (n : ℕ) → n < 2 ^ 64 → (n ≤ length es) × (n ≤ length ys)
-      → ent 𝓤 (sep 𝓤 (sep 𝓤 (A .lft κ s) (sem 𝓤 H A (Rows κ b o γ ys))) (sep 𝓤 (A .lft κ₁ s₁) (sem 𝓤 H A (Sets κ₁ b₁ o₁ γ₁ es)))) (Raise-each .pre (to-raise-each κ κ₁ s s₁ b o γ ys b₁ o₁ γ₁ es n))
-  goes-raise-each W κ κ₁ s s₁ b o γ ys b₁ o₁ γ₁ es n n-fits fits =
-      qed W ((‵ (flft κ s) ⊛ ‵ (Rows κ b o γ ys)) ∷ (‵ (flft κ₁ s₁) ⊛ ‵ (Sets κ₁ b₁ o₁ γ₁ es)) ∷ []) ∵ says ! fits $ split ! $ move ! (2 ∷ []) $ split ! $
-      nothing ! $ move ! (1 ∷ 0 ∷ []) $ join ! $ move ! (2 ∷ 0 ∷ []) $ join ! $ frame ! $
-      nothing ! $ owned ! builtin.usize (Is builtin.usize) (uint-makes 𝓤 H A W w64) n _ (refl, n-fits) $ fjoin ! $ move ! (1 ∷ 0 ∷ []) $ fjoin ! $ move ! (1 ∷ 0 ∷ []) $ fjoin ! $ done !
 
 module _ {M : Type 1} {𝓤 : URA M} {H : Heap 𝓤} {A : Atoms 𝓤} {K : Type 0} {W : Given 𝓤 H A} {Γ : List (Item 𝓤)} {E : Env 𝓤 H} {C : Calls 𝓤 H} {xs : List Operand} {Λ : Loops 𝓤 H} {q : Post 𝓤 H} {p : Place} {rest : Body} where
   pub risen : K → FmC 𝓤 H (W .laws) C → (mem : Memory → SProp 𝓤) (run : Routine → Fun 𝓤) → Triple 𝓤 (C #rises) (Risen 𝓤 H A mem run) → (d : Outcome) (dv : Val) → Is D.the-row d (dv ∷ [])
@@ -277,15 +253,3 @@ module _ {M : Type 1} {𝓤 : URA M} {H : Heap 𝓤} {A : Atoms 𝓤} {K : Type 
       move t (1 ∷ []) $ fsplit t $ fsplit t $ move t (1 ∷ []) $ feqL t (λ m. move t (1 ∷ []) $ drop t $
       move t (1 ∷ []) $ use1 W (‵ (flft κ s) ⊛ ‵ ftrue) (id⊢ 𝓤 _) $ split t $ move t (1 ∷ []) $ drop t $
       subst (λ (h : Val). Seq K W (‵ (flft κ s) ∷ ‵ (finally T.the-row γ (ws .0)) ∷ Γ) (lands C Λ E p h rest q)) (sym (ap only u-ok)) (k (ws .0) e m)))))
-
-  pub raises-each : K → FmC 𝓤 H (W .laws) C → (mem : Memory → SProp 𝓤) (run : Routine → Fun 𝓤) → Triple 𝓤 (C #raise-each) (Raise-each 𝓤 H A mem run)
-      → (κ κ₁ : Lft) (s s₁ : Share) (b o : ℕ) (γ : GName) (ys : List Counters) (b₁ o₁ : ℕ) (γ₁ : GName) (es : List ℕ) (n : ℕ) → n < 2 ^ 64 → (n ≤ length es) × (n ≤ length ys)
-      → Opds K W (raw (Raise-each 𝓤 H A mem run .pre (to-raise-each 𝓤 H A mem run κ κ₁ s s₁ b o γ ys b₁ o₁ γ₁ es n)) ∷ Γ) E xs (sliceVal (b, o) (length ys) ∷ sliceVal (b₁, o₁) (length es) ∷ vint w64 n ∷ [])
-      → ((zs : List Counters) → zs ≡ settled ys (risesTo n es) → length zs ≡ length ys → Seq K W (‵ (flft κ₁ s₁) ∷ ‵ (flft κ s) ∷ ‵ (finally T.the-row γ zs) ∷ Γ) (lands C Λ E p vunit rest q))
-      → Seq K W (‵ (flft κ₁ s₁) ∷ ‵ (Sets κ₁ b₁ o₁ γ₁ es) ∷ ‵ (flft κ s) ∷ ‵ (Rows κ b o γ ys) ∷ Γ) (runs C Λ E (seq (call #raise-each xs p) rest) q)
-  raises-each t fm mem run known κ κ₁ s s₁ b o γ ys b₁ o₁ γ₁ es n n-fits fits os k =
-      join t $ move t (1 ∷ 2 ∷ 0 ∷ []) $ join t $ join t $ calls-of t fm raise-each.ended (raise-each.clauses 𝓤 H A mem run) known (to-raise-each 𝓤 H A mem run κ κ₁ s s₁ b o γ ys b₁ o₁ γ₁ es n) (goes-raise-each 𝓤 H A mem run W κ κ₁ s s₁ b o γ ys b₁ o₁ γ₁ es n n-fits fits) os (λ v u ws.
-      move t (3 ∷ []) $ heard t (ws .0 ≡ settled ys (risesTo n es)) (λ e. move t (1 ∷ []) $ facts t builtin.unit (Is builtin.unit) (shows 𝓤 H A builtin.unit) u (v ∷ []) (λ u-ok.
-      move t (1 ∷ []) $ fsplit t $ fsplit t $ move t (1 ∷ []) $ feqL t (λ m. move t (1 ∷ []) $ drop t $
-      move t (1 ∷ []) $ use1 W (‵ (flft κ s) ⊛ (‵ (flft κ₁ s₁) ⊛ ‵ ftrue)) (id⊢ 𝓤 _) $ split t $ move t (1 ∷ []) $ split t $ move t (1 ∷ []) $ drop t $
-      subst (λ (h : Val). Seq K W (‵ (flft κ₁ s₁) ∷ ‵ (flft κ s) ∷ ‵ (finally T.the-row γ (ws .0)) ∷ Γ) (lands C Λ E p h rest q)) (sym (ap only u-ok)) (k (ws .0) e m)))))

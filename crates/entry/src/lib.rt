@@ -41,7 +41,7 @@ pub fn arrive(
 {
     let n = rows.len();
     let done = arriving::arrive(card, state, memory, store, n, unit, cell);
-    answer::raise(rows, done);
+    answer::raise_one(rows, done);
     answer::answer_by(done)
 }
 
@@ -72,7 +72,7 @@ pub fn frame(
     let mut each = [0; 32];
     let done = framing::frame(card, state, store, n, buffer, &mut each);
     let to = framed_to(done);
-    answer::raise_each(rows, &each, to);
+    answer::raise(rows, 0, &each, to);
     framed_answer(done)
 }
 
@@ -89,7 +89,7 @@ pub fn hear(
 {
     let n = rows.len();
     let done = hearing::hear(card, state, store, n, unit, frame);
-    answer::raise(rows, done);
+    answer::raise_one(rows, done);
     answer::answer_by(done)
 }
 
@@ -106,7 +106,7 @@ pub fn take(
 {
     let n = rows.len();
     let done = taking::take(card, state, store, n, unit, buffer);
-    answer::raise(rows, done);
+    answer::raise_one(rows, done);
     answer::answer_by(done)
 }
 

@@ -118,7 +118,7 @@ fn settle(rows: [Counters; 40], o: Outcome) -> After
     joined(answer::answer_of(o), rs)
 }
 
-// The rows after an event at one unit: by value what `answer::raise` does to lent ones.
+// The rows after an event at one unit: by value what `answer::raise_one` does to lent ones.
 fn raise(rows: [Counters; 40], done: Single) -> After
     requires { ⌜ outcomeBy done .rises .to ≤ 32 ⌝ }
     ensures { λ r. ⌜ (r .answer ≡ outcomeBy done .answer) × (r .rows ≡ settled rows (outcomeBy done .rises)) ⌝ }
@@ -133,7 +133,7 @@ fn raise(rows: [Counters; 40], done: Single) -> After
     joined(answer::answer_by(done), rows)
 }
 
-// The rows after a frame: by value what `answer::raise_each` does to lent ones.
+// The rows after a frame: by value what `answer::raise` does to lent ones.
 fn raise_each(rows: [Counters; 40], each: [u16; 32], done: Framed) -> After
     requires { ⌜ done .to ≤ 32 ⌝ }
     ensures { λ r. ⌜ (r .answer ≡ done .answer) × (r .rows ≡ settled rows (risesTo (done .to) each)) ⌝ }

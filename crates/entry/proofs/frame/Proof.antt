@@ -1,9 +1,10 @@
 -- `entry::frame` meets its contract: a walk of its MIR, by hand. It is four calls, and all that it knows of the callees is that each meets its contract. What rises at each unit stands in a local array, which is lent to
--- the covered function to be written and then to `answer::raise_each` to be read, each time for a lifetime that the walk makes. Assumes nothing.
+-- the covered function to be written and then to `answer::raise` to be read, each time for a lifetime that the walk makes. Assumes nothing.
 use Rattle.entry.proofs.Walking.{_≡_, refl, _∙_, ap, subst, none, ℕ, _≤_, List, [], _∷_, _++_, length, URA, fullShare, Ty, named, imm, mut, w64, tyUnit, tyRef, Val, vunit, vint, vptr, SProp, ent, emp, id⊢, via, fst∗, Lft, Share, flft, Memory, Routine, Heap, Env, WpFn, Tables, Atoms, toks, Fun, givenOf, tables, tablesOf, Given, Item, ‵, raw, runs, atRet, Sq, _$_, _∵_, !, qed, by, move, keep, drop, join, use1, fsplit, fjoin, feqL, suffices, frame, done, ⋆, look, init, stop, hop, fld, from, load, addr, of-opd, and-then, no-more, assigns, land, returns, enter, alloc1, alloc0, params1, pass1, pass0, agg, whole, sub, look-in, fmOf, WpFn-mono, owns, Is, shows, uint-makes, uint-lawful, u8, usize, sliceTy, finally, slice-vals, mut-slice-tells, owned, facts, nothing, ptr-vals, mut-tells, onEntry, Meets, tripleOf, Contract, Triple, entered, cited, says, Stays, stay-dropped, gave-slice, gave-ref, walkOf, goes-dropped, goes-gave-slice, goes-gave-ref, Walks, ends-at, walked, walk-meets, yes, plain}
 use Rattle.entry.proofs.Arguments.{Got, Lent, Whole, taken, val, byte, word, row, lent, again, Arg, the-card, the-state, the-each, State, Each, all-of, finally-state, bytes, sets, is-written, the-rows, kinds, args, valss, machine, tokens-of, lifetimes, shares, numbered, Cell, cells, passed, Typed, card-vals, card-tells, card-typed, answer-typed}
-use Rattle.entry.proofs.Entering.{each, tokens, held, parted, packed, untied, tied, living, lived, freed, told, asking, answer-owned, Raise-each, raises-each}
+use Rattle.entry.proofs.Entering.{each, tokens, held, parted, packed, untied, tied, living, lived, freed, told, asking, answer-owned}
 use Prim.Native.Nat.{_<_, _^_}
+use native.Mathlib.Omega.{arith}
 use mathlib.Core.Path.{sym}
 use lib.ListN.{replicate}
 use lib.Dec.{lit<}
@@ -22,6 +23,8 @@ use denote.Steps.{only}
 use denote.Struct.Laws as LL
 use Rattle.answer.proofs.Calls.{Of, calls-of, calls-plain}
 use Rattle.answer.proofs.Arrays.{lends-whole, whole-back, shares-array, shared-back}
+use Rattle.answer.proofs.Raising.{Raise, raises}
+use Rattle.answer.proofs.Settling.{raised-all}
 use Rattle.answer.specs.declared.Counters.{Counters}
 use Rattle.answer.specs.declared.Answer.{Answer}
 use Rattle.answer.specs.declared.Outcome.{Outcome}
@@ -47,9 +50,9 @@ use Rattle.entry.proofs.framed_answer as reply
 use Rattle.entry.proofs.framed_answer.Symbol as reply-def
 use Rattle.entry.proofs.framed_answer.Symbol.{name as #reply}
 use Rattle.entry.proofs.framed_answer.Met as reply-thm
-use Rattle.answer.proofs.raise_each.Symbol as raise-def
-use Rattle.answer.proofs.raise_each.Symbol.{name as #raise}
-use Rattle.answer.proofs.raise_each.Met as raise-thm
+use Rattle.answer.proofs.raise.Symbol as raise-def
+use Rattle.answer.proofs.raise.Symbol.{name as #raise}
+use Rattle.answer.proofs.raise.Met as raise-thm
 use Rattle.entry.proofs.frame.Key.{name as #frame}
 use Rattle.entry.proofs.frame as frame
 use Rattle.entry.proofs.frame.Statement as stated
@@ -154,7 +157,7 @@ module _ {M : Type 1} (𝓤 : URA M) (H : Heap 𝓤) (A : Atoms 𝓤) (W : Given
       -- what is had of the parameters, the last first
       nothing ! $ move ! (1 ∷ 0 ∷ []) $ fjoin ! $ move ! (1 ∷ 0 ∷ []) $ fjoin ! $ move ! (1 ∷ 0 ∷ []) $ fjoin ! $ move ! (1 ∷ 0 ∷ []) $ fjoin ! $ nothing ! $ fjoin ! $ answer-owned ! (d .answer) _ ok $ move ! (1 ∷ 0 ∷ []) $ done !
 
-  module _ (𝓣 : Tables 𝓤 H) (known-core : Triple 𝓤 (𝓣 .C #core) (Core 𝓤 H A mem run)) (known-last : Triple 𝓤 (𝓣 .C #last) (Last 𝓤 H A mem run)) (known-raise : Triple 𝓤 (𝓣 .C #raise) (Raise-each 𝓤 H A mem run)) (known-reply : Triple 𝓤 (𝓣 .C #reply) (Reply 𝓤 H A mem run)) where
+  module _ (𝓣 : Tables 𝓤 H) (known-core : Triple 𝓤 (𝓣 .C #core) (Core 𝓤 H A mem run)) (known-last : Triple 𝓤 (𝓣 .C #last) (Last 𝓤 H A mem run)) (known-raise : Triple 𝓤 (𝓣 .C #raise) (Raise 𝓤 H A mem run)) (known-reply : Triple 𝓤 (𝓣 .C #reply) (Reply 𝓤 H A mem run)) where
     module _ (l₀ l₁ l₂ l₃ l₄ l₅ l₆ l₇ l₈ l₉ l₁₀ l₁₁ l₁₂ l₁₃ l₁₄ l₁₅ l₁₆ l₁₇ l₁₈ l₁₉ l₂₀ : ℕ) where
       abbrev En : Env 𝓤 H
       En = (N′.mir, l₀) ∷ (C′.mir, l₁) ∷ (tyRef (named 0) mut bytes, l₂) ∷ (lent 1 byte, l₃) ∷ (lent 2 row, l₄) ∷ (lent 3 byte, l₅) ∷ (word, l₆) ∷ (array, l₇) ∷ (F′.mir, l₈) ∷ (word, l₉) ∷ (again bytes, l₁₀) ∷ (again byte, l₁₁) ∷ (sliceTy (again byte), l₁₂) ∷ (again byte, l₁₃) ∷ (sliceTy (again byte), l₁₄) ∷ (again sets, l₁₅) ∷ (tyUnit, l₁₆) ∷ (again row, l₁₇) ∷ (sliceTy (again row), l₁₈) ∷ (tyRef erased imm sets, l₁₉) ∷ (sliceTy (tyRef erased imm half), l₂₀) ∷ []
@@ -205,8 +208,8 @@ module _ {M : Type 1} (𝓤 : URA M) (H : Heap 𝓤) (A : Atoms 𝓤) (W : Given
           rewrite ! 9 (λ (m : ℕ). ‵ (fat fullShare (sliceTy (tyRef erased imm half)) l₂₀ 0 (sliceVal (l₇, 0) m))) (sym long) refl $
           -- it is lent again, to be read
           lft-new ! tt (λ β. move ! (1 ∷ []) $ shares-array ! tt u16 tt 32 makes-each (named 1) (β ∷ []) es ev l₇ e-ok (subst (Room u16) (sym long) (lit< tt, lit< tt)) (λ γ₁. move ! (2 ∷ 0 ∷ 9 ∷ 10 ∷ []) $
-          raises-each ! (fmOf 𝓤 H (W .laws) 𝓣) mem run known-raise κ₂ (β ∷ []) q₂ fullShare (rows .b) (rows .o) (rows .γ) (rows .at) l₇ 0 γ₁ es (r .to) to-fits (subst (λ (m : ℕ). r .to ≤ m) (sym long) (fits .0), fits .1)
-          (and-then ! (load ! (from ! (stop !)) (look ! 12 refl)) (and-then ! (load ! (from ! (stop !)) (look ! 8 refl)) (and-then ! (load ! (from ! (stop !)) (look ! 30 refl)) (no-more !)))) (λ zs₂ e₂ m₂.
+          raises ! (fmOf 𝓤 H (W .laws) 𝓣) mem run known-raise κ₂ (β ∷ []) q₂ fullShare (rows .b) (rows .o) (rows .γ) (rows .at) 0 l₇ 0 γ₁ es (r .to) (lit< tt) to-fits (subst (λ (m : ℕ). r .to ≤ m) (sym long) (fits .0), omega (arith, fits .1))
+          (and-then ! (load ! (from ! (stop !)) (look ! 12 refl)) (and-then ! (lit ! tt) (and-then ! (load ! (from ! (stop !)) (look ! 8 refl)) (and-then ! (load ! (from ! (stop !)) (look ! 30 refl)) (no-more !))))) (λ zs₂ e₂ m₂.
           -- [its token; the rows' token; their last list; what the lender keeps; the other last lists; the tokens; _20 @10 … _0 @49]
           land ! (from ! (stop !)) (init ! 18 refl (tt, tt)) $ lft-end ! tt $ move ! (0 ∷ 3 ∷ []) $ shared-back ! tt u16 32 (β ∷ []) es l₇ long (λ ev′ _.
           -- [the array; the rows' token; their last list; the other last lists; the tokens; _20 @9 … _0 @48]
@@ -214,7 +217,7 @@ module _ {M : Type 1} (𝓤 : URA M) (H : Heap 𝓤) (A : Atoms 𝓤) (W : Given
           let ok : Is N.the-row (d .answer) (v ∷ []) = subst (λ (g : Answer). Is N.the-row g (v ∷ [])) (said ∙ ap (λ (g : Outcome). g .answer) (e .0)) h-ok in
           land ! (from ! (stop !)) (init ! 48 refl (answer-typed W (d .answer) _ ok)) $ returns ! (look ! 48 refl) $
           move ! (48 ∷ 49 ∷ 46 ∷ 47 ∷ 44 ∷ 45 ∷ 42 ∷ 43 ∷ 40 ∷ 41 ∷ 38 ∷ 39 ∷ 36 ∷ 37 ∷ 0 ∷ 35 ∷ 33 ∷ 34 ∷ 31 ∷ 32 ∷ 29 ∷ 30 ∷ 27 ∷ 28 ∷ 25 ∷ 26 ∷ 23 ∷ 24 ∷ 21 ∷ 22 ∷ 19 ∷ 20 ∷ 17 ∷ 18 ∷ 15 ∷ 16 ∷ 13 ∷ 14 ∷ 11 ∷ 12 ∷ 9 ∷ 10 ∷ []) $ freed ! (locals v ev′ dv (r .to) (length es)) $
-          keep ! (5 ∷ 0 ∷ 6 ∷ 7 ∷ 2 ∷ 1 ∷ 3 ∷ 4 ∷ []) $ by ! (exits v ok (ws .1 .0) (e .1 .0) (ws .1 .1 .0) (e .1 .1 .0) m₁ zs₂ (e₂ ∙ ap (λ (g : Outcome). settled (rows .at) (g .rises)) (e .0)) m₂ (ws .1 .1 .1 .1 .0) (e .1 .1 .1) m₃)))))))))))))))
+          keep ! (5 ∷ 0 ∷ 6 ∷ 7 ∷ 2 ∷ 1 ∷ 3 ∷ 4 ∷ []) $ by ! (exits v ok (ws .1 .0) (e .1 .0) (ws .1 .1 .0) (e .1 .1 .0) m₁ zs₂ (e₂ ∙ raised-all (rows .at) es (r .to) (r .to) ∙ ap (λ (g : Outcome). settled (rows .at) (g .rises)) (e .0)) m₂ (ws .1 .1 .1 .1 .0) (e .1 .1 .1) m₃)))))))))))))))
 
     walk : ent 𝓤 (onEntry 𝓤 H A frame.signature (lifetimes ts) (shares ts) (args 0 xs) (valss 0 xs)) (WpFn 𝓤 H (𝓣 .C) (𝓣 .Λ) code.function (machine xs) Post)
     walk =
@@ -223,7 +226,7 @@ module _ {M : Type 1} (𝓤 : URA M) (H : Heap 𝓤) (A : Atoms 𝓤) (W : Given
         pass1 ! (init ! 38 refl (card-typed W (card .x) (card .v) (card .ok))) $ pass1 ! (init ! 36 refl (tt, tt)) $ pass1 ! (init ! 34 refl (tt, (tt, (record { fits = store .room .0 }, tt)))) $ pass1 ! (init ! 32 refl (tt, (tt, (record { fits = rows .room .0 }, tt)))) $ pass1 ! (init ! 30 refl (tt, (tt, (record { fits = buffer .room .0 }, tt)))) $ pass0 ! $
         move ! (42 ∷ 43 ∷ []) $ begins l₀ l₁ l₂ l₃ l₄ l₅ l₆ l₇ l₈ l₉ l₁₀ l₁₁ l₁₂ l₁₃ l₁₄ l₁₅ l₁₆ l₁₇ l₁₈ l₁₉ l₂₀)))))))))))))))))))))
 
-module _ {M : Type 1} (𝓤 : URA M) (H : Heap 𝓤) (A : Atoms 𝓤) (W : Given 𝓤 H A) (mem : Memory → SProp 𝓤) (run : Routine → Fun 𝓤) (𝓣 : Tables 𝓤 H) (known-core : Triple 𝓤 (𝓣 .C #core) (Core 𝓤 H A mem run)) (known-last : Triple 𝓤 (𝓣 .C #last) (Last 𝓤 H A mem run)) (known-raise : Triple 𝓤 (𝓣 .C #raise) (Raise-each 𝓤 H A mem run)) (known-reply : Triple 𝓤 (𝓣 .C #reply) (Reply 𝓤 H A mem run)) where
+module _ {M : Type 1} (𝓤 : URA M) (H : Heap 𝓤) (A : Atoms 𝓤) (W : Given 𝓤 H A) (mem : Memory → SProp 𝓤) (run : Routine → Fun 𝓤) (𝓣 : Tables 𝓤 H) (known-core : Triple 𝓤 (𝓣 .C #core) (Core 𝓤 H A mem run)) (known-last : Triple 𝓤 (𝓣 .C #last) (Last 𝓤 H A mem run)) (known-raise : Triple 𝓤 (𝓣 .C #raise) (Raise 𝓤 H A mem run)) (known-reply : Triple 𝓤 (𝓣 .C #reply) (Reply 𝓤 H A mem run)) where
   frame-walks : Walks 𝓤 H A frame.ended stayed (WpFn 𝓤 H (𝓣 .C) (𝓣 .Λ) code.function) (frame.clauses 𝓤 H A mem run)
   frame-walks = walked 𝓤 H A frame.ended stayed (frame.clauses 𝓤 H A mem run) (WpFn 𝓤 H (𝓣 .C) (𝓣 .Λ) code.function)
       (λ κs. (card-vals, (ptr-vals, (slice-vals, (slice-vals, (slice-vals, tt))))))
@@ -244,5 +247,5 @@ frame-spec 𝓤 H 𝓜 𝓖 𝓡 =
     (frame-meets 𝓤 H (𝓖 .A) (givenOf 𝓤 H 𝓜 𝓖) (𝓜 .mem) (𝓡 .run) (tablesOf 𝓤 H 𝓜 (tables 𝓤 H 𝓜 𝓡 code.env))
     (cited 𝓤 H (Core 𝓤 H (𝓖 .A) (𝓜 .mem) (𝓡 .run)) 𝓜 𝓡 code.env #core core-def.routine code.calls-framing·frame (core-thm.met 𝓤 H 𝓜 𝓖 𝓡))
     (cited 𝓤 H (Last 𝓤 H (𝓖 .A) (𝓜 .mem) (𝓡 .run)) 𝓜 𝓡 code.env #last last-def.routine code.calls-entry·framed-to (last-thm.met 𝓤 H 𝓜 𝓖 𝓡))
-    (cited 𝓤 H (Raise-each 𝓤 H (𝓖 .A) (𝓜 .mem) (𝓡 .run)) 𝓜 𝓡 code.env #raise raise-def.routine code.calls-answer·raise-each (raise-thm.met 𝓤 H 𝓜 𝓖 𝓡))
+    (cited 𝓤 H (Raise 𝓤 H (𝓖 .A) (𝓜 .mem) (𝓡 .run)) 𝓜 𝓡 code.env #raise raise-def.routine code.calls-answer·raise (raise-thm.met 𝓤 H 𝓜 𝓖 𝓡))
     (cited 𝓤 H (Reply 𝓤 H (𝓖 .A) (𝓜 .mem) (𝓡 .run)) 𝓜 𝓡 code.env #reply reply-def.routine code.calls-entry·framed-answer (reply-thm.met 𝓤 H 𝓜 𝓖 𝓡)))

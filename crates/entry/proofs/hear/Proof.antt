@@ -22,9 +22,9 @@ use Rattle.hearing.proofs.hear.Met as core-thm
 use Rattle.answer.proofs.answer_by.Symbol as reply-def
 use Rattle.answer.proofs.answer_by.Symbol.{name as #reply}
 use Rattle.answer.proofs.answer_by.Met as reply-thm
-use Rattle.answer.proofs.raise.Symbol as raise-def
-use Rattle.answer.proofs.raise.Symbol.{name as #raise}
-use Rattle.answer.proofs.raise.Met as raise-thm
+use Rattle.answer.proofs.raise_one.Symbol as raise-def
+use Rattle.answer.proofs.raise_one.Symbol.{name as #raise}
+use Rattle.answer.proofs.raise_one.Met as raise-thm
 use Rattle.entry.proofs.hear.Key.{name as #hear}
 use Rattle.entry.proofs.hear as hear
 use Rattle.entry.proofs.hear.Statement as stated
@@ -154,5 +154,5 @@ hear-spec 𝓤 H 𝓜 𝓖 𝓡 =
     (tables 𝓤 H 𝓜 𝓡 code.env .C) (tables 𝓤 H 𝓜 𝓡 code.env .Λ) #hear code.function (code.unfolded 𝓤 H 𝓜 𝓡)
     (hear-meets 𝓤 H (𝓖 .A) (givenOf 𝓤 H 𝓜 𝓖) (𝓜 .mem) (𝓡 .run) (tablesOf 𝓤 H 𝓜 (tables 𝓤 H 𝓜 𝓡 code.env))
     (cited 𝓤 H (Core 𝓤 H (𝓖 .A) (𝓜 .mem) (𝓡 .run)) 𝓜 𝓡 code.env #core core-def.routine code.calls-hearing·hear (core-thm.met 𝓤 H 𝓜 𝓖 𝓡))
-    (cited 𝓤 H (Raise 𝓤 H (𝓖 .A) (𝓜 .mem) (𝓡 .run)) 𝓜 𝓡 code.env #raise raise-def.routine code.calls-answer·raise (raise-thm.met 𝓤 H 𝓜 𝓖 𝓡))
+    (cited 𝓤 H (Raise 𝓤 H (𝓖 .A) (𝓜 .mem) (𝓡 .run)) 𝓜 𝓡 code.env #raise raise-def.routine code.calls-answer·raise-one (raise-thm.met 𝓤 H 𝓜 𝓖 𝓡))
     (cited 𝓤 H (Answered 𝓤 H (𝓖 .A) (𝓜 .mem) (𝓡 .run)) 𝓜 𝓡 code.env #reply reply-def.routine code.calls-answer·answer-by (reply-thm.met 𝓤 H 𝓜 𝓖 𝓡)))
