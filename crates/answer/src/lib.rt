@@ -348,7 +348,7 @@ pub fn last(rises: Rises) -> usize
 }
 
 // The counters of a load. It is given no more than the rises, which are read once for each row; a row in which nothing rises is left
-// alone. It, `raise` and `raise_each` are all that write counters.
+// alone. It and `raise` are all that write rows, and a load only starts them anew.
 pub fn settle(rows: &mut [Counters], rises: Rises)
     requires { ⌜ (rises .to ≤ 32) × (rises .to ≤ length (now rows)) ⌝ }
     ensures { λ _. ⌜ now (rows .exit) ≡ settled (now (rows .entry)) rises ⌝ }
