@@ -1,4 +1,4 @@
-pub mod Table
+pub mod Reduced
 pub mod RoutingLaws
 pub mod Laws
 pub mod Wire

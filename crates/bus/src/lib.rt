@@ -21,15 +21,15 @@ pub enum Address {
     To { target: Target, class: u8 },
 }
 
-// The remainder of each four bits times x^4.
-const REMAINDERS: [u8; 16] = [0, 3, 6, 5, 12, 15, 10, 9, 11, 8, 13, 14, 7, 4, 1, 2];
-
-// What four bits more make of the remainder so far.
+// What four bits more make of the remainder so far. x^4 leaves x+1, so four bits times x^4 leave themselves times x+1: five bits at most. What
+// stands above the fourth is times x^4 again, and leaves in the same way.
 fn pass(rest: u8, nibble: u8) -> u8
     ensures { λ r. ⌜ r ≡ residue divisor 4 (bitXor rest nibble) ⌝ }
 {
-    let at = ((rest ^ nibble) % 16) as usize;
-    REMAINDERS[at]
+    let mixed = (rest ^ nibble) % 16;
+    let product = mixed ^ (mixed * 2);
+    let over = product / 16;
+    (product ^ over ^ (over * 2)) % 16
 }
 
 // The check of a routing header's upper 12 bits.

@@ -1,26 +1,26 @@
 -- `bus::pass` meets its contract. Assumes nothing.
 use mathlib.Core.Path.{refl, _∙_}
-use Prim.Native.Nat.{_%_}
+use Prim.Native.Nat.{_%_, _<_}
 use native.Mathlib.Nat.{mod-lt}
+use native.Mathlib.Omega.{arith}
 use lib.Bits.{bitXor}
 use Rattle.remainder.proofs.Laws.{residue-mod}
 use Rattle.bus.specs.Routing.{divisor}
-use Rattle.bus.proofs.Table.{remainder-at}
-use native.Mathlib.Omega.{arith}
-use borrow.Author.Needs.{needs}
+use Rattle.bus.proofs.Reduced.{product-lt, folded-at}
 use Rattle.bus.proofs.pass.Statement.{statement}
 use Rattle.bus.proofs.pass.Tie as tie
 
-cast-at : tie.Need-cast-at
-cast-at c = search needs
+mixed-lt : (c : tie.Start) → bitXor (c .args .rest) (c .args .nibble) % 16 < 16
+mixed-lt c = mod-lt (bitXor (c .args .rest) (c .args .nibble)) (omega arith)
 
-array-read-result : tie.Need-array-read-result
-array-read-result c = search needs
+mul-product : tie.Need-mul-product
+mul-product c = record { fits = omega (arith, mixed-lt c) }
+
+mul-result : tie.Need-mul-result
+mul-result c = let p = product-lt _ (mixed-lt c) in record { fits = omega arith }
 
 returns : tie.Need-returns
-returns c =
-    let n = bitXor (c .args .rest) (c .args .nibble) in
-    remainder-at (n % 16) (mod-lt n (omega arith)) ∙ residue-mod divisor 4 refl n
+returns c = folded-at _ (mixed-lt c) ∙ residue-mod divisor 4 refl (bitXor (c .args .rest) (c .args .nibble))
 
 pub pass-spec : {M : Type 1} → statement M
-pass-spec = tie.close (tie.spec cast-at array-read-result returns)
+pass-spec = tie.close (tie.spec mul-product mul-result returns)
