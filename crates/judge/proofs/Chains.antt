@@ -1,6 +1,6 @@
 -- The judges, test by test. Assumes nothing.
-use mathlib.Core.Path.{_≡_, refl}
-use mathlib.Core.Bool.{Bool, true, false, not}
+use mathlib.Core.Path.{_≡_, refl, sym, ap, _∙_}
+use mathlib.Core.Bool.{Bool, true, false, not, cond}
 use Prim.Native.Nat.{ℕ, _+_, _*_, _<_, _≤_}
 use borrow.Author.Tests.{not-true, not-false, le-leb, lt-leb, lt-ltb, le-ltb}
 use Rattle.header.specs.declared.Link.{Link}
@@ -10,11 +10,7 @@ use Rattle.card.specs.declared.Card.{Card}
 use Rattle.card.specs.declared.Ask.the-variants.{On, Out}
 use Rattle.lookup.specs.Record.{size}
 use Rattle.lookup.specs.declared.Got.{Got}
-use Rattle.shelf.specs.Shelves.{declared, findIn, isAt}
-use Rattle.shelf.specs.declared.Unit as U
 use Rattle.shelf.specs.Shelf.{Shelf}
-use Rattle.shelf.specs.declared.Found.{Found}
-use Rattle.shelf.specs.declared.Found.the-variants.{At, Nothing}
 use Rattle.line.specs.declared.Line.{Line}
 use Rattle.line.specs.declared.Line.the-variants.{Bus, Unit as L·Unit, Vp, Drop, Page, Vc, Mc}
 use Rattle.judge.specs.declared.Owner.{Owner}
@@ -23,17 +19,17 @@ use Rattle.judge.specs.declared.Verdict.{Verdict}
 use Rattle.judge.specs.declared.Verdict.the-variants.{Fine, Order, Twice, Wide}
 use Rattle.judge.specs.Verdicts.{asked, roomFor, offBus, taken, pageIn}
 use Rattle.judge.specs.Judge.{judgeBus, judgeUnit, judgeVp, judgeDrop, judgePage, judgeVc}
-use Rattle.judge.specs.Owners.{ownerAt, ownerOf, ownedBy, spot}
-use Rattle.judge.specs.Standing.{second, judgeFirst, judgeAt}
+use Rattle.judge.specs.Owners.{ownedBy, spot}
+use Rattle.judge.specs.Standing.{second, judgeFirst, judgeBy}
 
 -- by the owner
-pub nobody : (o : Owner) (f : U.Unit → Verdict) → not (o .known) ≡ true → Order 2 ≡ ownedBy o f
+pub nobody : (o : Owner) (f : Owner → Verdict) → not (o .known) ≡ true → Order 2 ≡ ownedBy o f
 unfolding ownedBy
 nobody o f e = rw (not-true (o .known) e)
 
-pub somebody : (o : Owner) (f : U.Unit → Verdict) (r : Verdict) → not (o .known) ≡ false → r ≡ f (o .unit) → r ≡ ownedBy o f
+pub somebody : (o : Owner) (f : Owner → Verdict) (r : Verdict) → not (o .known) ≡ false → r ≡ f o → r ≡ ownedBy o f
 unfolding ownedBy
-somebody o f r e h = rw (not-false (o .known) e) h
+somebody o f r e h = h ∙ ap (λ b. cond b (f o) (Order 2)) (sym (not-false (o .known) e))
 
 module _ (card : Card) (bus declared-top vpi : ℕ) (got : Got) where
   pub vp-above : (target : Target) (outvpi : ℕ) → declared-top < vpi → Order 3 ≡ judgeVp card bus declared-top vpi got target outvpi
@@ -78,12 +74,12 @@ module _ (top vpi : ℕ) (got : Got) where
   page-room room used topvci r h t e = rw (le-ltb top vpi h, t) e
 
 -- a `vc` line, by the page that stands there
-module _ (card : Card) (bus top vpi : ℕ) (stands : ℕ → Got) (unit : U.Unit) (vci : ℕ) (target : Target) (outvpi : ℕ) where
+module _ (card : Card) (bus top vpi : ℕ) (stands : ℕ → Got) (o : Owner) (vci : ℕ) (target : Target) (outvpi : ℕ) where
   abbrev page : Paged
-  page = pageIn (stands (spot unit vpi))
+  page = pageIn (stands (spot o vpi))
 
   abbrev verdict : Verdict
-  verdict = judgeVc card bus top vpi (stands (spot unit vpi)) vci (second stands page vci) target outvpi
+  verdict = judgeVc card bus top vpi (stands (spot o vpi)) vci (second stands page vci) target outvpi
 
   pub vc-above : top < vpi → Order 3 ≡ verdict
   unfolding judgeVc
@@ -95,19 +91,19 @@ module _ (card : Card) (bus top vpi : ℕ) (stands : ℕ → Got) (unit : U.Unit
 
   pub vc-over : vpi ≤ top → page .known ≡ true → page .top < vci → Order 4 ≡ verdict
   unfolding judgeVc
-  vc-over h k o = rw (le-ltb top vpi h, k, lt-ltb (page .top) vci o)
+  vc-over h k w = rw (le-ltb top vpi h, k, lt-ltb (page .top) vci w)
 
   pub vc-off : vpi ≤ top → page .known ≡ true → vci ≤ page .top → offBus bus target ≡ true → Order 5 ≡ verdict
   unfolding judgeVc
-  vc-off h k o b = rw (le-ltb top vpi h, k, le-ltb (page .top) vci o, b)
+  vc-off h k w b = rw (le-ltb top vpi h, k, le-ltb (page .top) vci w, b)
 
   pub vc-taken : vpi ≤ top → page .known ≡ true → vci ≤ page .top → offBus bus target ≡ false → taken (stands (page .place + size * vci)) ≡ true → Twice 4 ≡ verdict
   unfolding judgeVc
-  vc-taken h k o b t = rw (le-ltb top vpi h, k, le-ltb (page .top) vci o, b, t)
+  vc-taken h k w b t = rw (le-ltb top vpi h, k, le-ltb (page .top) vci w, b, t)
 
   pub vc-asked : (r : Verdict) → vpi ≤ top → page .known ≡ true → vci ≤ page .top → offBus bus target ≡ false → taken (stands (page .place + size * vci)) ≡ false → r ≡ asked card (Out outvpi) Fine → r ≡ verdict
   unfolding judgeVc
-  vc-asked r h k o b t e = rw (le-ltb top vpi h, k, le-ltb (page .top) vci o, b, t) e
+  vc-asked r h k w b t e = rw (le-ltb top vpi h, k, le-ltb (page .top) vci w, b, t) e
 
 -- a `unit` line
 module _ (card : Card) (bus room used number top : ℕ) (link : Link) where
@@ -128,20 +124,12 @@ module _ (card : Card) (bus room used number top : ℕ) (link : Link) where
   unit-wide declared h d k = rw (lt-leb bus number h, d, k)
 
 -- the first line
-pub at-first : (card : Card) (room : ℕ) (stands : ℕ → Got) (shelf : Shelf) (used : ℕ) (l : Line) → judgeFirst card l ≡ judgeAt card room true stands shelf used l
-unfolding judgeFirst judgeAt judgeBus
-at-first card room stands shelf used (Bus bus) = refl
-at-first card room stands shelf used (L·Unit settings limits) = refl
-at-first card room stands shelf used (Vp u v target class outvpi) = refl
-at-first card room stands shelf used (Drop u v) = refl
-at-first card room stands shelf used (Page u v top) = refl
-at-first card room stands shelf used (Vc u v w target class outvpi outvci) = refl
-at-first card room stands shelf used (Mc u session) = refl
-
-known-at : (shelf : Shelf) (f : Found) → ownerAt shelf f .known ≡ isAt f
-known-at shelf (At i) = refl
-known-at shelf Nothing = refl
-
-pub known-is : (shelf : Shelf) (number : ℕ) → ownerOf shelf number .known ≡ isAt (findIn (declared shelf) number)
-unfolding ownerOf
-known-is shelf number = known-at shelf (findIn (declared shelf) number)
+pub at-first : (card : Card) (room : ℕ) (stands : ℕ → Got) (shelf : Shelf) (used : ℕ) (o : Owner) (l : Line) → judgeFirst card l ≡ judgeBy card room true stands shelf used o l
+unfolding judgeFirst judgeBy judgeBus
+at-first card room stands shelf used o (Bus bus) = refl
+at-first card room stands shelf used o (L·Unit settings limits) = refl
+at-first card room stands shelf used o (Vp u v target class outvpi) = refl
+at-first card room stands shelf used o (Drop u v) = refl
+at-first card room stands shelf used o (Page u v top) = refl
+at-first card room stands shelf used o (Vc u v w target class outvpi outvci) = refl
+at-first card room stands shelf used o (Mc u session) = refl

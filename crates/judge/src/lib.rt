@@ -1,4 +1,5 @@
 // A line of a table held against what came before it, as shelf and memory have it: first what it is judged by, then the lines.
+use arbiter::NOBODY;
 use bus::Target;
 use card::Ask;
 use card::Card;
@@ -8,17 +9,16 @@ use lookup::Got;
 use lookup::Record;
 use shelf::Found;
 use shelf::Settings;
-use shelf::Unit;
 ghost use mathlib.Core.Path.{_≡_};
-ghost use Prim.Native.Nat.{_*_, _+_, _≤_};
+ghost use Prim.Native.Nat.{_*_, _+_, _<_, _≤_};
 ghost use lib.ListN.{length};
 ghost use Rattle.lookup.specs.Record.{size, recordAt};
 ghost use Rattle.state.specs.Bytes.{shelfIn};
 ghost use Rattle.shelf.specs.Sessions.{hears};
 ghost use Rattle.judge.specs.Verdicts.{asked, roomFor, offBus as offBusIs, taken as takenIs, pageIn, numberOf, isFine};
-ghost use Rattle.judge.specs.Owners.{ownerOf, spot as spotOf, ownedBy};
+ghost use Rattle.judge.specs.Owners.{unitOf, ownerOf, sessionsAt, spot as spotOf, ownedBy};
 ghost use Rattle.judge.specs.Judge.{judgeUnit, judgeVp, judgeDrop, judgePage, judgeMc};
-ghost use Rattle.judge.specs.Standing.{judgeVcAt, judgeFirst, judgeAt};
+ghost use Rattle.judge.specs.Standing.{judgeVcAt, judgeFirst, judgeBy};
 
 // What is wrong with a line, in the order in which it is tried; Order and Twice carry the field, counted from the word as 1.
 pub enum Verdict {
@@ -30,10 +30,13 @@ pub enum Verdict {
     Room,
 }
 
-// The declared unit with a number; where none has it, any unit.
+// What a line is judged by of the declared unit that it names: its top VPI, where its records start, and its place; where none has the number,
+// zeros.
 pub struct Owner {
     pub known: bool,
-    pub unit: Unit,
+    pub top: u16,
+    pub place: u32,
+    pub at: usize,
 }
 
 // A page's top VCI and the place of its records, where it is one.
@@ -97,23 +100,76 @@ pub fn taken(got: Got) -> bool
 }
 
 // The declared unit with a number.
-pub fn find_owner(s: &[u8], number: u8) -> Owner
+fn find_owner(s: &[u8], number: u8) -> Owner
     requires { ⌜ length (now s) ≡ 2048 ⌝ }
-    ensures { λ r. ⌜ r ≡ ownerOf (shelfIn (now (s .entry))) number ⌝ }
+    ensures { λ r. ⌜ (r ≡ ownerOf (shelfIn (now (s .entry))) number) × (r .at < 32) ⌝ }
 {
-    let Found::At(i) = state::find(s, number) else {
-        let unit = state::unit_at(s, 0);
-        return Owner { known: false, unit };
+    let Found::At(at) = state::find(s, number) else {
+        return Owner {
+            known: false,
+            top: 0,
+            place: 0,
+            at: 0,
+        };
     };
-    let unit = state::unit_at(s, i);
-    Owner { known: true, unit }
+    let settings = state::settings_at(s, at);
+    Owner {
+        known: true,
+        top: settings.top,
+        place: state::place_at(s, at),
+        at,
+    }
+}
+
+// The number of the unit that a line names; a `bus` line names nobody.
+fn unit_of(line: Line) -> u8
+    ensures { λ r. ⌜ r ≡ unitOf line ⌝ }
+{
+    match line {
+        Line::Bus(_) => NOBODY,
+        Line::Unit {
+            settings,
+            limits: _,
+        } => settings.number,
+        Line::Vp {
+            unit,
+            vpi: _,
+            target: _,
+            class: _,
+            outvpi: _,
+        } => unit,
+        Line::Drop { unit, vpi: _ } => unit,
+        Line::Page {
+            unit,
+            vpi: _,
+            top: _,
+        } => unit,
+        Line::Vc {
+            unit,
+            vpi: _,
+            vci: _,
+            target: _,
+            class: _,
+            outvpi: _,
+            outvci: _,
+        } => unit,
+        Line::Mc { unit, session: _ } => unit,
+    }
+}
+
+// The declared unit that a line names.
+pub fn owner_of(s: &[u8], line: Line) -> Owner
+    requires { ⌜ length (now s) ≡ 2048 ⌝ }
+    ensures { λ r. ⌜ (r ≡ ownerOf (shelfIn (now (s .entry))) (unitOf line)) × (r .at < 32) ⌝ }
+{
+    find_owner(s, unit_of(line))
 }
 
 // The place of a unit's record for a VPI.
-pub fn spot(unit: Unit, vpi: u16) -> usize
-    ensures { λ r. ⌜ r ≡ spotOf unit vpi ⌝ }
+pub fn spot(o: Owner, vpi: u16) -> usize
+    ensures { λ r. ⌜ r ≡ spotOf o vpi ⌝ }
 {
-    (unit.place as usize) + lookup::SIZE * (vpi as usize)
+    (o.place as usize) + lookup::SIZE * (vpi as usize)
 }
 
 // The place of a page's record for a VCI.
@@ -213,19 +269,18 @@ fn judge_vp(
     target: Target,
     outvpi: u16,
 ) -> Verdict
-    ensures { λ r. ⌜ r ≡ ownedBy o (λ unit. judgeVp card bus (unit .settings .top) vpi (recordAt card (now (memory .entry)) (spotOf unit vpi)) target outvpi) ⌝ }
+    ensures { λ r. ⌜ r ≡ ownedBy o (λ o. judgeVp card bus (o .top) vpi (recordAt card (now (memory .entry)) (spotOf o vpi)) target outvpi) ⌝ }
 {
     if !o.known {
         return Verdict::Order(2);
     }
-    let unit = o.unit;
-    if unit.settings.top < vpi {
+    if o.top < vpi {
         return Verdict::Order(3);
     }
     if off_bus(bus, target) {
         return Verdict::Order(4);
     }
-    if taken(lookup::get(card, memory, spot(unit, vpi))) {
+    if taken(lookup::get(card, memory, spot(o, vpi))) {
         return Verdict::Twice(3);
     }
     asks(card, Ask::Out(outvpi))
@@ -233,16 +288,15 @@ fn judge_vp(
 
 // A `drop` line: at a VPI of a declared unit where nothing stands yet.
 fn judge_drop(card: Card, memory: &[u8], o: Owner, vpi: u16) -> Verdict
-    ensures { λ r. ⌜ r ≡ ownedBy o (λ unit. judgeDrop (unit .settings .top) vpi (recordAt card (now (memory .entry)) (spotOf unit vpi))) ⌝ }
+    ensures { λ r. ⌜ r ≡ ownedBy o (λ o. judgeDrop (o .top) vpi (recordAt card (now (memory .entry)) (spotOf o vpi))) ⌝ }
 {
     if !o.known {
         return Verdict::Order(2);
     }
-    let unit = o.unit;
-    if unit.settings.top < vpi {
+    if o.top < vpi {
         return Verdict::Order(3);
     }
-    if taken(lookup::get(card, memory, spot(unit, vpi))) {
+    if taken(lookup::get(card, memory, spot(o, vpi))) {
         return Verdict::Twice(3);
     }
     Verdict::Fine
@@ -258,16 +312,15 @@ fn judge_page(
     vpi: u16,
     top: u16,
 ) -> Verdict
-    ensures { λ r. ⌜ r ≡ ownedBy o (λ unit. judgePage room used (unit .settings .top) vpi (recordAt card (now (memory .entry)) (spotOf unit vpi)) top) ⌝ }
+    ensures { λ r. ⌜ r ≡ ownedBy o (λ o. judgePage room used (o .top) vpi (recordAt card (now (memory .entry)) (spotOf o vpi)) top) ⌝ }
 {
     if !o.known {
         return Verdict::Order(2);
     }
-    let unit = o.unit;
-    if unit.settings.top < vpi {
+    if o.top < vpi {
         return Verdict::Order(3);
     }
-    if taken(lookup::get(card, memory, spot(unit, vpi))) {
+    if taken(lookup::get(card, memory, spot(o, vpi))) {
         return Verdict::Twice(3);
     }
     room_for(room, used, (top as usize) + 1)
@@ -284,16 +337,15 @@ fn judge_vc(
     target: Target,
     outvpi: u16,
 ) -> Verdict
-    ensures { λ r. ⌜ r ≡ ownedBy o (λ unit. judgeVcAt card bus (recordAt card (now (memory .entry))) unit vpi vci target outvpi) ⌝ }
+    ensures { λ r. ⌜ r ≡ ownedBy o (λ o. judgeVcAt card bus (recordAt card (now (memory .entry))) o vpi vci target outvpi) ⌝ }
 {
     if !o.known {
         return Verdict::Order(2);
     }
-    let unit = o.unit;
-    if unit.settings.top < vpi {
+    if o.top < vpi {
         return Verdict::Order(3);
     }
-    let page = page_in(lookup::get(card, memory, spot(unit, vpi)));
+    let page = page_in(lookup::get(card, memory, spot(o, vpi)));
     if !page.known {
         return Verdict::Order(3);
     }
@@ -310,15 +362,14 @@ fn judge_vc(
 }
 
 // An `mc` line: of a declared unit that does not hear the session yet.
-fn judge_mc(o: Owner, session: u8) -> Verdict
-    ensures { λ r. ⌜ r ≡ ownedBy o (λ unit. judgeMc (hears (unit .sessions) session)) ⌝ }
+fn judge_mc(s: &[u8], o: Owner, session: u8) -> Verdict
+    requires { ⌜ (length (now s) ≡ 2048) × (o .at < 32) ⌝ }
+    ensures { λ r. ⌜ r ≡ ownedBy o (λ o. judgeMc (hears (sessionsAt (shelfIn (now (s .entry))) o) session)) ⌝ }
 {
     if !o.known {
         return Verdict::Order(2);
     }
-    let unit = o.unit;
-    let sessions = unit.sessions;
-    if shelf::hears(sessions, session) {
+    if shelf::hears(state::sessions_at(s, o.at), session) {
         return Verdict::Twice(3);
     }
     Verdict::Fine
@@ -363,7 +414,7 @@ fn judge_first(card: Card, line: Line) -> Verdict
     }
 }
 
-// Order, Twice, Wide or Room against what came before.
+// Order, Twice, Wide or Room against what came before, where the line names this unit.
 pub fn judge(
     card: Card,
     room: usize,
@@ -371,10 +422,11 @@ pub fn judge(
     memory: &[u8],
     s: &[u8],
     used: u32,
+    o: Owner,
     line: Line,
 ) -> Verdict
-    requires { ⌜ length (now s) ≡ 2048 ⌝ }
-    ensures { λ r. ⌜ r ≡ judgeAt card room first (recordAt card (now (memory .entry))) (shelfIn (now (s .entry))) used line ⌝ }
+    requires { ⌜ (length (now s) ≡ 2048) × (o .at < 32) ⌝ }
+    ensures { λ r. ⌜ r ≡ judgeBy card room first (recordAt card (now (memory .entry))) (shelfIn (now (s .entry))) used o line ⌝ }
 {
     if first {
         return judge_first(card, line);
@@ -385,39 +437,25 @@ pub fn judge(
         Line::Unit {
             settings,
             limits: _,
-        } => {
-            let o = find_owner(s, settings.number);
-            judge_unit(card, bus, o.known, room, used, settings)
-        }
+        } => judge_unit(card, bus, o.known, room, used, settings),
         Line::Vp {
-            unit,
+            unit: _,
             vpi,
             target,
             class: _,
             outvpi,
-        } => judge_vp(card, memory, bus, find_owner(s, unit), vpi, target, outvpi),
-        Line::Drop { unit, vpi } => judge_drop(card, memory, find_owner(s, unit), vpi),
-        Line::Page { unit, vpi, top } => {
-            judge_page(card, memory, room, used, find_owner(s, unit), vpi, top)
-        }
+        } => judge_vp(card, memory, bus, o, vpi, target, outvpi),
+        Line::Drop { unit: _, vpi } => judge_drop(card, memory, o, vpi),
+        Line::Page { unit: _, vpi, top } => { judge_page(card, memory, room, used, o, vpi, top) }
         Line::Vc {
-            unit,
+            unit: _,
             vpi,
             vci,
             target,
             class: _,
             outvpi,
             outvci: _,
-        } => judge_vc(
-            card,
-            memory,
-            bus,
-            find_owner(s, unit),
-            vpi,
-            vci,
-            target,
-            outvpi,
-        ),
-        Line::Mc { unit, session } => judge_mc(find_owner(s, unit), session),
+        } => judge_vc(card, memory, bus, o, vpi, vci, target, outvpi),
+        Line::Mc { unit: _, session } => judge_mc(s, o, session),
     }
 }

@@ -17,7 +17,7 @@ module _ (card : Card) (memory : List ℕ) (o : Owner) (vpi : ℕ) (r : R.Record
   unfolding putBy
   path-none e = rw (not-true (o .known) e)
 
-  pub path-put : not (o .known) ≡ false → written card memory (spot (o .unit) vpi) r ≡ putBy card memory o vpi r
+  pub path-put : not (o .known) ≡ false → written card memory (spot o vpi) r ≡ putBy card memory o vpi r
   unfolding putBy
   path-put e = rw (not-false (o .known) e)
 
@@ -25,10 +25,10 @@ module _ (card : Card) (memory : List ℕ) (o : Owner) (vpi : ℕ) (r : R.Record
   unfolding putVc
   circuit-none vci e = rw (not-true (o .known) e)
 
-  pub circuit-no-page : (vci : ℕ) → not (o .known) ≡ false → pageIn (recordAt card memory (spot (o .unit) vpi)) .known ≡ false → memory ≡ putVc card memory o vpi vci r
+  pub circuit-no-page : (vci : ℕ) → not (o .known) ≡ false → pageIn (recordAt card memory (spot o vpi)) .known ≡ false → memory ≡ putVc card memory o vpi vci r
   unfolding putVc putIn
   circuit-no-page vci e k = rw (not-false (o .known) e, k)
 
-  pub circuit-put : (vci : ℕ) → not (o .known) ≡ false → pageIn (recordAt card memory (spot (o .unit) vpi)) .known ≡ true → written card memory (pageIn (recordAt card memory (spot (o .unit) vpi)) .place + size * vci) r ≡ putVc card memory o vpi vci r
+  pub circuit-put : (vci : ℕ) → not (o .known) ≡ false → pageIn (recordAt card memory (spot o vpi)) .known ≡ true → written card memory (pageIn (recordAt card memory (spot o vpi)) .place + size * vci) r ≡ putVc card memory o vpi vci r
   unfolding putVc putIn
   circuit-put vci e k = rw (not-false (o .known) e, k)

@@ -28,6 +28,7 @@ use Rattle.judge.specs.declared.Verdict.the-variants.{Fine}
 use Rattle.judge.specs.Verdicts.{isFine}
 use Rattle.told.specs.Told.{Whose, total, opens, takes, shelfOf, recordOf, memoryOf}
 use Rattle.told.specs.Lines.{isFirst, judge, verdictOn, run, done, stopped, Good}
+use Rattle.judge.specs.Owners.{unitOf, ownerOf}
 use Rattle.told.specs.Enact.{verdictAt, memoryBy, Places}
 use Rattle.table.specs.GivenInPlace.{stateBy}
 use Rattle.told.proofs.Grown.{decide, grown}
@@ -185,8 +186,8 @@ module _ (card : Card) (memory₀ text : List ℕ) (told : List Line) (from : �
   more-memory : (l : Line) → judge card room told l ≡ Fine → Ranged l → memoryAfter card memory (shelfIn s) (verdictIn card room memory (shelfIn s) p (Read l)) p (Read l) ≡ memoryOf card memory₀ (l ∷ told)
   more-memory l f r =
       let v = verdict-line l r ∙ f in
-      sym (memory-enacted card memory s (shelfIn s) p (Read l) Fine (verdictIn card room memory (shelfIn s) p (Read l)) (sym v) (memoryBy card memory (shelfIn s) (p .used) l) refl refl)
-      ∙ (λ i. memoryBy card (b .holding i) (shelf-is i) (b .come i .used) l)
+      sym (memory-enacted card memory s (shelfIn s) p (Read l) Fine (verdictIn card room memory (shelfIn s) p (Read l)) (sym v) (memoryBy card memory (p .used) (ownerOf (shelfIn s) (unitOf l)) l) refl refl)
+      ∙ (λ i. memoryBy card (b .holding i) (b .come i .used) (ownerOf (shelf-is i) (unitOf l)) l)
       ∙ memory-agree card memory₀ told (grown card room told (b .good)) (shelved card room told (b .good) (b .ranges)) hold l f
 
   more-state : (l : Line) → judge card room told l ≡ Fine → Ranged l → stateAfter s (verdictIn card room memory (shelfIn s) p (Read l)) p (Read l) ≡ stateOf (l ∷ told)

@@ -34,8 +34,7 @@ fn put_path(card: Card, memory: &mut [u8], o: Owner, vpi: u16, r: Record)
     if !o.known {
         return;
     }
-    let unit = o.unit;
-    lookup::put(card, memory, judge::spot(unit, vpi), r);
+    lookup::put(card, memory, judge::spot(o, vpi), r);
 }
 
 // Writes a record at a VCI of the page that stands at a VPI.
@@ -45,18 +44,16 @@ fn put_circuit(card: Card, memory: &mut [u8], o: Owner, vpi: u16, vci: u16, r: R
     if !o.known {
         return;
     }
-    let unit = o.unit;
-    let page = judge::page_in(lookup::get(card, memory, judge::spot(unit, vpi)));
+    let page = judge::page_in(lookup::get(card, memory, judge::spot(o, vpi)));
     if !page.known {
         return;
     }
     lookup::put(card, memory, judge::vci_spot(page, vci), r);
 }
 
-// Writes what a line gives.
-pub fn write(card: Card, memory: &mut [u8], s: &[u8], used: u32, line: Line)
-    requires { ⌜ length (now s) ≡ 2048 ⌝ }
-    ensures { λ _. ⌜ now (memory .exit) ≡ memoryBy card (now (memory .entry)) (shelfIn (now (s .entry))) used line ⌝ }
+// Writes what a line gives that names this unit.
+pub fn write(card: Card, memory: &mut [u8], used: u32, o: Owner, line: Line)
+    ensures { λ _. ⌜ now (memory .exit) ≡ memoryBy card (now (memory .entry)) used o line ⌝ }
 {
     match line {
         Line::Bus(_) => {}
@@ -65,7 +62,7 @@ pub fn write(card: Card, memory: &mut [u8], s: &[u8], used: u32, line: Line)
             limits: _,
         } => {}
         Line::Vp {
-            unit,
+            unit: _,
             vpi,
             target,
             class,
@@ -77,17 +74,17 @@ pub fn write(card: Card, memory: &mut [u8], s: &[u8], used: u32, line: Line)
                 vpi: outvpi,
                 vci: 0,
             };
-            put_path(card, memory, judge::find_owner(s, unit), vpi, r);
+            put_path(card, memory, o, vpi, r);
         }
-        Line::Drop { unit, vpi } => {
-            put_path(card, memory, judge::find_owner(s, unit), vpi, Record::Drop);
+        Line::Drop { unit: _, vpi } => {
+            put_path(card, memory, o, vpi, Record::Drop);
         }
-        Line::Page { unit, vpi, top } => {
+        Line::Page { unit: _, vpi, top } => {
             let r = Record::Page { top, place: used };
-            put_path(card, memory, judge::find_owner(s, unit), vpi, r);
+            put_path(card, memory, o, vpi, r);
         }
         Line::Vc {
-            unit,
+            unit: _,
             vpi,
             vci,
             target,
@@ -101,7 +98,7 @@ pub fn write(card: Card, memory: &mut [u8], s: &[u8], used: u32, line: Line)
                 vpi: outvpi,
                 vci: outvci,
             };
-            put_circuit(card, memory, judge::find_owner(s, unit), vpi, vci, r);
+            put_circuit(card, memory, o, vpi, vci, r);
         }
         Line::Mc {
             unit: _,
@@ -229,7 +226,8 @@ fn enact(
 {
     let used = p.used;
     let lines = p.lines;
-    let verdict = judge::judge(card, room, lines == 0, memory, s, used, line);
+    let o = judge::owner_of(s, line);
+    let verdict = judge::judge(card, room, lines == 0, memory, s, used, o, line);
     if !judge::is_fine(verdict) {
         return Progress {
             used,
@@ -237,7 +235,7 @@ fn enact(
             verdict,
         };
     }
-    write(card, memory, s, used, line);
+    write(card, memory, used, o, line);
     enter(s, used, line);
     Progress {
         used: used + 8 * takes(line),

@@ -16,19 +16,20 @@ use Rattle.lookup.specs.declared.Record as R
 use Rattle.lookup.specs.declared.Record.the-variants.{Empty, Drop as R·Drop, Route, Page as R·Page}
 use Rattle.lookup.specs.declared.Got.{Got}
 use Rattle.lookup.specs.declared.Got.the-variants.{Is}
-use Rattle.shelf.specs.Shelves.{blank, declared, findIn, isAt}
+use Rattle.shelf.specs.Shelves.{blank}
 use Rattle.shelf.specs.declared.Unit as U
 use Rattle.shelf.specs.declared.Found.the-variants.{Nothing}
 use Rattle.line.specs.declared.Line.{Line}
 use Rattle.line.specs.declared.Line.the-variants.{Bus, Unit as L·Unit, Vp, Drop, Page, Vc, Mc}
+use Rattle.judge.specs.declared.Owner.{Owner}
 use Rattle.judge.specs.declared.Verdict.{Verdict}
 use Rattle.judge.specs.declared.Verdict.the-variants.{Fine, Order, Twice}
 use Rattle.judge.specs.Verdicts.{asked, roomFor, offBus, taken, pageIn}
 use Rattle.judge.specs.Judge.{inPage, judgeUnit, judgeVp, judgeDrop, judgePage, judgeVc, judgeMc}
 use Rattle.told.specs.Told.{Whose, ofUnit, ofPage, opens, gives, topOf, total, recordOf, shelfOf, memoryOf}
 use Rattle.told.specs.Lines.{started, isFirst, owned, isDeclared, judge}
-use Rattle.judge.specs.Owners.{ownerAt, ownerOf, ownedBy, spot}
-use Rattle.judge.specs.Standing.{second, judgeAt}
+use Rattle.judge.specs.Owners.{unitOf, ownerIs, ownerAt, ownerOf, ownedBy, spot}
+use Rattle.judge.specs.Standing.{second, judgeBy, judgeAt}
 use Rattle.told.specs.Enact.{putBy, putIn, putVc, memoryBy}
 use Rattle.told.proofs.Regions.{start}
 use Rattle.told.proofs.Fits.{fine-unit, fine-vp, fine-drop, fine-page, fine-vc}
@@ -53,12 +54,15 @@ module _ (card : Card) (memory : List ℕ) (told : List Line) (w : Grown told) (
   abbrev at : (u top : ℕ) → topOf told (ofUnit u) ≡ some top → U.Unit
   at u top e = getD (shelfOf told .units) (s .here u top e .i) blank
 
-  owner-is : (u top : ℕ) (e : topOf told (ofUnit u) ≡ some top) → ownerOf (shelfOf told) u ≡ record { known = true; unit = at u top e }
+  abbrev owner : (u top : ℕ) → topOf told (ofUnit u) ≡ some top → Owner
+  owner u top e = ownerIs (s .here u top e .i) (at u top e)
+
+  owner-is : (u top : ℕ) (e : topOf told (ofUnit u) ≡ some top) → ownerOf (shelfOf told) u ≡ owner u top e
   unfolding ownerOf
   owner-is u top e = ap (ownerAt (shelfOf told)) (s .here u top e .found)
 
   -- a declared unit's record
-  stands-path : (u top : ℕ) (e : topOf told (ofUnit u) ≡ some top) (v : ℕ) → v ≤ top → stands (spot (at u top e) v) ≡ Is (recordOf told (ofUnit u) v)
+  stands-path : (u top : ℕ) (e : topOf told (ofUnit u) ≡ some top) (v : ℕ) → v ≤ top → stands (spot (owner u top e) v) ≡ Is (recordOf told (ofUnit u) v)
   stands-path u top e v h = ap (λ p. stands (p + size * v)) (s .here u top e .starts) ∙ stands-at card memory told hold (ofUnit u) top v e h
 
   -- the VCI's record in the page that stands there
@@ -72,7 +76,7 @@ module _ (card : Card) (memory : List ℕ) (told : List Line) (w : Grown told) (
   unfolding ownerOf
   nobody u e = ap (ownerAt (shelfOf told)) (s .gone u e)
 
-  owned-agree : (u : ℕ) (f : U.Unit → Verdict) (g : ℕ → Verdict) → ((top : ℕ) (e : topOf told (ofUnit u) ≡ some top) → f (at u top e) ≡ g top) → ownedBy (ownerOf (shelfOf told) u) f ≡ owned (topOf told (ofUnit u)) g
+  owned-agree : (u : ℕ) (f : Owner → Verdict) (g : ℕ → Verdict) → ((top : ℕ) (e : topOf told (ofUnit u) ≡ some top) → f (owner u top e) ≡ g top) → ownedBy (ownerOf (shelfOf told) u) f ≡ owned (topOf told (ofUnit u)) g
   unfolding ownedBy
   owned-agree u f g h = go (topOf told (ofUnit u)) refl
     where
@@ -80,18 +84,18 @@ module _ (card : Card) (memory : List ℕ) (told : List Line) (w : Grown told) (
       go none e = ap (λ o. ownedBy o f) (nobody u e)
       go (some top) e = ap (λ o. ownedBy o f) (owner-is u top e) ∙ h top e
 
-  declared-agree : (u : ℕ) → isAt (findIn (declared (shelfOf told)) u) ≡ isDeclared (topOf told (ofUnit u))
+  declared-agree : (u : ℕ) → ownerOf (shelfOf told) u .known ≡ isDeclared (topOf told (ofUnit u))
   declared-agree u = go (topOf told (ofUnit u)) refl
     where
-      go : (o : Option ℕ) → topOf told (ofUnit u) ≡ o → isAt (findIn (declared (shelfOf told)) u) ≡ isDeclared o
-      go none e = ap isAt (s .gone u e)
-      go (some top) e = ap isAt (s .here u top e .found)
+      go : (o : Option ℕ) → topOf told (ofUnit u) ≡ o → ownerOf (shelfOf told) u .known ≡ isDeclared o
+      go none e = ap (λ o. o .known) (nobody u e)
+      go (some top) e = ap (λ o. o .known) (owner-is u top e)
 
   -- a test of the top, then of what stands there
-  below : (u top : ℕ) (e : topOf told (ofUnit u) ≡ some top) (v : ℕ) (f : Got → Verdict) → cond (ltb (at u top e .settings .top) v) (Order 3) (f (stands (spot (at u top e) v))) ≡ cond (ltb top v) (Order 3) (f (Is (recordOf told (ofUnit u) v)))
+  below : (u top : ℕ) (e : topOf told (ofUnit u) ≡ some top) (v : ℕ) (f : Got → Verdict) → cond (ltb (owner u top e .top) v) (Order 3) (f (stands (spot (owner u top e) v))) ≡ cond (ltb top v) (Order 3) (f (Is (recordOf told (ofUnit u) v)))
   below u top e v f =
-      ap (λ t. cond (ltb t v) (Order 3) (f (stands (spot (at u top e) v)))) (s .here u top e .tops)
-      ∙ under (ltb top v) (Order 3) (f (stands (spot (at u top e) v))) (f (Is (recordOf told (ofUnit u) v))) (λ n. ap f (stands-path u top e v (ltb-false top v n)))
+      ap (λ t. cond (ltb t v) (Order 3) (f (stands (spot (owner u top e) v)))) (s .here u top e .tops)
+      ∙ under (ltb top v) (Order 3) (f (stands (spot (owner u top e) v))) (f (Is (recordOf told (ofUnit u) v))) (λ n. ap f (stands-path u top e v (ltb-false top v n)))
 
   -- the page, and its VCI
   page-agree : (u v c : ℕ) (r : R.Record) → recordOf told (ofUnit u) v ≡ r → (f : Got → Verdict) → inPage (pageIn (Is r)) c (f (second stands (pageIn (Is r)) c)) ≡ inPage (pageIn (Is r)) c (f (Is (recordOf told (ofPage u v) c)))
@@ -102,7 +106,7 @@ module _ (card : Card) (memory : List ℕ) (told : List Line) (w : Grown told) (
       under (ltb t c) (Order 4) (f (stands (p + size * c))) (f (Is (recordOf told (ofPage u v) c))) (λ n. ap f (stands-circuit u v t p e c (ltb-false t c n)))
 
   pub judge-agree : (room : ℕ) (l : Line) → Ranged l → judgeAt card room (isFirst told) stands (shelfOf told) (size * total told) l ≡ judge card room told l
-  unfolding judgeAt judge judgeVp judgeDrop judgePage judgeVc judgeMc
+  unfolding judgeBy judge judgeVp judgeDrop judgePage judgeVc judgeMc
   judge-agree room (Bus bus) r = refl
   judge-agree room (L·Unit settings limits) r =
       first-or told _ _
@@ -130,7 +134,7 @@ module _ (card : Card) (memory : List ℕ) (told : List Line) (w : Grown told) (
       ap (λ o. putBy card (memoryOf card memory told) o v r) (owner-is u top e)
       ∙ ap (λ p. written card (memoryOf card memory told) (p + size * v) r) (s .here u top e .starts)
 
-  pub memory-agree : (l : Line) → judge card (usable memory) told l ≡ Fine → memoryBy card (memoryOf card memory told) (shelfOf told) (size * total told) l ≡ memoryOf card memory (l ∷ told)
+  pub memory-agree : (l : Line) → judge card (usable memory) told l ≡ Fine → memoryBy card (memoryOf card memory told) (size * total told) (ownerOf (shelfOf told) (unitOf l)) l ≡ memoryOf card memory (l ∷ told)
   unfolding memoryBy opens gives putVc putIn
   memory-agree (Bus bus) e = memory-still card memory told w (Bus bus) refl refl
   memory-agree (L·Unit settings limits) e =

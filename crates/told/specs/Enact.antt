@@ -19,29 +19,28 @@ use Rattle.judge.specs.declared.Paged.{Paged}
 use Rattle.judge.specs.declared.Verdict.{Verdict}
 use Rattle.judge.specs.declared.Verdict.the-variants.{Form}
 use Rattle.judge.specs.Verdicts.{pageIn}
-use Rattle.judge.specs.Owners.{ownerOf, spot}
+use Rattle.judge.specs.Owners.{unitOf, ownerOf, spot}
 use Rattle.judge.specs.Standing.{judgeAt}
 use Rattle.told.specs.Told.{opens, takes, shelfBy}
 
--- the memory after it
+-- the memory after it, where it names this unit
 unfoldable pub putBy : Card → List ℕ → Owner → ℕ → R.Record → List ℕ
-putBy card memory o vpi r = cond (o .known) (written card memory (spot (o .unit) vpi) r) memory
+putBy card memory o vpi r = cond (o .known) (written card memory (spot o vpi) r) memory
 
 unfoldable pub putIn : Card → List ℕ → Paged → ℕ → R.Record → List ℕ
 putIn card memory page vci r = cond (page .known) (written card memory (page .place + size * vci) r) memory
 
 unfoldable pub putVc : Card → List ℕ → Owner → ℕ → ℕ → R.Record → List ℕ
-putVc card memory o vpi vci r = cond (o .known) (putIn card memory (pageIn (recordAt card memory (spot (o .unit) vpi))) vci r) memory
+putVc card memory o vpi vci r = cond (o .known) (putIn card memory (pageIn (recordAt card memory (spot o vpi))) vci r) memory
 
-unfoldable pub memoryBy : Card → List ℕ → Shelf → ℕ → Line → List ℕ
-memoryBy card memory shelf used (Bus bus) = memory
-memoryBy card memory shelf used (L·Unit settings limits) = memory
-memoryBy card memory shelf used (Vp u v target class outvpi) = putBy card memory (ownerOf shelf u) v (Route (routing target class) outvpi 0)
-memoryBy card memory shelf used (Drop u v) = putBy card memory (ownerOf shelf u) v R·Drop
-memoryBy card memory shelf used (Page u v top) = putBy card memory (ownerOf shelf u) v (R·Page top used)
-memoryBy card memory shelf used (Vc u v w target class outvpi outvci) =
-    putVc card memory (ownerOf shelf u) v w (Route (routing target class) outvpi outvci)
-memoryBy card memory shelf used (Mc u session) = memory
+unfoldable pub memoryBy : Card → List ℕ → ℕ → Owner → Line → List ℕ
+memoryBy card memory used o (Bus bus) = memory
+memoryBy card memory used o (L·Unit settings limits) = memory
+memoryBy card memory used o (Vp u v target class outvpi) = putBy card memory o v (Route (routing target class) outvpi 0)
+memoryBy card memory used o (Drop u v) = putBy card memory o v R·Drop
+memoryBy card memory used o (Page u v top) = putBy card memory o v (R·Page top used)
+memoryBy card memory used o (Vc u v w target class outvpi outvci) = putVc card memory o v w (Route (routing target class) outvpi outvci)
+memoryBy card memory used o (Mc u session) = memory
 
 -- a line that is read
 abbrev pub verdictAt : Card → ℕ → Bool → (ℕ → Got) → Shelf → ℕ → Reading → Verdict
@@ -57,7 +56,7 @@ usedIn (Good l) used = used + size * takes (opens l)
 usedIn (Bad wrong) used = used
 
 abbrev pub memoryIn : Card → List ℕ → Shelf → ℕ → Reading → List ℕ
-memoryIn card memory shelf used (Good l) = memoryBy card memory shelf used l
+memoryIn card memory shelf used (Good l) = memoryBy card memory used (ownerOf shelf (unitOf l)) l
 memoryIn card memory shelf used (Bad wrong) = memory
 
 -- there is a place for a unit that it declares, and a `unit` line could give its limits

@@ -1,13 +1,30 @@
 -- `judge::judge_mc` meets its contract. Assumes nothing.
-use mathlib.Core.Path.{sym, _∙_}
+use mathlib.Core.Path.{_≡_, sym, ap, _∙_}
+use mathlib.Core.Bool.{Bool}
+use mathlib.Core.List.{List}
+use Prim.Native.Nat.{ℕ, _+_, _*_, _<_}
+use lib.ListN.{getD}
+use Rattle.octets.specs.Octets.{part}
+use Rattle.shelf.specs.Shelves.{blank}
+use Rattle.shelf.specs.Sessions.{hears}
+use Rattle.state.specs.Bytes.{shelfIn, unitBy}
+use Rattle.state.proofs.Laws.{unit-at}
 use Rattle.judge.specs.Judge.{judgeMc}
 use Rattle.judge.proofs.Chains.{nobody, somebody}
 use borrow.Author.Needs.{needs}
 use Rattle.judge.proofs.judge_mc.Statement.{statement}
 use Rattle.judge.proofs.judge_mc.Tie as tie
 
+-- the sessions that were read are those of the unit in that place
+heard : (b : List ℕ) (i session : ℕ) (sessions : List ℕ) (r : Bool) → i < 32 → sessions ≡ part b (1024 + 32 * i) 32 → r ≡ hears sessions session → r ≡ hears (getD (shelfIn b .units) i blank .sessions) session
+unfolding unitBy
+heard b i session sessions r h e q = q ∙ ap (λ l. hears l session) (e ∙ sym (ap (λ u. u .sessions) (unit-at b i blank h)))
+
 returns : tie.Need-returns
-returns c = nobody (c .before .before .args .o) _ (c .if1 .taken)
+returns c = nobody (c .before .before .before .args .o) _ (c .if1 .taken)
+
+sessions-at-requires : tie.Need-sessions-at-requires
+sessions-at-requires c κs = search needs
 
 hears-requires : tie.Need-hears-requires
 hears-requires c κs = search needs
@@ -15,14 +32,17 @@ hears-requires c κs = search needs
 returns-2 : tie.Need-returns-2
 unfolding judgeMc
 returns-2 c =
-    let a = c .before .before .before .before .before .before .args in
-    somebody (a .o) _ _ (c .before .before .before .before .if1 .left) (rw (sym (c .before .hears .ensures) ∙ c .if2 .taken))
+    let s = c .before .before .before .before .before .before in
+    let b = s .args .s .now in
+    somebody (s .args .o) _ _ (c .before .before .before .if1 .left) (rw (sym (heard b (s .args .o .at) (s .args .session) _ _ (s .pre .1) (c .before .before .sessions-at .ensures) (c .before .hears .ensures)) ∙ c .if2 .taken))
 
 returns-3 : tie.Need-returns-3
 unfolding judgeMc
 returns-3 c =
-    let a = c .before .before .before .before .before .before .args in
-    somebody (a .o) _ _ (c .before .before .before .before .if1 .left) (rw (sym (c .before .hears .ensures) ∙ c .if2 .left))
+    let s = c .before .before .before .before .before .before in
+    let b = s .args .s .now in
+    somebody (s .args .o) _ _ (c .before .before .before .if1 .left) (rw (sym (heard b (s .args .o .at) (s .args .session) _ _ (s .pre .1) (c .before .before .sessions-at .ensures) (c .before .hears .ensures)) ∙ c .if2 .left))
 
 pub judge-mc-spec : {M : Type 1} → statement M
-judge-mc-spec = tie.close (tie.spec returns hears-requires returns-2 returns-3)
+judge-mc-spec =
+    tie.close (tie.spec returns sessions-at-requires hears-requires returns-2 returns-3)

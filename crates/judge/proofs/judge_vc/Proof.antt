@@ -14,8 +14,8 @@ returns c = nobody (c .before .before .before .args .o) _ (c .if1 .taken)
 
 returns-2 : tie.Need-returns-2
 returns-2 c =
-    let a = c .before .before .before .before .before .before .args in
-    somebody (a .o) _ _ (c .before .before .before .if1 .left) (vc-above (a .card) (a .bus) _ (a .vpi) (recordAt (a .card) (a .memory .now)) (a .o .unit) (a .vci) (a .target) (a .outvpi) (c .if2 .taken))
+    let a = c .before .before .before .before .before .args in
+    somebody (a .o) _ _ (c .before .before .if1 .left) (vc-above (a .card) (a .bus) _ (a .vpi) (recordAt (a .card) (a .memory .now)) (a .o) (a .vci) (a .target) (a .outvpi) (c .if2 .taken))
 
 spot-requires : tie.Need-spot-requires
 spot-requires c κs = search needs
@@ -28,27 +28,27 @@ page-in-requires c κs = search needs
 
 returns-3 : tie.Need-returns-3
 returns-3 c =
-    let a = c .before .before .before .before .before .before .before .before .before .before .before .args in
+    let a = c .before .before .before .before .before .before .before .before .before .before .args in
     let s = recordAt (a .card) (a .memory .now) in
     let e = c .before .before .page-in .ensures ∙ ap pageIn (c .before .before .before .get .ensures ∙ ap s (c .before .before .before .before .spot .ensures)) in
-    somebody (a .o) _ _ (c .before .before .before .before .before .before .before .before .if1 .left) (vc-no-page (a .card) (a .bus) _ (a .vpi) (recordAt (a .card) (a .memory .now)) (a .o .unit) (a .vci) (a .target) (a .outvpi) (c .before .before .before .before .before .if2 .left) (sym (ap (λ p. p .known) e) ∙ not-true _ (c .if3 .taken)))
+    somebody (a .o) _ _ (c .before .before .before .before .before .before .before .if1 .left) (vc-no-page (a .card) (a .bus) _ (a .vpi) (recordAt (a .card) (a .memory .now)) (a .o) (a .vci) (a .target) (a .outvpi) (c .before .before .before .before .before .if2 .left) (sym (ap (λ p. p .known) e) ∙ not-true _ (c .if3 .taken)))
 
 returns-4 : tie.Need-returns-4
 returns-4 c =
-    let a = c .before .before .before .before .before .before .before .before .before .before .before .before .before .args in
+    let a = c .before .before .before .before .before .before .before .before .before .before .before .before .args in
     let s = recordAt (a .card) (a .memory .now) in
     let e = c .before .before .before .before .page-in .ensures ∙ ap pageIn (c .before .before .before .before .before .get .ensures ∙ ap s (c .before .before .before .before .before .before .spot .ensures)) in
-    somebody (a .o) _ _ (c .before .before .before .before .before .before .before .before .before .before .if1 .left) (vc-over (a .card) (a .bus) _ (a .vpi) (recordAt (a .card) (a .memory .now)) (a .o .unit) (a .vci) (a .target) (a .outvpi) (c .before .before .before .before .before .before .before .if2 .left) (sym (ap (λ p. p .known) e) ∙ not-false _ (c .before .before .if3 .left)) (subst (λ p. p .top < a .vci) e (c .if4 .taken)))
+    somebody (a .o) _ _ (c .before .before .before .before .before .before .before .before .before .if1 .left) (vc-over (a .card) (a .bus) _ (a .vpi) (recordAt (a .card) (a .memory .now)) (a .o) (a .vci) (a .target) (a .outvpi) (c .before .before .before .before .before .before .before .if2 .left) (sym (ap (λ p. p .known) e) ∙ not-false _ (c .before .before .if3 .left)) (subst (λ p. p .top < a .vci) e (c .if4 .taken)))
 
 off-bus-requires : tie.Need-off-bus-requires
 off-bus-requires c κs = search needs
 
 returns-5 : tie.Need-returns-5
 returns-5 c =
-    let a = c .before .before .before .before .before .before .before .before .before .before .before .before .before .before .before .args in
+    let a = c .before .before .before .before .before .before .before .before .before .before .before .before .before .before .args in
     let s = recordAt (a .card) (a .memory .now) in
     let e = c .before .before .before .before .before .before .page-in .ensures ∙ ap pageIn (c .before .before .before .before .before .before .before .get .ensures ∙ ap s (c .before .before .before .before .before .before .before .before .spot .ensures)) in
-    somebody (a .o) _ _ (c .before .before .before .before .before .before .before .before .before .before .before .before .if1 .left) (vc-off (a .card) (a .bus) _ (a .vpi) (recordAt (a .card) (a .memory .now)) (a .o .unit) (a .vci) (a .target) (a .outvpi) (c .before .before .before .before .before .before .before .before .before .if2 .left) (sym (ap (λ p. p .known) e) ∙ not-false _ (c .before .before .before .before .if3 .left)) (subst (λ p. a .vci ≤ p .top) e (c .before .before .if4 .left)) (sym (c .before .off-bus .ensures) ∙ c .if5 .taken))
+    somebody (a .o) _ _ (c .before .before .before .before .before .before .before .before .before .before .before .if1 .left) (vc-off (a .card) (a .bus) _ (a .vpi) (recordAt (a .card) (a .memory .now)) (a .o) (a .vci) (a .target) (a .outvpi) (c .before .before .before .before .before .before .before .before .before .if2 .left) (sym (ap (λ p. p .known) e) ∙ not-false _ (c .before .before .before .before .if3 .left)) (subst (λ p. a .vci ≤ p .top) e (c .before .before .if4 .left)) (sym (c .before .off-bus .ensures) ∙ c .if5 .taken))
 
 vci-spot-requires : tie.Need-vci-spot-requires
 vci-spot-requires c κs = search needs
@@ -61,20 +61,20 @@ taken-requires c κs = search needs
 
 returns-6 : tie.Need-returns-6
 returns-6 c =
-    let a = c .before .before .before .before .before .before .before .before .before .before .before .before .before .before .before .before .before .before .before .args in
+    let a = c .before .before .before .before .before .before .before .before .before .before .before .before .before .before .before .before .before .before .args in
     let s = recordAt (a .card) (a .memory .now) in
     let e = c .before .before .before .before .before .before .before .before .before .before .page-in .ensures ∙ ap pageIn (c .before .before .before .before .before .before .before .before .before .before .before .get .ensures ∙ ap s (c .before .before .before .before .before .before .before .before .before .before .before .before .spot .ensures)) in
-    somebody (a .o) _ _ (c .before .before .before .before .before .before .before .before .before .before .before .before .before .before .before .before .if1 .left) (vc-taken (a .card) (a .bus) _ (a .vpi) (recordAt (a .card) (a .memory .now)) (a .o .unit) (a .vci) (a .target) (a .outvpi) (c .before .before .before .before .before .before .before .before .before .before .before .before .before .if2 .left) (sym (ap (λ p. p .known) e) ∙ not-false _ (c .before .before .before .before .before .before .before .before .if3 .left)) (subst (λ p. a .vci ≤ p .top) e (c .before .before .before .before .before .before .if4 .left)) (sym (c .before .before .before .before .before .off-bus .ensures) ∙ c .before .before .before .before .if5 .left) (sym (c .before .taken .ensures ∙ ap taken (c .before .before .get2 .ensures ∙ ap s (c .before .before .before .vci-spot .ensures ∙ ap (λ p. p .place + size * a .vci) e))) ∙ c .if6 .taken))
+    somebody (a .o) _ _ (c .before .before .before .before .before .before .before .before .before .before .before .before .before .before .before .if1 .left) (vc-taken (a .card) (a .bus) _ (a .vpi) (recordAt (a .card) (a .memory .now)) (a .o) (a .vci) (a .target) (a .outvpi) (c .before .before .before .before .before .before .before .before .before .before .before .before .before .if2 .left) (sym (ap (λ p. p .known) e) ∙ not-false _ (c .before .before .before .before .before .before .before .before .if3 .left)) (subst (λ p. a .vci ≤ p .top) e (c .before .before .before .before .before .before .if4 .left)) (sym (c .before .before .before .before .before .off-bus .ensures) ∙ c .before .before .before .before .if5 .left) (sym (c .before .taken .ensures ∙ ap taken (c .before .before .get2 .ensures ∙ ap s (c .before .before .before .vci-spot .ensures ∙ ap (λ p. p .place + size * a .vci) e))) ∙ c .if6 .taken))
 
 asks-requires : tie.Need-asks-requires
 asks-requires c κs = search needs
 
 returns-7 : tie.Need-returns-7
 returns-7 c =
-    let a = c .before .before .before .before .before .before .before .before .before .before .before .before .before .before .before .before .before .before .before .before .args in
+    let a = c .before .before .before .before .before .before .before .before .before .before .before .before .before .before .before .before .before .before .before .args in
     let s = recordAt (a .card) (a .memory .now) in
     let e = c .before .before .before .before .before .before .before .before .before .before .before .page-in .ensures ∙ ap pageIn (c .before .before .before .before .before .before .before .before .before .before .before .before .get .ensures ∙ ap s (c .before .before .before .before .before .before .before .before .before .before .before .before .before .spot .ensures)) in
-    somebody (a .o) _ _ (c .before .before .before .before .before .before .before .before .before .before .before .before .before .before .before .before .before .if1 .left) (vc-asked (a .card) (a .bus) _ (a .vpi) (recordAt (a .card) (a .memory .now)) (a .o .unit) (a .vci) (a .target) (a .outvpi) _ (c .before .before .before .before .before .before .before .before .before .before .before .before .before .before .if2 .left) (sym (ap (λ p. p .known) e) ∙ not-false _ (c .before .before .before .before .before .before .before .before .before .if3 .left)) (subst (λ p. a .vci ≤ p .top) e (c .before .before .before .before .before .before .before .if4 .left)) (sym (c .before .before .before .before .before .before .off-bus .ensures) ∙ c .before .before .before .before .before .if5 .left) (sym (c .before .before .taken .ensures ∙ ap taken (c .before .before .before .get2 .ensures ∙ ap s (c .before .before .before .before .vci-spot .ensures ∙ ap (λ p. p .place + size * a .vci) e))) ∙ c .before .if6 .left) (c .asks .ensures))
+    somebody (a .o) _ _ (c .before .before .before .before .before .before .before .before .before .before .before .before .before .before .before .before .if1 .left) (vc-asked (a .card) (a .bus) _ (a .vpi) (recordAt (a .card) (a .memory .now)) (a .o) (a .vci) (a .target) (a .outvpi) _ (c .before .before .before .before .before .before .before .before .before .before .before .before .before .before .if2 .left) (sym (ap (λ p. p .known) e) ∙ not-false _ (c .before .before .before .before .before .before .before .before .before .if3 .left)) (subst (λ p. a .vci ≤ p .top) e (c .before .before .before .before .before .before .before .if4 .left)) (sym (c .before .before .before .before .before .before .off-bus .ensures) ∙ c .before .before .before .before .before .if5 .left) (sym (c .before .before .taken .ensures ∙ ap taken (c .before .before .before .get2 .ensures ∙ ap s (c .before .before .before .before .vci-spot .ensures ∙ ap (λ p. p .place + size * a .vci) e))) ∙ c .before .if6 .left) (c .asks .ensures))
 
 pub judge-vc-spec : {M : Type 1} → statement M
 judge-vc-spec =

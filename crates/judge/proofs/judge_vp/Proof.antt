@@ -12,16 +12,16 @@ returns c = nobody (c .before .before .before .args .o) _ (c .if1 .taken)
 
 returns-2 : tie.Need-returns-2
 returns-2 c =
-    let a = c .before .before .before .before .before .before .args in
-    somebody (a .o) _ _ (c .before .before .before .if1 .left) (vp-above (a .card) (a .bus) _ (a .vpi) _ (a .target) (a .outvpi) (c .if2 .taken))
+    let a = c .before .before .before .before .before .args in
+    somebody (a .o) _ _ (c .before .before .if1 .left) (vp-above (a .card) (a .bus) _ (a .vpi) _ (a .target) (a .outvpi) (c .if2 .taken))
 
 off-bus-requires : tie.Need-off-bus-requires
 off-bus-requires c κs = search needs
 
 returns-3 : tie.Need-returns-3
 returns-3 c =
-    let a = c .before .before .before .before .before .before .before .before .args in
-    somebody (a .o) _ _ (c .before .before .before .before .before .if1 .left) (vp-off (a .card) (a .bus) _ (a .vpi) _ (a .target) (a .outvpi) (c .before .before .if2 .left) (sym (c .before .off-bus .ensures) ∙ c .if3 .taken))
+    let a = c .before .before .before .before .before .before .before .args in
+    somebody (a .o) _ _ (c .before .before .before .before .if1 .left) (vp-off (a .card) (a .bus) _ (a .vpi) _ (a .target) (a .outvpi) (c .before .before .if2 .left) (sym (c .before .off-bus .ensures) ∙ c .if3 .taken))
 
 spot-requires : tie.Need-spot-requires
 spot-requires c κs = search needs
@@ -34,16 +34,16 @@ taken-requires c κs = search needs
 
 returns-4 : tie.Need-returns-4
 returns-4 c =
-    let a = c .before .before .before .before .before .before .before .before .before .before .before .before .args in
-    somebody (a .o) _ _ (c .before .before .before .before .before .before .before .before .before .if1 .left) (vp-taken (a .card) (a .bus) _ (a .vpi) _ (a .target) (a .outvpi) (c .before .before .before .before .before .before .if2 .left) (sym (c .before .before .before .before .before .off-bus .ensures) ∙ c .before .before .before .before .if3 .left) (sym (c .before .taken .ensures ∙ ap taken (c .before .before .get .ensures ∙ ap (recordAt (a .card) (a .memory .now)) (c .before .before .before .spot .ensures))) ∙ c .if4 .taken))
+    let a = c .before .before .before .before .before .before .before .before .before .before .before .args in
+    somebody (a .o) _ _ (c .before .before .before .before .before .before .before .before .if1 .left) (vp-taken (a .card) (a .bus) _ (a .vpi) _ (a .target) (a .outvpi) (c .before .before .before .before .before .before .if2 .left) (sym (c .before .before .before .before .before .off-bus .ensures) ∙ c .before .before .before .before .if3 .left) (sym (c .before .taken .ensures ∙ ap taken (c .before .before .get .ensures ∙ ap (recordAt (a .card) (a .memory .now)) (c .before .before .before .spot .ensures))) ∙ c .if4 .taken))
 
 asks-requires : tie.Need-asks-requires
 asks-requires c κs = search needs
 
 returns-5 : tie.Need-returns-5
 returns-5 c =
-    let a = c .before .before .before .before .before .before .before .before .before .before .before .before .before .args in
-    somebody (a .o) _ _ (c .before .before .before .before .before .before .before .before .before .before .if1 .left) (vp-asked (a .card) (a .bus) _ (a .vpi) _ (a .target) (a .outvpi) _ (c .before .before .before .before .before .before .before .if2 .left) (sym (c .before .before .before .before .before .before .off-bus .ensures) ∙ c .before .before .before .before .before .if3 .left) (sym (c .before .before .taken .ensures ∙ ap taken (c .before .before .before .get .ensures ∙ ap (recordAt (a .card) (a .memory .now)) (c .before .before .before .before .spot .ensures))) ∙ c .before .if4 .left) (c .asks .ensures))
+    let a = c .before .before .before .before .before .before .before .before .before .before .before .before .args in
+    somebody (a .o) _ _ (c .before .before .before .before .before .before .before .before .before .if1 .left) (vp-asked (a .card) (a .bus) _ (a .vpi) _ (a .target) (a .outvpi) _ (c .before .before .before .before .before .before .before .if2 .left) (sym (c .before .before .before .before .before .before .off-bus .ensures) ∙ c .before .before .before .before .before .if3 .left) (sym (c .before .before .taken .ensures ∙ ap taken (c .before .before .before .get .ensures ∙ ap (recordAt (a .card) (a .memory .now)) (c .before .before .before .before .spot .ensures))) ∙ c .before .if4 .left) (c .asks .ensures))
 
 pub judge-vp-spec : {M : Type 1} → statement M
 judge-vp-spec =

@@ -28,9 +28,9 @@ same-length c = search needs
 
 returns-2 : tie.Need-returns-2
 returns-2 c =
-    let a = c .before .before .before .before .before .before .before .before .before .before .args in
+    let a = c .before .before .before .before .before .before .before .before .before .args in
     let e = c .before .before .page-in .ensures ∙ ap pageIn (c .before .before .before .get .ensures ∙ ap (recordAt (a .card) (a .memory .now)) (c .before .before .before .before .spot .ensures)) in
-    circuit-no-page (a .card) (a .memory .now) (a .o) (a .vpi) (a .r) (a .vci) (c .before .before .before .before .before .before .before .if1 .left) (sym (ap (λ p. p .known) e) ∙ not-true _ (c .if2 .taken))
+    circuit-no-page (a .card) (a .memory .now) (a .o) (a .vpi) (a .r) (a .vci) (c .before .before .before .before .before .before .if1 .left) (sym (ap (λ p. p .known) e) ∙ not-true _ (c .if2 .taken))
 
 vci-spot-requires : tie.Need-vci-spot-requires
 vci-spot-requires c κs = search needs
@@ -43,11 +43,11 @@ same-length-2 c = search needs
 
 returns-3 : tie.Need-returns-3
 returns-3 c =
-    let a = c .before .before .before .before .before .before .before .before .before .before .before .before .before .before .before .args in
+    let a = c .before .before .before .before .before .before .before .before .before .before .before .before .before .before .args in
     let e = c .before .before .before .before .before .before .before .page-in .ensures ∙ ap pageIn (c .before .before .before .before .before .before .before .before .get .ensures ∙ ap (recordAt (a .card) (a .memory .now)) (c .before .before .before .before .before .before .before .before .before .spot .ensures)) in
     c .before .before .put .ensures
     ∙ ap (λ p. written (a .card) (a .memory .now) p (a .r)) (c .before .before .before .vci-spot .ensures ∙ ap (λ p. p .place + size * a .vci) e)
-    ∙ circuit-put (a .card) (a .memory .now) (a .o) (a .vpi) (a .r) (a .vci) (c .before .before .before .before .before .before .before .before .before .before .before .before .if1 .left) (sym (ap (λ p. p .known) e) ∙ not-false _ (c .before .before .before .before .before .if2 .left))
+    ∙ circuit-put (a .card) (a .memory .now) (a .o) (a .vpi) (a .r) (a .vci) (c .before .before .before .before .before .before .before .before .before .before .before .if1 .left) (sym (ap (λ p. p .known) e) ∙ not-false _ (c .before .before .before .before .before .if2 .left))
 
 pub put-circuit-spec : {M : Type 1} → statement M
 put-circuit-spec =

@@ -22,9 +22,9 @@ same-length c = search needs
 
 returns-2 : tie.Need-returns-2
 returns-2 c =
-    let a = c .before .before .before .before .before .before .before .before .before .args in
+    let a = c .before .before .before .before .before .before .before .before .args in
     c .before .before .put .ensures ∙ ap (λ p. written (a .card) (a .memory .now) p (a .r)) (c .before .before .before .spot .ensures)
-    ∙ path-put (a .card) (a .memory .now) (a .o) (a .vpi) (a .r) (c .before .before .before .before .before .before .if1 .left)
+    ∙ path-put (a .card) (a .memory .now) (a .o) (a .vpi) (a .r) (c .before .before .before .before .before .if1 .left)
 
 pub put-path-spec : {M : Type 1} → statement M
 put-path-spec = tie.close (tie.spec returns spot-requires put-requires same-length returns-2)

@@ -1,6 +1,6 @@
 -- `table::write` meets its contract. Assumes nothing.
-use mathlib.Core.Path.{_∙_}
-use Rattle.lookup.specs.declared.Record.the-variants.{Drop, Route, Page}
+use mathlib.Core.Path.{ap, _∙_}
+use Rattle.lookup.specs.declared.Record.the-variants.{Route}
 use Rattle.told.specs.Enact.{putBy, putVc, memoryBy}
 use borrow.Author.Needs.{needs}
 use Rattle.table.proofs.write.Statement.{statement}
@@ -18,26 +18,17 @@ enum-known-line c = search needs
 write-requires : tie.Need-write-requires
 write-requires c κs = search needs
 
-find-owner-requires : tie.Need-find-owner-requires
-find-owner-requires c κs = search needs
-
 put-path-requires : tie.Need-put-path-requires
 put-path-requires c κs = search needs
 
 enum-known-line-2 : tie.Need-enum-known-line-2
 enum-known-line-2 c = search needs
 
-find-owner-requires-2 : tie.Need-find-owner-requires-2
-find-owner-requires-2 c κs = search needs
-
 put-path-requires-2 : tie.Need-put-path-requires-2
 put-path-requires-2 c κs = search needs
 
 enum-known-line-3 : tie.Need-enum-known-line-3
 enum-known-line-3 c = search needs
-
-find-owner-requires-3 : tie.Need-find-owner-requires-3
-find-owner-requires-3 c κs = search needs
 
 put-path-requires-3 : tie.Need-put-path-requires-3
 put-path-requires-3 c κs = search needs
@@ -47,9 +38,6 @@ enum-known-line-4 c = search needs
 
 write-requires-2 : tie.Need-write-requires-2
 write-requires-2 c κs = search needs
-
-find-owner-requires-4 : tie.Need-find-owner-requires-4
-find-owner-requires-4 c κs = search needs
 
 put-circuit-requires : tie.Need-put-circuit-requires
 put-circuit-requires c κs = search needs
@@ -71,32 +59,24 @@ same-length c = search needs
 returns-3 : tie.Need-returns-3
 unfolding memoryBy
 returns-3 c =
-    let a = c .before .before .before .before .before .before .before .before .before .before .before .args in
-    let l = c .before .before .before .before .before .before .before .line .given in
+    let a = c .before .before .before .before .before .before .before .before .before .args in
+    let l = c .before .before .before .before .before .before .line .given in
     c .before .before .put-path .ensures
-    ∙ (λ i. putBy (a .card) (a .memory .now) (c .before .before .before .find-owner .ensures i) (l .0 .1 .0) (Route (c .before .before .before .before .before .write .ensures i) (l .0 .1 .1 .1 .1 .0) 0))
-    ∙ rw (l .1)
+    ∙ ap (λ h. putBy (a .card) (a .memory .now) (a .o) (l .0 .1 .0) (Route h (l .0 .1 .1 .1 .1 .0) 0)) (c .before .before .before .before .write .ensures) ∙ rw (l .1)
 
 same-length-2 : tie.Need-same-length-2
 same-length-2 c = search needs
 
 returns-4 : tie.Need-returns-4
 unfolding memoryBy
-returns-4 c =
-    let a = c .before .before .before .before .before .before .before .before .before .before .args in
-    let l = c .before .before .before .before .before .before .line2 .given in
-    c .before .before .put-path2 .ensures ∙ (λ i. putBy (a .card) (a .memory .now) (c .before .before .before .find-owner2 .ensures i) (l .0 .1 .0) Drop) ∙ rw (l .1)
+returns-4 c = c .before .before .put-path2 .ensures ∙ rw (c .before .before .before .before .before .line2 .given .1)
 
 same-length-3 : tie.Need-same-length-3
 same-length-3 c = search needs
 
 returns-5 : tie.Need-returns-5
 unfolding memoryBy
-returns-5 c =
-    let a = c .before .before .before .before .before .before .before .before .before .before .args in
-    let l = c .before .before .before .before .before .before .line3 .given in
-    c .before .before .put-path3 .ensures
-    ∙ (λ i. putBy (a .card) (a .memory .now) (c .before .before .before .find-owner3 .ensures i) (l .0 .1 .0) (Page (l .0 .1 .1 .0) (a .used))) ∙ rw (l .1)
+returns-5 c = c .before .before .put-path3 .ensures ∙ rw (c .before .before .before .before .before .line3 .given .1)
 
 same-length-4 : tie.Need-same-length-4
 same-length-4 c = search needs
@@ -104,11 +84,10 @@ same-length-4 c = search needs
 returns-6 : tie.Need-returns-6
 unfolding memoryBy
 returns-6 c =
-    let a = c .before .before .before .before .before .before .before .before .before .before .before .args in
-    let l = c .before .before .before .before .before .before .before .line4 .given in
+    let a = c .before .before .before .before .before .before .before .before .before .args in
+    let l = c .before .before .before .before .before .before .line4 .given in
     c .before .before .put-circuit .ensures
-    ∙ (λ i. putVc (a .card) (a .memory .now) (c .before .before .before .find-owner4 .ensures i) (l .0 .1 .0) (l .0 .1 .1 .0) (Route (c .before .before .before .before .before .write2 .ensures i) (l .0 .1 .1 .1 .1 .1 .0) (l .0 .1 .1 .1 .1 .1 .1 .0)))
-    ∙ rw (l .1)
+    ∙ ap (λ h. putVc (a .card) (a .memory .now) (a .o) (l .0 .1 .0) (l .0 .1 .1 .0) (Route h (l .0 .1 .1 .1 .1 .1 .0) (l .0 .1 .1 .1 .1 .1 .1 .0))) (c .before .before .before .before .write2 .ensures) ∙ rw (l .1)
 
 returns-7 : tie.Need-returns-7
 unfolding memoryBy
@@ -122,17 +101,13 @@ write-spec =
     enum-told-2
     enum-known-line
     write-requires
-    find-owner-requires
     put-path-requires
     enum-known-line-2
-    find-owner-requires-2
     put-path-requires-2
     enum-known-line-3
-    find-owner-requires-3
     put-path-requires-3
     enum-known-line-4
     write-requires-2
-    find-owner-requires-4
     put-circuit-requires
     enum-told-3
     returns
