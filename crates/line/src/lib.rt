@@ -7,6 +7,7 @@ use outlet::Mode;
 use outlet::Outlet;
 use shelf::Settings;
 ghost use mathlib.Core.Path.{_≡_};
+ghost use lib.ListN.{length};
 ghost use Rattle.text.specs.Text.{fieldsOf, at, from2, from4, from6, from7, from9};
 ghost use Rattle.line.specs.Ranged.{ranged as rangedOf, num as numGives, aimOf};
 ghost use Rattle.line.specs.Units.{settingsOn, settingsOf, least as leastOf, mostLength, mostLimit, mostVbr, limitsAfter, limitsIn, limitsOf};
@@ -576,8 +577,9 @@ fn line_of(kind: Kind, s: &[u8]) -> Reading
     }
 }
 
-// What a line says, or what is wrong with it. The text is the line without its newline; ended says whether it had one.
-pub fn read(text: &[u8], ended: bool) -> Reading
+// What a line says, or what is wrong with it. The text is the line without its newline; ended says whether it had one, fields how many it has.
+pub fn read(text: &[u8], ended: bool, fields: usize) -> Reading
+    requires { ⌜ fields ≡ length (fieldsOf (now text)) ⌝ }
     ensures { λ r. ⌜ r ≡ readingOf (now (text .entry)) ended ⌝ }
 {
     if !ended {
@@ -585,7 +587,7 @@ pub fn read(text: &[u8], ended: bool) -> Reading
     }
     match word_of(text::field(text, 1)) {
         Word::Known(kind) => {
-            if text::count(text) != fields_in(kind) {
+            if fields != fields_in(kind) {
                 return Reading::Bad(Wrong::Fields);
             }
             line_of(kind, text::after(text))

@@ -309,8 +309,9 @@ fn read_lines(card: Card, text: &[u8], memory: &mut [u8], s: &mut [u8]) -> Progr
     let mut p = begin();
     let mut from: usize = 0;
     while from < text.len() {
-        let end = text::field_end(text, from, b'\n');
-        let reading = line::read(&text[from..end], end < text.len());
+        let stretch = text::line_at(text, from);
+        let end = stretch.end;
+        let reading = line::read(&text[from..end], end < text.len(), stretch.fields);
         p = step(card, room, memory, s, p, reading);
         let verdict = p.verdict;
         if !judge::is_fine(verdict) {

@@ -10,7 +10,7 @@ use lib.Dec.{eqb, leb}
 use lib.ListN.{length, getD, take, drop, drop-of-length-le, length-drop}
 use lib.Seq.{drop-cons, drop-drop, take-all}
 use borrow.Author.Tests.{eq-eqb, ne-eqb, leb-true, leb-false}
-use Rattle.text.specs.Text.{split, push, at, afterOf}
+use Rattle.text.specs.Text.{split, push, at, lineFrom, afterOf}
 
 -- one byte
 module _ (tab : ℕ) (s : List ℕ) (i : ℕ) (h : i < length s) where
@@ -101,6 +101,24 @@ end-end tab s i h = rw (split-end tab s i h)
 
 pub count-end : (tab : ℕ) (s : List ℕ) (i : ℕ) → length s ≤ i → length (split tab (drop i s)) ≡ 1
 count-end tab s i h = rw (split-end tab s i h)
+
+-- how many fields the line from here on has, byte by byte
+module _ (s : List ℕ) (i : ℕ) (h : i < length s) where
+  pub line-ended : getD s i 0 ≡ 10 → length (split 9 (lineFrom s i)) ≡ 1
+  unfolding split
+  line-ended e = rw (split-tab 10 s i h e)
+
+  pub line-tab : getD s i 0 ≡ 9 → length (split 9 (lineFrom s i)) ≡ suc (length (split 9 (lineFrom s (i + 1))))
+  unfolding split
+  line-tab e = rw (split-byte 10 s i h (λ t. absurd (omega arith)), e)
+
+  pub line-byte : (getD s i 0 ≡ 10 → ⊥) → (getD s i 0 ≡ 9 → ⊥) → length (split 9 (lineFrom s i)) ≡ length (split 9 (lineFrom s (i + 1)))
+  unfolding split
+  line-byte n t = rw (split-byte 10 s i h n, ne-eqb _ _ t) (length-push (getD s i 0) 9 (lineFrom s (i + 1)))
+
+pub line-none : (s : List ℕ) (i : ℕ) → length s ≤ i → length (split 9 (lineFrom s i)) ≡ 1
+unfolding split
+line-none s i h = rw (split-end 10 s i h)
 
 -- the same of a field that starts at from and ends at e
 module _ (tab : ℕ) (s : List ℕ) (from e : ℕ) (q : e ≡ from + length (at (split tab (drop from s)) 0)) where

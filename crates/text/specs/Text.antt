@@ -22,6 +22,10 @@ split parting (b ∷ r) = cond (eqb b parting) ([] ∷ split parting r) (push b 
 abbrev pub fieldsOf : List ℕ → List (List ℕ)
 fieldsOf text = split 9 text
 
+-- the line that starts at from: a newline is byte 10
+abbrev pub lineFrom : List ℕ → ℕ → List ℕ
+lineFrom text from = at (split 10 (drop from text)) 0
+
 -- field f; 02, W5: "counted from the word as 1"
 abbrev pub fieldOf : ℕ → List (List ℕ) → List ℕ
 fieldOf f fs = at fs (f - 1)

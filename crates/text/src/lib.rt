@@ -5,7 +5,7 @@ ghost use lib.ListN.{length, drop};
 ghost use mathlib.Core.Bool.{true};
 ghost use lib.Bits.{bitXor};
 ghost use Rattle.octets.specs.Octets.{splice};
-ghost use Rattle.text.specs.Text.{at, split, fieldsOf, fieldOf, afterOf, same};
+ghost use Rattle.text.specs.Text.{lineFrom, at, split, fieldsOf, fieldOf, afterOf, same};
 ghost use Rattle.text.specs.Digits.{digits as digitsOf, decimalOf};
 ghost use Rattle.text.specs.Hex.{hexDigit, isHex, unhex as unhexed, capital as capitalOf, hexOf};
 ghost use Rattle.text.specs.Writing.{Wrote};
@@ -13,6 +13,8 @@ ghost use Rattle.text.specs.Decimals.{decimal as inDecimal, numberField,
 ghost use Rattle.text.specs.Fnv.{step as stepped, sum as sumOf};
 
 const TAB: u8 = b'\t';
+
+const NEWLINE: u8 = b'\n';
 
 // Where the field that starts at from ends: at the next byte that parts fields, or at the end.
 pub fn field_end(s: &[u8], from: usize, parting: u8) -> usize
@@ -71,6 +73,31 @@ pub fn count(s: &[u8]) -> usize
         i += 1;
     }
     n
+}
+
+// Where a line ends, and how many fields it has.
+pub struct Stretch {
+    pub end: usize,
+    pub fields: usize,
+}
+
+// The line that starts at from: both in one pass.
+pub fn line_at(s: &[u8], from: usize) -> Stretch
+    requires { ⌜ from ≤ length (now s) ⌝ }
+    ensures { λ r. ⌜ (r .end ≡ from + length (lineFrom (now (s .entry)) from)) × (r .end ≤ length (now (s .entry))) × (r .fields ≡ length (fieldsOf (lineFrom (now (s .entry)) from))) ⌝ }
+{
+    let mut fields: usize = 1;
+    let mut end = from;
+    while end < s.len() {
+        if s[end] == NEWLINE {
+            return Stretch { end, fields };
+        }
+        if s[end] == TAB {
+            fields += 1;
+        }
+        end += 1;
+    }
+    Stretch { end, fields }
 }
 
 // Whether two texts are the same.

@@ -20,18 +20,15 @@ word-of-requires c κs = search needs
 enum-known-kind : tie.Need-enum-known-kind
 enum-known-kind c = search needs
 
-count-requires : tie.Need-count-requires
-count-requires c κs = search needs
-
 fields-in-requires : tie.Need-fields-in-requires
 fields-in-requires c κs = search needs
 
 returns-2 : tie.Need-returns-2
 unfolding readingOf spoken
 returns-2 c =
-    let p1 = c .before .before .before .before in
+    let p1 = c .before .before .before in
     let p2 = p1 .before .before .before .before .before .before in
-    simp (not-false (p2 .args .ended) (p1 .before .before .before .before .if1 .left), sym (p1 .before .before .word-of .ensures ∙ ap wordOf (p1 .before .before .before .field .ensures)) ∙ p1 .kind .given .1, ne-eqb _ _ (λ e. c .if2 .taken (c .before .before .count .ensures ∙ e ∙ sym (c .before .fields-in .ensures))))
+    simp (not-false (p2 .args .ended) (p1 .before .before .before .before .if1 .left), sym (p1 .before .before .word-of .ensures ∙ ap wordOf (p1 .before .before .before .field .ensures)) ∙ p1 .kind .given .1, ne-eqb _ _ (λ e. c .if2 .taken (p2 .pre ∙ e ∙ sym (c .before .fields-in .ensures))))
 
 after-requires : tie.Need-after-requires
 after-requires c κs = search needs
@@ -45,9 +42,9 @@ enum-told c = search needs
 returns-3 : tie.Need-returns-3
 unfolding readingOf spoken
 returns-3 c =
-    let p1 = c .before .before .before .before .before .before in
+    let p1 = c .before .before .before .before .before in
     let p2 = p1 .before .before .before .before .before .before in
-    c .line-of .ensures ∙ line-rest _ _ _ (c .before .after .ensures) ∙ simp (not-false (p2 .args .ended) (p1 .before .before .before .before .if1 .left), sym (p1 .before .before .word-of .ensures ∙ ap wordOf (p1 .before .before .before .field .ensures)) ∙ p1 .kind .given .1, eq-eqb _ _ (sym (c .before .before .before .before .count .ensures) ∙ c .before .before .if2 .left ∙ c .before .before .before .fields-in .ensures))
+    c .line-of .ensures ∙ line-rest _ _ _ (c .before .after .ensures) ∙ simp (not-false (p2 .args .ended) (p1 .before .before .before .before .if1 .left), sym (p1 .before .before .word-of .ensures ∙ ap wordOf (p1 .before .before .before .field .ensures)) ∙ p1 .kind .given .1, eq-eqb _ _ (sym (p2 .pre) ∙ c .before .before .if2 .left ∙ c .before .before .before .fields-in .ensures))
 
 returns-4 : tie.Need-returns-4
 unfolding readingOf spoken
@@ -63,7 +60,6 @@ read-spec =
     field-requires
     word-of-requires
     enum-known-kind
-    count-requires
     fields-in-requires
     returns-2
     after-requires

@@ -4,6 +4,8 @@ use mathlib.Core.List.{List, []}
 use Prim.Native.Nat.{_+_, _-_}
 use lib.ListN.{length}
 use borrow.Author.Tests.{eq-eqb, not-true, not-false}
+use Rattle.text.specs.Text.{fieldsOf}
+use Rattle.text.proofs.Split.{field-is}
 use Rattle.lookup.specs.Record.{usable}
 use Rattle.state.specs.Bytes.{shelfIn}
 use Rattle.line.specs.declared.Line.{Line}
@@ -47,20 +49,23 @@ loop-holds c =
     let p = c .before .before .before .before .before .before .pre in
     ([], subst₂ (λ q s. Between (a .card) (a .memory .now) (a .text .now) [] 0 q (a .memory .now) s) (sym (c .begin .ensures)) (sym (p .2)) (at-start (a .card) (a .memory .now) (a .text .now) (p .1) (c .before .before .if1 .left)), refl, refl)
 
-field-end-requires : tie.Need-field-end-requires Inv-loop μ-loop
-field-end-requires c κs = c .before .loop .inv .1 .inside
+line-at-requires : tie.Need-line-at-requires Inv-loop μ-loop
+line-at-requires c κs = c .before .loop .inv .1 .inside
 
 sub-read : tie.Need-sub-read Inv-loop μ-loop
-sub-read c = omega (arith, c .field-end .ensures .0)
+sub-read c = omega (arith, c .line-at .ensures .0)
 
 part-read-start : tie.Need-part-read-start Inv-loop μ-loop
-part-read-start c = omega (arith, c .field-end .ensures .0)
+part-read-start c = omega (arith, c .line-at .ensures .0)
 
 part-read-end : tie.Need-part-read-end Inv-loop μ-loop
-part-read-end c = omega (arith, c .field-end .ensures .1)
+part-read-end c = omega (arith, c .line-at .ensures .1)
 
 read-requires : tie.Need-read-requires Inv-loop μ-loop
-read-requires c κs = search needs
+read-requires c κs =
+    let t = c .before .before .before .before .before .before .before .before .before .before .args .text .now in
+    let e = c .before .line-at in
+    e .ensures .2 ∙ ap (λ l. length (fieldsOf l)) (sym (field-is 10 t (c .before .before .before .loop .from) (e .result .end) (e .ensures .0)))
 
 step-requires : tie.Need-step-requires Inv-loop μ-loop
 step-requires c κs =
@@ -68,8 +73,8 @@ step-requires c κs =
     let l = c .before .before .before .before .before .before .loop in
     let told = l .inv .0 in
     let b = l .inv .1 in
-    let e = c .before .before .before .before .field-end .result in
-    let q = c .before .before .before .before .field-end .ensures .0 in
+    let e = c .before .before .before .before .line-at .result .end in
+    let q = c .before .before .before .before .line-at .ensures .0 in
     let h = c .before .before .before .before .before .loop-test .taken in
     let r = c .before .before .read .result in
     let k = c .before .before .read .ensures in
@@ -97,8 +102,8 @@ returns-2 c =
     let l = c .before .before .before .before .before .before .before .before .before .before .before .before .before .loop in
     let told = l .inv .0 in
     let b = l .inv .1 in
-    let e = c .before .before .before .before .before .before .before .before .before .before .before .field-end .result in
-    let q = c .before .before .before .before .before .before .before .before .before .before .before .field-end .ensures .0 in
+    let e = c .before .before .before .before .before .before .before .before .before .before .before .line-at .result .end in
+    let q = c .before .before .before .before .before .before .before .before .before .before .before .line-at .ensures .0 in
     let h = c .before .before .before .before .before .before .before .before .before .before .before .before .loop-test .taken in
     let r = c .before .before .before .before .before .before .before .before .before .read .result in
     let k = c .before .before .before .before .before .before .before .before .before .read .ensures in
@@ -119,10 +124,10 @@ returns-2 c =
     )
 
 add-from : tie.Need-add-from Inv-loop μ-loop
-add-from c = omega (arith, c .before .before .before .before .before .before .before .before .before .before .before .field-end .ensures .1)
+add-from c = omega (arith, c .before .before .before .before .before .before .before .before .before .before .before .line-at .ensures .1)
 
 loop-less : tie.Need-loop-less Inv-loop μ-loop
-loop-less c = omega (arith, c .before .before .before .before .before .before .before .before .before .before .before .field-end .ensures .0)
+loop-less c = omega (arith, c .before .before .before .before .before .before .before .before .before .before .before .line-at .ensures .0)
 
 loop-again : tie.Need-loop-again Inv-loop μ-loop
 unfolding progressBy
@@ -131,8 +136,8 @@ loop-again c =
     let l = c .before .before .before .before .before .before .before .before .before .before .before .before .before .loop in
     let told = l .inv .0 in
     let b = l .inv .1 in
-    let e = c .before .before .before .before .before .before .before .before .before .before .before .field-end .result in
-    let q = c .before .before .before .before .before .before .before .before .before .before .before .field-end .ensures .0 in
+    let e = c .before .before .before .before .before .before .before .before .before .before .before .line-at .result .end in
+    let q = c .before .before .before .before .before .before .before .before .before .before .before .line-at .ensures .0 in
     let h = c .before .before .before .before .before .before .before .before .before .before .before .before .loop-test .taken in
     let r = c .before .before .before .before .before .before .before .before .before .read .result in
     let k = c .before .before .before .before .before .before .before .before .before .read .ensures in
@@ -177,7 +182,7 @@ read-lines-spec =
     usable-requires
     begin-requires
     loop-holds
-    field-end-requires
+    line-at-requires
     sub-read
     part-read-start
     part-read-end
