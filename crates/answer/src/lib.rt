@@ -222,64 +222,25 @@ impl Counters {
 }
 
 // The sets of one counter that rise all the time, each written out: the others are then not looked at.
-fn queued_up(c: Counters) -> Counters
+fn queued_up(mut c: Counters) -> Counters
     ensures { λ r. ⌜ r ≡ raisedBy c #queued ⌝ }
 {
-    Counters {
-        arrived: c.arrived,
-        hec: c.hec,
-        ignored: c.ignored,
-        misrouted: c.misrouted,
-        inletfull: c.inletfull,
-        sent: c.sent,
-        unheard: c.unheard,
-        damaged: c.damaged,
-        queued: std::num::wrapping_add_u32(c.queued, 1),
-        full: c.full,
-        clp: c.clp,
-        wide: c.wide,
-        taken: c.taken,
-    }
+    c.queued = std::num::wrapping_add_u32(c.queued, 1);
+    c
 }
 
-fn arrived_up(c: Counters) -> Counters
+fn arrived_up(mut c: Counters) -> Counters
     ensures { λ r. ⌜ r ≡ raisedBy c #arrived ⌝ }
 {
-    Counters {
-        arrived: std::num::wrapping_add_u32(c.arrived, 1),
-        hec: c.hec,
-        ignored: c.ignored,
-        misrouted: c.misrouted,
-        inletfull: c.inletfull,
-        sent: c.sent,
-        unheard: c.unheard,
-        damaged: c.damaged,
-        queued: c.queued,
-        full: c.full,
-        clp: c.clp,
-        wide: c.wide,
-        taken: c.taken,
-    }
+    c.arrived = std::num::wrapping_add_u32(c.arrived, 1);
+    c
 }
 
-fn taken_up(c: Counters) -> Counters
+fn taken_up(mut c: Counters) -> Counters
     ensures { λ r. ⌜ r ≡ raisedBy c #taken ⌝ }
 {
-    Counters {
-        arrived: c.arrived,
-        hec: c.hec,
-        ignored: c.ignored,
-        misrouted: c.misrouted,
-        inletfull: c.inletfull,
-        sent: c.sent,
-        unheard: c.unheard,
-        damaged: c.damaged,
-        queued: c.queued,
-        full: c.full,
-        clp: c.clp,
-        wide: c.wide,
-        taken: std::num::wrapping_add_u32(c.taken, 1),
-    }
+    c.taken = std::num::wrapping_add_u32(c.taken, 1);
+    c
 }
 
 // Each of a set of counters one up.

@@ -4,7 +4,7 @@ use mathlib.Core.List.{List}
 use Rattle.text.specs.Text.{fieldsOf}
 use Rattle.command.specs.declared.Command.the-variants as command
 use Rattle.command.specs.declared.Reading.{Reading}
-use Rattle.command.specs.declared.Reading.the-variants.{Does, Bad}
+use Rattle.command.specs.declared.Reading.the-variants.{Does}
 use Rattle.command.specs.Fields.{numberIn, unitIn, spanIn}
 use Rattle.command.specs.Lent.{num, octet, span}
 

@@ -1,6 +1,6 @@
 -- The history, and the counters that it makes. Assumes nothing.
 use Prim.Native.Nat.{ℕ, suc, _%_, _^_}
-use mathlib.Core.Bool.{Bool, true, false, cond, _&&_}
+use mathlib.Core.Bool.{Bool, cond, _&&_}
 use mathlib.Core.List.{List, [], _∷_, map}
 use lib.Dec.{eqb}
 use Rattle.answer.specs.declared.Counters as C

@@ -2,7 +2,6 @@
 use Prim.Native.Nat.{ℕ, _+_, _%_, _^_}
 use mathlib.Core.Bool.{Bool, false, _||_}
 use mathlib.Core.List.{List, [], _∷_, _++_, map}
-use lib.Dec.{eqb}
 use lib.ListN.{length, set, replicate}
 use Rattle.bus.specs.Routing.{routing}
 use Rattle.bus.specs.Frame.{cell, sealed}
@@ -14,7 +13,6 @@ use Rattle.arbiter.specs.declared.Granted.{Granted}
 use Rattle.shelf.specs.declared.Found as F
 use Rattle.shelf.specs.declared.Found.the-variants.{At, Nothing}
 use Rattle.line.specs.declared.Line.{Line}
-use Rattle.answer.specs.declared.Hearing as A
 use Rattle.answer.specs.declared.Answer.the-variants.{Framed}
 use Rattle.answer.specs.declared.Answer as N
 use Rattle.answer.specs.Answers.{queuedOne, isAddressed}

@@ -1,11 +1,11 @@
 -- The six bytes of an `arrive` line's hex fields. Assumes nothing.
-use mathlib.Core.Path.{_≡_, refl, sym, ap, ap₂, _∙_}
-use mathlib.Core.Bool.{Bool, true, false, _&&_}
-use mathlib.Core.List.{List, [], _∷_, _++_, append-nil}
+use mathlib.Core.Path.{_≡_, ap, _∙_}
+use mathlib.Core.Bool.{true}
+use mathlib.Core.List.{List, _++_, append-nil}
 use Prim.Native.Nat.{ℕ, _+_, _/_, _≤_}
 use native.Mathlib.Omega.{arith}
 use lib.Dec.{eqb}
-use lib.ListN.{length, drop, drop-of-length-le, length-append}
+use lib.ListN.{length, drop-of-length-le, length-append}
 use borrow.Author.Tests.{eqb-true}
 use Rattle.octets.specs.Octets.{splice}
 use Rattle.text.proofs.Numbers.{first, second}

@@ -1,15 +1,11 @@
 -- Which frames are damaged, by their bytes. Assumes nothing.
-use Prim.Native.Nat.{ℕ}
 use mathlib.Core.Path.{_≡_, sym, ap, _∙_}
 use mathlib.Core.Logic.{_↔_}
-use mathlib.Core.List.{List}
 use Rattle.bus.specs.Frame.{heard}
 use Rattle.bus.specs.declared.Heard.the-variants as sort
-use Rattle.line.specs.declared.Line.{Line}
 use Rattle.answer.specs.declared.Hearing.the-variants as hearing
 use Rattle.paper.specs.Cells.{two, four, class, Damaged}
 use Rattle.paper.proofs.Cells.{HeardAs, as-damaged, as-cell, heard-as}
-use Rattle.document.specs.Shelf.{Unit as D·Unit}
 use Rattle.document.specs.Hearing.{hearingOf}
 use Rattle.fates.specs.Damage.{DamagedIff}
 use Rattle.fates.proofs.Fated.{fate-iff}

@@ -46,8 +46,6 @@ use Rattle.arriving.specs.declared.Way.the-variants.{Bus, Lost}
 use Rattle.arriving.proofs.Leaves.{inlet-inside}
 use Rattle.bus.specs.declared.Heard as H
 use Rattle.hearing.specs.Hearings as hearing
-use Rattle.hearing.specs.declared.Plan as P
-use Rattle.hearing.specs.declared.Plan.the-variants as plans
 use Rattle.hearing.proofs.Plans.{plan-queue, outlet-inside}
 use Rattle.taking.specs.Takes as taking
 use Rattle.document.specs.Events.{Event, arrive, frame, hear, take-cell, count, named}
@@ -230,9 +228,9 @@ module _ (w : World) (i : ℕ) (housed : Housed i (unitAt (w .shelf) i) (length 
   unfolding hearing.storeBy
   heard-so h bytes whole = go (hearing.planOf u h) refl
     where
-      go : (p : P.Plan) → hearing.planOf u h ≡ p → Within i (w .store) (hearing.storeBy p u i (w .store) bytes)
-      go (plans.Lost fate) e = as-was i (w .store)
-      go (plans.Queue q) e =
+      go : (p : hearing.Plan) → hearing.planOf u h ≡ p → Within i (w .store) (hearing.storeBy p u i (w .store) bytes)
+      go (hearing.Lost fate) e = as-was i (w .store)
+      go (hearing.Queue q) e =
           put-within (w .store) i (outletSlot (u .outlet .limits) q (tail (queue (u .outlet) q) (capacity (u .outlet .limits) q))) bytes whole
           (outlet-inside i (partOf i + 8192) u q own-part (plan-queue u h q e)) (housed .inside)
 

@@ -12,7 +12,6 @@ use Rattle.card.specs.declared.Card.{Card}
 use Rattle.shelf.specs.Shelves.{placeFrom}
 use Rattle.shelf.specs.declared.Found as F
 use Rattle.shelf.specs.declared.Found.the-variants as found
-use Rattle.arbiter.specs.Arbitration.{renewedFrom}
 use Rattle.arbiter.specs.declared.Arbiter.{Arbiter}
 use Rattle.arbiter.proofs.Grants.{granted-length}
 use Rattle.outlet.specs.declared.Leaving as L

@@ -1,7 +1,7 @@
 -- Frames go on: who asks is granted in its turn, who is granted sends. Assumes nothing.
 use Prim.Native.Nat.{ℕ, _+_, _%_, _^_, _<_, _≤_}
 use mathlib.Core.Path.{_≡_}
-use mathlib.Core.Logic.{_↔_, _⊎_}
+use mathlib.Core.Logic.{_↔_}
 use mathlib.Core.List.{List, [], _∷_}
 use lib.Dec.{eqb}
 use lib.ListN.{length, getD}
@@ -12,7 +12,7 @@ use Rattle.line.specs.declared.Line.{Line}
 use Rattle.answer.specs.declared.Answer.the-variants.{Framed}
 use Rattle.document.specs.Events.{frame, answers}
 use Rattle.paper.specs.Grants.{Renewed as RenewedIn}
-use Rattle.document.specs.Shelf.{inOutlet, Routed, Unit as D·Unit, Shelf, numberOf, held, findIn, unitAt, opened}
+use Rattle.document.specs.Shelf.{inOutlet, Routed, Unit as D·Unit, Shelf, numberOf, findIn, unitAt, opened}
 use Rattle.document.specs.Frame.{requests, frameOf, granting}
 use Rattle.document.specs.Steps.{happensTo}
 use Rattle.fates.specs.Held.{unitAfter}

@@ -24,7 +24,6 @@ use Rattle.line.specs.declared.Line.the-variants.{Bus, Unit as L·Unit, Vp, Dro
 use Rattle.told.specs.Told.{only, either}
 use Rattle.paper.specs.Words.{InRange, AllInRange}
 use Rattle.told.specs.Served.{Serving, by-vp, by-drop, by-vc, serves, served}
-use Rattle.lookup.specs.Record.{usable}
 use Rattle.answer.specs.declared.Arrival.the-variants.{Hec, Ignored, Misrouted}
 use Rattle.document.specs.Shelf.{Routed}
 use Rattle.document.specs.Arrival.{Way, goes, lost, routed, wayBy, wayFor, wayOf, headerOf}

@@ -11,7 +11,6 @@ use Rattle.store.specs.Places.{Cell, inletSlot, cellAt}
 use Rattle.shelf.specs.Shelves.{declared}
 use Rattle.shelf.specs.declared.Unit as U
 use Rattle.shelf.specs.Shelf.{Shelf}
-use Rattle.answer.specs.declared.Hearing as A
 use Rattle.answer.specs.Answers.{#sent, #unheard, hearingRises, queuedOne, isAddressed}
 use Rattle.soundness.specs.Admission.{unitAt, withUnit, withInlet, Housed}
 use Rattle.hearing.specs.Hearings.{Copy, copyOf, storeOf}

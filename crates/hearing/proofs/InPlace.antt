@@ -37,10 +37,8 @@ use Rattle.soundness.specs.declared.Admitted as D
 use Rattle.soundness.specs.declared.Admitted.the-variants.{At, Refused}
 use Rattle.soundness.proofs.Laws.{decided-at, decided-refused}
 use Rattle.soundness.proofs.InPlace.{in-place, refused-place}
-use Rattle.hearing.specs.Hearings.{planFor, planTo, planOf, fateBy, copyBy, slotOf, storeBy, copyOf, storeOf, doneAt, storeAt, hearDone}
+use Rattle.hearing.specs.Hearings.{Plan, Queue, Lost, planFor, planTo, planOf, fateBy, copyBy, slotOf, storeBy, copyOf, storeOf, doneAt, storeAt, hearDone}
 use Rattle.hearing.specs.InPlace.{stateBy, stateAt, outcomeAt, letInPlace, hearOut, hearState, hearStoreIn}
-use Rattle.hearing.specs.declared.Plan.{Plan}
-use Rattle.hearing.specs.declared.Plan.the-variants.{Queue, Lost}
 use Rattle.hearing.proofs.Plans.{plan-queue}
 
 -- the limits and a ring of a unit, read by themselves

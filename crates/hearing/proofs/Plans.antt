@@ -10,7 +10,7 @@ use borrow.Author.Tests.{not-true}
 use Rattle.outlet.specs.Outlets.{capacity, queue}
 use Rattle.bus.specs.declared.Heard as H
 use Rattle.bus.specs.declared.Heard.the-variants as frame
-use Rattle.outlet.specs.Hearing.{queueOf, fate}
+use Rattle.outlet.specs.Hearing.{fate}
 use Rattle.outlet.specs.declared.Fate as F
 use Rattle.outlet.specs.declared.Fate.the-variants as fates
 use Rattle.outlet.proofs.Fates.{queue-lt}
@@ -21,8 +21,7 @@ use Rattle.store.proofs.Slots.{by-lt, start-inside, slot-inside}
 use Rattle.shelf.specs.declared.Unit as U
 use Rattle.answer.specs.declared.Hearing.the-variants.{Other}
 use Rattle.soundness.specs.Admission.{Housed}
-use Rattle.hearing.specs.Hearings.{addressed, passesBy, asideOf, planFor, planTo, planOf}
-use Rattle.hearing.specs.declared.Plan.the-variants.{Queue, Lost}
+use Rattle.hearing.specs.Hearings.{Queue, Lost, addressed, passesBy, asideOf, planFor, planTo, planOf}
 
 -- a copy is queued in one of the four queues
 plan-for-queue : (f : F.Fate) (p q : ℕ) → planFor f p ≡ Queue q → p ≡ q

@@ -28,8 +28,6 @@ use Rattle.answer.specs.Done.{Done}
 use Rattle.answer.specs.Answers.{hearingRises, row, ends, refused}
 use Rattle.soundness.specs.declared.Admitted as D
 use Rattle.soundness.specs.Admission.{admitted, decided, unitAt, withUnit, withQueue}
-use Rattle.hearing.specs.declared.Plan.{Plan}
-use Rattle.hearing.specs.declared.Plan.the-variants.{Queue, Lost}
 
 -- a unit after it has heard a frame, and the fate of the frame there
 pub record Copy : Type 0 where
@@ -42,6 +40,11 @@ unfoldable pub addressed : U.Unit → T.Target → Bool
 addressed u (target.Unit number) = eqb (numberOf u) number
 addressed u (target.Session session) = hears (u .sessions) session
 addressed u target.All = true
+
+-- a copy is queued in this queue, or lost with this fate
+pub data Plan : Type 0 where
+  Queue : ℕ → Plan
+  Lost : A.Hearing → Plan
 
 -- the four fates of a copy that is addressed to the unit
 unfoldable pub planFor : F.Fate → ℕ → Plan

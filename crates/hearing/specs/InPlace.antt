@@ -15,9 +15,7 @@ use Rattle.answer.specs.Done.{outcomeOf}
 use Rattle.answer.specs.Answers.{hearingRises, row, refusedWith}
 use Rattle.soundness.specs.declared.Admitted as D
 use Rattle.soundness.specs.Admission.{admittedIn, decided, formedOr}
-use Rattle.hearing.specs.Hearings.{planOf, hearDone, hearStore}
-use Rattle.hearing.specs.declared.Plan.{Plan}
-use Rattle.hearing.specs.declared.Plan.the-variants.{Queue, Lost}
+use Rattle.hearing.specs.Hearings.{Plan, Queue, Lost, planOf, hearDone, hearStore}
 
 -- the state after the unit in a place has heard a frame with this plan
 unfoldable pub stateBy : Plan → List ℕ → ℕ → List ℕ

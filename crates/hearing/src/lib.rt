@@ -17,12 +17,6 @@ ghost use Rattle.soundness.specs.Admission.{Housed};
 ghost use Rattle.hearing.specs.Hearings.{addressed as addressedTo, passesBy, asideOf, planTo, planOf, fateBy, storeBy, storeOf};
 ghost use Rattle.hearing.specs.InPlace.{stateBy, stateAt, outcomeAt, hearOut, hearState, hearStoreIn};
 
-// A copy is queued in this queue, or lost with this fate. The definitions say so by it; no code makes one.
-pub enum Plan {
-    Queue(u8),
-    Lost(Hearing),
-}
-
 // Whether a cell to this target is for the unit in a place. Its sessions are read only where it is to one.
 fn addressed_at(s: &[u8], place: usize, target: Target) -> bool
     requires { ⌜ (length (now s) ≡ 2048) × (place < 32) ⌝ }

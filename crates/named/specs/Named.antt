@@ -1,7 +1,7 @@
 -- `show unit` as bytes, up to its newline: one unit, its fields by name in the order of the columns (docs/CONSOLE.md). Assumes nothing.
 use Prim.Native.Nat.{ℕ, zero, suc, _+_, _*_}
 use mathlib.Core.Bool.{cond}
-use mathlib.Core.List.{List, [], _∷_, _++_}
+use mathlib.Core.List.{List, [], _++_}
 use lib.Dec.{eqb}
 use Rattle.octets.specs.Octets.{part}
 use Rattle.text.specs.Decimals.{numberField}

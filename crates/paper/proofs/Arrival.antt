@@ -1,14 +1,14 @@
 -- What `lookup` says of a header in a memory is what the paper says. Assumes nothing.
 use Prim.Native.Nat.{ℕ, zero, suc, _+_, _*_, _-_, _/_, _%_, _<_, _≤_}
-use native.Mathlib.Nat.{mod-lt, mod-eq-of-lt, add-assoc}
+use native.Mathlib.Nat.{add-assoc}
 use native.Mathlib.Omega.{arith}
 use mathlib.Core.Path.{_≡_, refl, sym, ap, subst, _∙_}
-use mathlib.Core.Logic.{_≢_, _↔_}
+use mathlib.Core.Logic.{_≢_}
 use mathlib.Core.Bool.{Bool, true, false, cond, _&&_, false≢true}
-use mathlib.Core.List.{List, [], _∷_}
+use mathlib.Core.List.{List}
 use lib.Dec.{eqb, leb, ltb}
-use lib.ListN.{length, getD, take, drop}
-use borrow.Author.Tests.{eqb-true, eqb-false, eq-eqb, ne-eqb, leb-true, leb-false, le-leb, lt-leb, ltb-true, ltb-false, lt-ltb, le-ltb}
+use lib.ListN.{length, getD, drop}
+use borrow.Author.Tests.{eqb-true, eqb-false, eq-eqb, ne-eqb, le-leb, lt-leb, lt-ltb, le-ltb}
 use Rattle.octets.specs.Octets as octets
 use Rattle.header.specs.Fields.{fields, topOf, word}
 use Rattle.header.specs.Check as header·
@@ -20,7 +20,6 @@ use Rattle.card.specs.declared.Card.the-variants.{Narrow, Wide}
 use lib.Seq.{getD-take, getD-drop}
 use Rattle.lookup.proofs.RecordLaws.{kind-route, kind-page}
 use Rattle.lookup.specs.Record as record·
-use Rattle.lookup.specs.declared.Record as R
 use Rattle.lookup.specs.declared.Record.the-variants as record·is
 use Rattle.lookup.specs.declared.Got.{Got}
 use Rattle.lookup.specs.declared.Got.the-variants as got
@@ -28,7 +27,7 @@ use Rattle.lookup.specs.Lookup as lookup
 use Rattle.lookup.specs.declared.Looked.{Looked}
 use Rattle.lookup.specs.declared.Looked.the-variants as looked
 use Rattle.shelf.specs.declared.Unit as U
-use Rattle.paper.specs.Cells.{byte, two, four, vpi, vci, pt, clp, header, HeaderCheck}
+use Rattle.paper.specs.Cells.{byte, two, four, vpi, vci, pt, clp, header}
 use Rattle.paper.specs.Arrival.{Way, hec, ignored, misrouted, routed, Inside, KindAt, outgoing, ByRoute, above-4095, goes, AtCircuit, AtPath, LookedUp, zeros, above, below, Meets, wrong-check, right-check}
 use Rattle.lookup.proofs.Laws.{no-path, above-top, by-record}
 use Rattle.store.proofs.Slots.{by-lt}

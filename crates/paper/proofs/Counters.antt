@@ -3,10 +3,10 @@ use Prim.Native.Nat.{ℕ, zero as none, suc, _+_, _/_, _%_, _^_, _<_, _≤_}
 use native.Mathlib.Omega.{arith}
 use mathlib.Core.Path.{_≡_, refl, sym, ap, ap₂, subst, _∙_}
 use mathlib.Core.Logic.{_≢_}
-use mathlib.Core.Bool.{Bool, true, false, cond, _&&_, false≢true}
-use mathlib.Core.List.{List, [], _∷_, _++_}
+use mathlib.Core.Bool.{Bool, true, false, _&&_, false≢true}
+use mathlib.Core.List.{List, [], _∷_}
 use lib.Dec.{eqb}
-use lib.ListN.{length, getD, set, replicate}
+use lib.ListN.{length, getD, replicate}
 use lib.Seq.{getD-set-same}
 use borrow.Author.Tests.{eqb-true, eqb-false}
 use Rattle.answer.specs.Answers.{#taken, arrivalRises, hearingRises, row}
@@ -15,7 +15,7 @@ use Rattle.answer.specs.declared.Arrival as A
 use Rattle.answer.specs.declared.Arrival.the-variants as arrival
 use Rattle.answer.specs.declared.Hearing as H
 use Rattle.answer.specs.declared.Hearing.the-variants as hearing
-use Rattle.answer.specs.Counting.{value, zeros, raised, rowAfter, settled}
+use Rattle.answer.specs.Counting.{value, raised, rowAfter, settled}
 use Rattle.answer.specs.declared.Counters as C
 use Rattle.answer.proofs.Settling.{raised-value, length-settled, settled-row, settled-ahead, settled-behind}
 use Rattle.store.proofs.Slots.{by-lt}

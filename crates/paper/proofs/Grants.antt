@@ -1,20 +1,20 @@
 -- What `arbiter` says of requests and grants is what the paper says. Assumes nothing.
-use Prim.Native.Nat.{ℕ, zero, suc, _+_, _*_, _-_, _%_, _<_, _≤_}
+use Prim.Native.Nat.{ℕ, suc, _+_, _-_, _%_, _<_, _≤_}
 use native.Mathlib.Omega.{arith}
-use mathlib.Core.Path.{_≡_, refl, sym, ap, subst, _∙_}
-use mathlib.Core.Logic.{_≢_, _↔_, _⊎_, inl, inr, ⊎-elim}
-use mathlib.Core.Bool.{Bool, true, false, cond, false≢true}
+use mathlib.Core.Path.{_≡_, refl, sym, ap, _∙_}
+use mathlib.Core.Logic.{_↔_, _⊎_, inl, inr, ⊎-elim}
+use mathlib.Core.Bool.{true, cond}
 use mathlib.Core.List.{List}
 use lib.Dec.{eqb, ltb}
 use lib.ListN.{length, getD, List·getD-eq-default}
-use borrow.Author.Tests.{eqb-true, eqb-false, eq-eqb, ne-eqb, ltb-true, ltb-false, lt-ltb, le-ltb}
+use borrow.Author.Tests.{eqb-true, eqb-false, eq-eqb, ltb-true, ltb-false, lt-ltb, le-ltb}
 use Rattle.arbiter.specs.Arbitration as arbiter
 use Rattle.arbiter.specs.declared.Grant as G
 use Rattle.arbiter.proofs.Order.{cyclic-above, cyclic-below, cyclic-has, below-or, cyclic-length}
 use Rattle.arbiter.proofs.Requests.{asks-with, asks-without, renewed-at, renewed-past}
 use Rattle.arbiter.proofs.Grants.{not-granted, granted-asks, grants-if-asked, granted-highest, granted-first, granted-changes}
 use Rattle.shelf.specs.declared.Unit as U
-use Rattle.paper.specs.Grants.{Wants, Renewed, Asks, turn, lastAt, GrantTo, NoGrant}
+use Rattle.paper.specs.Grants.{Wants, Renewed, turn, lastAt, GrantTo, NoGrant}
 use Rattle.outlet.proofs.Truth.{decide}
 use Rattle.paper.proofs.State.{besides-iff}
 

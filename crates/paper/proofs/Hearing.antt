@@ -1,32 +1,28 @@
 -- What `outlet` and `shelf` say of a copy is what the paper says. Assumes nothing.
-use Prim.Native.Nat.{ℕ, zero, suc, _+_, _*_, _/_, _%_, _^_, _<_, _≤_}
+use Prim.Native.Nat.{ℕ, _+_, _/_, _%_, _^_, _<_, _≤_}
 use native.Mathlib.Nat.{mod-lt}
 use native.Mathlib.Omega.{arith}
-use mathlib.Core.Path.{_≡_, refl, sym, ap, subst, _∙_}
+use mathlib.Core.Path.{_≡_, refl, sym, ap, subst}
 use mathlib.Core.Logic.{_≢_, _↔_, inl, inr, ⊎-elim}
-use mathlib.Core.Bool.{Bool, true, false, cond, false≢true}
-use mathlib.Core.List.{List, [], _∷_}
-use lib.Dec.{eqb}
+use mathlib.Core.Bool.{true, false, false≢true}
+use mathlib.Core.List.{List, _∷_}
 use lib.ListN.{length, getD}
 use borrow.Author.Tests.{eqb-true, eq-eqb}
 use Rattle.header.specs.Fields.{fields}
-use Rattle.header.specs.declared.Link.the-variants.{Uni, Nni}
 use Rattle.outlet.specs.Outlets as outlet
 use Rattle.outlet.specs.declared.Mode.{Mode}
 use Rattle.outlet.specs.declared.Mode.the-variants.{One, Four}
-use Rattle.outlet.specs.declared.Limits.{Limits}
 use Rattle.outlet.specs.Hearing as queueing
 use Rattle.outlet.specs.declared.Fate.{Fate}
 use Rattle.outlet.specs.declared.Fate.the-variants as fate
 use Rattle.shelf.specs.Sessions.{hears}
 use Rattle.shelf.specs.declared.Unit as U
-use Rattle.paper.specs.Cells.{two, four, vpi, clp, class}
-use Rattle.paper.specs.Outlets.{queuesIn, queues, numberFor, nowhere, queueAt, held, AtLimit}
+use Rattle.paper.specs.Cells.{two, four, clp, class}
+use Rattle.paper.specs.Outlets.{queuesIn, queues, numberFor, queueAt, held, AtLimit}
 use Rattle.answer.specs.Answers.{queuedOne, isAddressed}
 use Rattle.answer.specs.declared.Hearing as H
 use Rattle.answer.specs.declared.Hearing.the-variants as hearing
 use Rattle.paper.specs.Hearing.{Hears, queueOf, TooWide, Discards, queuedIn, Quiet}
-use Rattle.paper.proofs.Cells.{four-is}
 use Rattle.store.proofs.Slots.{by-lt}
 use Rattle.paper.proofs.Outlets.{number-is, capacity-is, limit-iff}
 

@@ -3,25 +3,21 @@ use Prim.Native.Nat.{ℕ, zero, suc, _+_, _*_, _/_, _%_, _^_, _<_, _≤_}
 use native.Mathlib.Nat.{zero-add}
 use native.Mathlib.Omega.{arith}
 use mathlib.Core.Path.{_≡_, refl, sym, ap, subst, _∙_}
-use mathlib.Core.Logic.{_↔_, _⊎_, inl, inr, ⊎-elim}
-use mathlib.Core.Bool.{Bool, true, false, cond}
-use mathlib.Core.List.{List, [], _∷_}
+use mathlib.Core.Logic.{_↔_}
+use mathlib.Core.Bool.{true, false}
+use mathlib.Core.List.{List}
 use lib.Dec.{eqb}
-use lib.ListN.{length, getD, take, drop, length-take, length-drop}
+use lib.ListN.{length, getD, drop, length-take, length-drop}
 use lib.Seq.{getD-take, ext-getD}
 use Rattle.octets.specs.Octets.{part}
-use Rattle.header.specs.declared.Link.{Link}
 use Rattle.header.specs.declared.Link.the-variants.{Uni, Nni}
-use Rattle.outlet.specs.declared.Mode.{Mode}
 use Rattle.outlet.specs.declared.Mode.the-variants.{One, Four}
 use Rattle.shelf.specs.declared.Unit as U
-use Rattle.shelf.specs.Shelf.{Shelf}
 use Rattle.state.specs.Bytes.{linkOf, modeOf, unitBy, unitIn, shelfIn}
 use Rattle.state.proofs.Laws.{units-length, unit-at}
 use Rattle.state.proofs.Placed.{part-at}
-use Rattle.paper.specs.State.{units, blank, Formed}
-use Rattle.paper.specs.Hearing.{Hears}
-use Rattle.paper.specs.Layouts.{byte, ring, UnitLayout, Layout, Agree, LayoutOnce}
+use Rattle.paper.specs.State.{units, blank}
+use Rattle.paper.specs.Layouts.{byte, UnitLayout, Layout, LayoutOnce}
 
 -- so many bytes from a place on
 part-32 : (state : List ℕ) (k : ℕ) → k + 32 ≤ length state → length (part state k 32) ≡ 32

@@ -1,25 +1,20 @@
 -- What the code's rooms say of queues and the store is what the paper says. Assumes nothing.
-use Prim.Native.Nat.{ℕ, zero, suc, _+_, _*_, _-_, _/_, _%_, _<_, _≤_, min}
+use Prim.Native.Nat.{ℕ, zero, suc, _+_, _-_, _<_, _≤_, min}
 use native.Mathlib.Nat.{mod-eq-of-lt}
 use native.Mathlib.Omega.{arith}
-use mathlib.Core.Path.{_≡_, refl, sym, ap, subst, _∙_}
-use mathlib.Core.Logic.{_≢_, _↔_, _⊎_, inl, inr, ⊎-elim}
-use mathlib.Core.Bool.{Bool, true, false, cond}
-use mathlib.Core.List.{List, [], _∷_, _++_}
-use mathlib.Core.Option.{Option, none, some}
-use lib.Dec.{eqb, leb, ltb}
-use lib.ListN.{length, getD, take, drop}
-use borrow.Author.Tests.{eqb-true, eqb-false, leb-true, leb-false}
+use mathlib.Core.Path.{_≡_, refl, sym, subst}
+use mathlib.Core.Logic.{_↔_}
+use mathlib.Core.List.{List}
+use lib.ListN.{length, getD}
 use Rattle.outlet.specs.Outlets as outlet
 use Rattle.outlet.specs.declared.Mode.{Mode}
 use Rattle.outlet.specs.declared.Mode.the-variants.{One, Four}
 use Rattle.outlet.specs.declared.Limits.{Limits}
 use Rattle.outlet.specs.declared.Ring.{Ring}
-use Rattle.outlet.specs.declared.Outlet.{Outlet}
 use Rattle.outlet.specs.Hearing as hearing
 use Rattle.store.specs.Rings as rings
 use Rattle.store.specs.Places as places
-use Rattle.paper.specs.Outlets.{Queue, queuesIn, queues, numberFor, nowhere, queueAt, ringAt, held, AtLimit, slotAt, cellAt, behind, longer, shorter}
+use Rattle.paper.specs.Outlets.{queuesIn, queues, numberFor, nowhere, AtLimit, slotAt, cellAt, behind, longer, shorter}
 
 -- the queue of a class
 pub number-is : (limits : Limits) (class : ℕ) → class < 4 → hearing.queueOf limits class ≡ numberFor (limits .mode) class

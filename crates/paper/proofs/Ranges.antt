@@ -8,8 +8,6 @@ use Rattle.bus.specs.declared.Target.{Target}
 use Rattle.bus.specs.declared.Target.the-variants as target
 use Rattle.bus.specs.Routing.{Sayable}
 use Rattle.paper.proofs.State.{given-iff}
-use Rattle.outlet.specs.declared.Mode.{Mode}
-use Rattle.outlet.specs.declared.Mode.the-variants.{One, Four}
 use Rattle.line.specs.Ranges as line
 use Rattle.line.specs.declared.Line.{Line}
 use Rattle.line.specs.declared.Line.the-variants.{Bus, Unit as L·Unit, Vp, Drop, Page, Vc, Mc}

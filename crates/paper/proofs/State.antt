@@ -2,11 +2,11 @@
 use Prim.Native.Nat.{ℕ, zero, suc, _+_, _*_, _-_, _<_, _≤_}
 use native.Mathlib.Omega.{arith}
 use mathlib.Core.Path.{_≡_, refl, sym, ap, subst, _∙_}
-use mathlib.Core.Logic.{_≢_, _↔_, _⊎_, inl, inr, ⊎-elim, ⊎-map}
-use mathlib.Core.Bool.{Bool, true, false, cond, false≢true}
-use mathlib.Core.List.{List, [], _∷_}
+use mathlib.Core.Logic.{_≢_, _↔_, _⊎_, ⊎-map}
+use mathlib.Core.Bool.{true, false≢true}
+use mathlib.Core.List.{List}
 use lib.Dec.{eqb}
-use lib.ListN.{length, getD, take}
+use lib.ListN.{getD}
 use borrow.Author.Tests.{eqb-true, eqb-false}
 use Rattle.header.specs.declared.Link.{Link}
 use Rattle.header.specs.declared.Link.the-variants.{Uni, Nni}
@@ -32,7 +32,7 @@ use Rattle.soundness.proofs.Sounding.{lanes-at, lanes-all}
 use Rattle.store.specs.Rings as rings
 use Rattle.store.proofs.Rounds.{tail-lt}
 use Rattle.paper.specs.Outlets.{Given, GivenIn, queuesIn, queues, nowhere, queueAt, ringAt, behind}
-use Rattle.paper.specs.State.{units, unitAt, numberAt, askOf, DeclaredAt, Declared, RingFits, UnitSound, Sound, Formed}
+use Rattle.paper.specs.State.{units, unitAt, DeclaredAt, Declared, RingFits, UnitSound, Sound, Formed}
 use Rattle.outlet.proofs.Truth.{decide, le-iff, and-iff}
 use Rattle.paper.proofs.Outlets.{capacity-is, behind-is}
 

@@ -1,13 +1,13 @@
 -- What `outlet` says of a cell that leaves is what the paper says. Assumes nothing.
-use Prim.Native.Nat.{ℕ, zero, suc, _+_, _*_, _/_, _%_, _<_, _≤_}
+use Prim.Native.Nat.{ℕ, _+_, _*_, _/_, _%_, _<_}
 use native.Mathlib.Nat.{mod-lt, mod-eq-of-lt}
 use native.Mathlib.Omega.{arith}
 use mathlib.Core.Path.{_≡_, refl, sym, ap, subst, _∙_}
-use mathlib.Core.Logic.{_≢_, _↔_}
-use mathlib.Core.Bool.{Bool, true, false, cond, false≢true}
-use mathlib.Core.List.{List, [], _∷_, _++_}
+use mathlib.Core.Logic.{_↔_}
+use mathlib.Core.Bool.{Bool, true, false}
+use mathlib.Core.List.{List, _∷_, _++_}
 use mathlib.Core.Option.{Option, none, some}
-use lib.ListN.{length, take, drop}
+use lib.ListN.{length}
 use Rattle.octets.specs.Octets as octets
 use Rattle.header.specs.Fields.{fields, topOf, word}
 use Rattle.header.specs.Check as header·
@@ -21,7 +21,7 @@ use Rattle.outlet.specs.declared.Leaving.{Leaving}
 use Rattle.outlet.specs.declared.Leaving.the-variants.{Queue, Empty}
 use Rattle.outlet.proofs.Leaves.{leaving-iff, marks-iff}
 use Rattle.shelf.specs.declared.Unit as U
-use Rattle.paper.specs.Cells.{four, fourBytes, vpi, vci, pt, clp, header, HeaderCheck}
+use Rattle.paper.specs.Cells.{four, vci, pt}
 use Rattle.paper.specs.Outlets.{queuesIn, queues, held, Marks, Crowded}
 use Rattle.paper.specs.Take.{Leaves, marked, onLink, HandedOut}
 use Rattle.outlet.proofs.Truth.{decide}

@@ -7,8 +7,8 @@ use mathlib.Core.Bool.{Bool, true, false, cond, _||_}
 use mathlib.Core.List.{List, [], _∷_, map}
 use lib.Bits.{bitOr}
 use lib.Dec.{eqb}
-use lib.ListN.{length, length-take, length-set, getD, getD-replicate, set, take, drop, replicate, List·getD-append}
-use lib.Seq.{getD-set-same, getD-set-other, sets, sets-eq, length-sets, take-at, take-all}
+use lib.ListN.{length, length-take, length-set, getD, getD-replicate, set, take, replicate}
+use lib.Seq.{getD-set-same, getD-set-other, length-sets, take-at, take-all}
 use borrow.Author.Tests.{eq-eqb, ne-eqb}
 use Rattle.octets.specs.Octets.{four, part}
 use Rattle.octets.proofs.Numbers.{four-be4}
@@ -33,7 +33,6 @@ use Rattle.shelf.proofs.Finding.{find-at}
 use Rattle.line.specs.declared.Line.{Line}
 use Rattle.soundness.specs.State.{soundOf}
 use Rattle.soundness.proofs.Facts.{sound-iff}
-use Rattle.answer.specs.declared.Hearing as A
 use Rattle.answer.specs.declared.Answer.the-variants.{Framed}
 use Rattle.answer.specs.Answers.{hearingRises, queuedOne, isAddressed}
 use Rattle.soundness.specs.Admission.{unitAt, withUnit, withInlet, Housed}

@@ -43,8 +43,7 @@ use Rattle.answer.specs.declared.Answer.the-variants.{Heard}
 use Rattle.soundness.specs.Admission.{unitAt, withQueue, Housed}
 use Rattle.soundness.proofs.Laws.{sound-housed}
 use Rattle.hearing.specs.Hearings as hearing
-use Rattle.hearing.specs.declared.Plan as P
-use Rattle.hearing.specs.declared.Plan.the-variants.{Queue, Lost}
+use Rattle.hearing.specs.Hearings.{Queue, Lost}
 use Rattle.hearing.proofs.Plans.{before-parity}
 use Rattle.paper.specs.Counters.{hearingCounts}
 use Rattle.document.specs.Counters.{entries}
@@ -55,7 +54,7 @@ use Rattle.refining.proofs.Finds.{length-map}
 use Rattle.refining.proofs.Changes.{changed}
 
 -- 1. how a copy ends: lost, and the document's unit is as it was, or behind the others in its queue, which has room
-pub data Ends (full : Bool) (q : ℕ) : P.Plan → A.Hearing → Type 0 where
+pub data Ends (full : Bool) (q : ℕ) : hearing.Plan → A.Hearing → Type 0 where
   lost : (f : A.Hearing) → ((d : D.Unit) (p : ℕ) (c : D.Cell) → paper.keeping f d p c ≡ d) → Ends full q (Lost f) f
   queued : full ≡ false → Ends full q (Queue q) Queued
 
@@ -134,7 +133,7 @@ module _ (card : Card) (memory store : List ℕ) (lines : List Line) (i : ℕ) (
   fate-alike frame.Damaged bytes s = refl
   fate-alike (frame.Cell t class header) bytes s = go (ends-alike t class header (s .0))
     where
-      go : {p : P.Plan} {f : A.Hearing} → Ends (isFull u t class header) (own u t class header) p f → hearing.fateBy p ≡ f
+      go : {p : hearing.Plan} {f : A.Hearing} → Ends (isFull u t class header) (own u t class header) p f → hearing.fateBy p ≡ f
       go (lost f same) = refl
       go (queued room) = refl
 
@@ -196,7 +195,7 @@ module _ (card : Card) (memory store : List ℕ) (lines : List Line) (i : ℕ) (
       q : ℕ
       q = own u t class header
 
-      go : {p : P.Plan} {f : A.Hearing} → Ends (isFull u t class header) q p f →
+      go : {p : hearing.Plan} {f : A.Hearing} → Ends (isFull u t class header) q p f →
           UnitAlike (hearing.storeBy p u i store bytes) i (hearing.copyBy p u .unit) (paper.keeping f d (queueOf (d .limits) class) (record { header = header; payload = part bytes 8 48 }))
       go (lost f same) = subst (UnitAlike store i u) (sym (same d (queueOf (d .limits) class) (record { header = header; payload = part bytes 8 48 }))) a
       go (queued room) =
@@ -217,7 +216,7 @@ copy-elsewhere store i j u v e (frame.Cell t class header) bytes whole here ther
     q : ℕ
     q = own u t class header
 
-    go : {p : P.Plan} {f : A.Hearing} → Ends (isFull u t class header) q p f → UnitAlike (hearing.storeBy p u i store bytes) j v e
+    go : {p : hearing.Plan} {f : A.Hearing} → Ends (isFull u t class header) q p f → UnitAlike (hearing.storeBy p u i store bytes) j v e
     go (lost f same) = a
     go (queued room) =
         let few = queue-lt (u .outlet .limits) class in
@@ -279,12 +278,12 @@ pub copy-knows : (card : Card) (memory : List ℕ) (lines : List Line) (u : U.Un
 unfolding hearing.copyBy
 copy-knows card memory lines u h k = go (hearing.planOf u h)
   where
-    go : (p : P.Plan) → Known card memory lines (hearing.copyBy p u .unit)
+    go : (p : hearing.Plan) → Known card memory lines (hearing.copyBy p u .unit)
     go (Lost f) = k
     go (Queue q) = record { looks = k .looks; hearing = k .hearing }
 
 -- a copy has the fate of its plan
-pub copy-fate : (u : U.Unit) (p : P.Plan) → hearing.copyBy p u .fate ≡ hearing.fateBy p
+pub copy-fate : (u : U.Unit) (p : hearing.Plan) → hearing.copyBy p u .fate ≡ hearing.fateBy p
 unfolding hearing.copyBy hearing.fateBy
 copy-fate u (Lost f) = refl
 copy-fate u (Queue q) = refl

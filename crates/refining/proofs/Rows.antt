@@ -3,17 +3,16 @@ use Prim.Native.Nat.{ℕ, zero as none, suc, _+_, _/_, _%_, _^_, _<_, _≤_}
 use native.Mathlib.Nat.{mod-add-mod, add-comm}
 use native.Mathlib.Omega.{arith}
 use mathlib.Core.Path.{_≡_, refl, sym, ap, ap₂, subst, _∙_}
-use mathlib.Core.Bool.{Bool, true, false, cond, _&&_, false≢true}
+use mathlib.Core.Bool.{Bool, true, false, cond}
 use mathlib.Core.List.{List, [], _∷_, _++_}
 use lib.Bits.{bitOr}
 use lib.Dec.{eqb, ltb}
 use lib.ListN.{length, getD, set, replicate, length-set, length-replicate, getD-replicate, List·getD-eq-default, List·getD-map}
 use lib.Seq.{getD-set-same, map-set-same}
 use borrow.Author.Tests.{eqb-true, eqb-false, eq-eqb, ne-eqb, ltb-true, ltb-false}
-use Rattle.answer.specs.Answers.{#taken, arrivalRises, hearingRises, row}
+use Rattle.answer.specs.Answers.{hearingRises, row}
 use Rattle.answer.specs.declared.Rises.{Rises}
 use Rattle.answer.specs.declared.Arrival as A
-use Rattle.answer.specs.declared.Arrival.the-variants as arrival
 use Rattle.answer.specs.declared.Hearing as H
 use Rattle.answer.specs.declared.Hearing.the-variants as hearing
 use Rattle.bus.specs.declared.Heard as B
@@ -26,7 +25,7 @@ use Rattle.framing.specs.Sending.{sentRises}
 use Rattle.told.proofs.Grown.{decide}
 use Rattle.paper.proofs.Counters.{placed, tallies, Agree, agree, agree-hearing}
 use Rattle.running.proofs.Sent.{agree-sent}
-use Rattle.paper.specs.Counters.{Counter, arrived, hec, ignored, misrouted, inletfull, sent, unheard, damaged, queued, full, clp, wide, taken, placeOf, arrivalCounts, hearingCounts, sentCounts, occurs}
+use Rattle.paper.specs.Counters.{Counter, placeOf, hearingCounts, sentCounts, occurs}
 use Rattle.document.specs.Counters.{Entry, entries, matches, times, counterOf}
 use Rattle.document.specs.Shelf as D
 use Rattle.document.specs.Hearing.{hearingOf, keeping, hearingUnit}

@@ -21,8 +21,6 @@ use Rattle.shelf.specs.declared.Unit as U
 use Rattle.answer.specs.declared.Hearing.the-variants.{Other}
 use Rattle.soundness.specs.Admission.{Housed}
 use Rattle.hearing.specs.Hearings as hearing
-use Rattle.hearing.specs.declared.Plan as P
-use Rattle.hearing.specs.declared.Plan.the-variants as plans
 use Rattle.hearing.proofs.Plans.{plan-queue, outlet-inside}
 use Rattle.running.proofs.Changed.{remade, queue-changed}
 
@@ -32,20 +30,20 @@ unfolding putAt
 put-kept store place slot c room whole = length-splice store (slotAt place slot) c (omega arith)
 
 -- a copy is queued where there is room
-queued-fate : (f : F.Fate) (p q : ℕ) → hearing.planFor f p ≡ plans.Queue q → (p ≡ q) × (f ≡ fates.Queued)
+queued-fate : (f : F.Fate) (p q : ℕ) → hearing.planFor f p ≡ hearing.Queue q → (p ≡ q) × (f ≡ fates.Queued)
 unfolding hearing.planFor
 queued-fate fates.Wide p q e = let z : _≡_ {A = ℕ} 0 1 = cc in absurd (omega arith)
 queued-fate fates.Full p q e = let z : _≡_ {A = ℕ} 0 1 = cc in absurd (omega arith)
 queued-fate fates.Clp p q e = let z : _≡_ {A = ℕ} 0 1 = cc in absurd (omega arith)
 queued-fate fates.Queued p q e = (cc, refl)
 
-plan-room : (u : U.Unit) (h : H.Heard) (q : ℕ) → hearing.planOf u h ≡ plans.Queue q → queue (u .outlet) q .count < capacity (u .outlet .limits) q
+plan-room : (u : U.Unit) (h : H.Heard) (q : ℕ) → hearing.planOf u h ≡ hearing.Queue q → queue (u .outlet) q .count < capacity (u .outlet .limits) q
 unfolding hearing.planOf
 plan-room u sort.Length q e = let z : _≡_ {A = ℕ} 0 1 = cc in absurd (omega arith)
 plan-room u sort.Damaged q e = let z : _≡_ {A = ℕ} 0 1 = cc in absurd (omega arith)
 plan-room u (sort.Cell target class header) q e = pick (hearing.addressed u target) e
   where
-    pick : (b : Bool) → cond b (hearing.planFor (fate (u .outlet) (u .settings .link) class header) (queueOf (u .outlet .limits) class)) (plans.Lost Other) ≡ plans.Queue q → queue (u .outlet) q .count < capacity (u .outlet .limits) q
+    pick : (b : Bool) → cond b (hearing.planFor (fate (u .outlet) (u .settings .link) class header) (queueOf (u .outlet .limits) class)) (hearing.Lost Other) ≡ hearing.Queue q → queue (u .outlet) q .count < capacity (u .outlet .limits) q
     pick true e =
         let f = queued-fate (fate (u .outlet) (u .settings .link) class header) (queueOf (u .outlet .limits) class) q e in
         subst (λ k. queue (u .outlet) k .count < capacity (u .outlet .limits) k) (f .0) (fate-iff (u .outlet) (u .settings .link) class header fates.Queued .0 (f .1) .1 .0)
@@ -61,9 +59,9 @@ pub copied : (u : U.Unit) (h : H.Heard) → Given (u .outlet .limits) → RingsF
 unfolding hearing.copyBy
 copied u h given fits = go (hearing.planOf u h) refl
   where
-    go : (p : P.Plan) → hearing.planOf u h ≡ p → Copied u (hearing.copyBy p u .unit)
-    go (plans.Lost fate) e = record { copy = refl; limits = given; queues = fits }
-    go (plans.Queue q) e =
+    go : (p : hearing.Plan) → hearing.planOf u h ≡ p → Copied u (hearing.copyBy p u .unit)
+    go (hearing.Lost fate) e = record { copy = refl; limits = given; queues = fits }
+    go (hearing.Queue q) e =
         let few = plan-queue u h q e in
         let cap = capacity (u .outlet .limits) q in
         record {
@@ -77,6 +75,6 @@ pub store-kept : (u : U.Unit) (h : H.Heard) (i : ℕ) (store : List ℕ) (cell :
 unfolding hearing.storeBy
 store-kept u h i store cell housed whole = go (hearing.planOf u h) refl
   where
-    go : (p : P.Plan) → hearing.planOf u h ≡ p → length (hearing.storeBy p u i store cell) ≡ length store
-    go (plans.Lost fate) e = refl
-    go (plans.Queue q) e = put-kept store i (outletSlot (u .outlet .limits) q (tail (queue (u .outlet) q) (capacity (u .outlet .limits) q))) cell (outlet-inside i (length store) u q housed (plan-queue u h q e)) whole
+    go : (p : hearing.Plan) → hearing.planOf u h ≡ p → length (hearing.storeBy p u i store cell) ≡ length store
+    go (hearing.Lost fate) e = refl
+    go (hearing.Queue q) e = put-kept store i (outletSlot (u .outlet .limits) q (tail (queue (u .outlet) q) (capacity (u .outlet .limits) q))) cell (outlet-inside i (length store) u q housed (plan-queue u h q e)) whole

@@ -7,7 +7,6 @@ use lib.ListN.{length}
 use Rattle.card.specs.declared.Card.{Card}
 use Rattle.shelf.specs.Shelves.{declared, findIn, isAt}
 use Rattle.shelf.specs.Shelf.{Shelf}
-use Rattle.shelf.specs.declared.Found as F
 use Rattle.soundness.specs.State.{soundOf}
 use Rattle.answer.specs.declared.Answer.the-variants.{Refused}
 use Rattle.document.specs.Events.{Event, arrive, frame, hear, take-cell, count, bytesOf, answers, numberSaid}

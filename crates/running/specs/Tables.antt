@@ -2,7 +2,7 @@
 use Prim.Native.Nat.{ℕ, _*_, _<_, _≤_}
 use mathlib.Core.Path.{_≡_}
 use mathlib.Core.Logic.{_↔_}
-use mathlib.Core.List.{List, [], _∷_, _++_}
+use mathlib.Core.List.{List, _++_}
 use lib.ListN.{length, getD, drop, replicate}
 use Rattle.card.specs.declared.Card.{Card}
 use Rattle.line.specs.declared.Line.{Line}

@@ -1,42 +1,36 @@
 -- Arrival at a unit. Assumes nothing.
-use Prim.Native.Nat.{ℕ, _+_, _*_, _<_, _≤_}
+use Prim.Native.Nat.{ℕ, _+_, _<_}
 use native.Mathlib.Omega.{arith}
-use mathlib.Core.Path.{_≡_, refl, sym, ap, ap₂, subst, _∙_}
-use mathlib.Core.Bool.{Bool, true, false, cond}
-use mathlib.Core.List.{List, [], _∷_, _++_, append-assoc}
-use lib.Dec.{eqb, leb}
-use lib.ListN.{length, getD, set, take, drop, length-take, length-drop}
+use mathlib.Core.Path.{_≡_, refl, sym, ap, subst, _∙_}
+use mathlib.Core.Bool.{Bool, true}
+use mathlib.Core.List.{List, _++_}
+use lib.Dec.{eqb}
+use lib.ListN.{length, take, drop, length-take, length-drop}
 use borrow.Author.Tests.{eq-eqb, ne-eqb, le-leb, lt-leb}
 use Rattle.octets.specs.Octets as octets
 use Rattle.header.specs.Check as header·
 use Rattle.card.specs.declared.Card.{Card}
 use Rattle.bus.specs.Frame as bus
-use Rattle.lookup.specs.Record.{recordAt}
 use Rattle.lookup.specs.Lookup as lookup
 use Rattle.store.specs.Places as places
 use Rattle.store.specs.Rings as rings
 use Rattle.shelf.specs.declared.Unit as U
 use Rattle.shelf.specs.Shelf.{Shelf}
-use Rattle.shelf.specs.declared.Found.the-variants as found
-use Rattle.soundness.specs.State.{soundOf}
 use Rattle.answer.specs.Answers.{arrivalRises}
-use Rattle.answer.specs.Done.{Done}
-use Rattle.answer.specs.declared.Answer.the-variants.{Arrived}
 use Rattle.answer.specs.declared.Arrival as A
 use Rattle.answer.specs.declared.Arrival.the-variants as arrival
-use Rattle.answer.specs.Counting.{settled}
 use Rattle.soundness.specs.Admission as admit
 use Rattle.soundness.specs.declared.Admitted.the-variants as admitted
 use Rattle.arriving.specs.Arriving as arriving
 use Rattle.arriving.specs.declared.Way.{Way as Way·}
 use Rattle.arriving.specs.declared.Way.the-variants.{Bus, Lost as Lost·}
-use Rattle.document.specs.Events.{arrive, answers}
+use Rattle.document.specs.Events.{arrive}
 use Rattle.running.specs.Events.{World, Outcome, happens, ended}
-use Rattle.paper.specs.Cells.{byte, four, fourBytes, pt, clp, header, busCell}
-use Rattle.paper.specs.Outlets.{slotAt, behind, longer}
-use Rattle.paper.specs.Counters.{arrivalCounts, RisenAt}
-use Rattle.paper.specs.State.{units, unitAt, DeclaredAt, Sound, Whole}
-use Rattle.paper.specs.Arrival.{Way, hec, ignored, misrouted, routed, Meets, wrong-check, right-check, LookedUp}
+use Rattle.paper.specs.Cells.{byte, four, pt, clp, header, busCell}
+use Rattle.paper.specs.Outlets.{slotAt, behind}
+use Rattle.paper.specs.Counters.{arrivalCounts}
+use Rattle.paper.specs.State.{units, unitAt, DeclaredAt, Sound}
+use Rattle.paper.specs.Arrival.{Way, hec, ignored, misrouted, routed, Meets, wrong-check, right-check}
 use Rattle.paper.proofs.Cells.{four-is, check-iff, bus-cell}
 use Rattle.paper.proofs.Outlets.{slot-is, longer-is}
 use Rattle.paper.proofs.Counters.{agree-arrival, risen-at}

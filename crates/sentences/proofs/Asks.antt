@@ -1,11 +1,10 @@
 -- The requests of a frame. Assumes nothing.
-use Prim.Native.Nat.{ℕ, zero, suc, _+_, _<_, _≤_}
+use Prim.Native.Nat.{ℕ, zero, suc, _<_}
 use native.Mathlib.Omega.{arith}
-use mathlib.Core.Path.{_≡_, refl, sym, ap, subst, _∙_}
-use mathlib.Core.Logic.{_≢_, _⊎_, _↔_}
-use mathlib.Core.Bool.{Bool, true, false, cond, false≢true}
+use mathlib.Core.Path.{_≡_, refl, sym, subst, _∙_}
+use mathlib.Core.Logic.{_≢_, _⊎_}
 use mathlib.Core.List.{List, [], _∷_}
-use lib.ListN.{length, getD, set, replicate, length-set, List·getD-eq-default}
+use lib.ListN.{length, getD, set, replicate, length-set}
 use lib.Seq.{getD-set-same, getD-set-other}
 use Rattle.card.specs.declared.Card.{Card}
 use Rattle.arbiter.proofs.Order.{below-or}
@@ -16,8 +15,8 @@ use Rattle.arbiter.specs.Arbitration.{asksNow}
 use Rattle.framing.specs.Requests.{askingOf, askingNow, requests}
 use Rattle.running.proofs.Asking.{stranger-asks}
 use Rattle.soundness.proofs.Facts.{sound-iff as code-sound-iff}
-use Rattle.paper.specs.State.{units, unitAt, numberAt, blank, askOf, DeclaredAt, Declared, Sound, Whole}
-use Rattle.paper.specs.Grants.{Wants, Renewed}
+use Rattle.paper.specs.State.{units, unitAt, numberAt, blank, Sound, Whole}
+use Rattle.paper.specs.Grants.{Renewed}
 use Rattle.paper.proofs.State.{sound-iff}
 use Rattle.paper.proofs.Grants.{renewed-now, renewed-stand, asks-wanting, asks-silent}
 use Rattle.sentences.specs.Frame.{Requests}

@@ -1,19 +1,11 @@
 -- Which unit an event names. Assumes nothing.
 use Prim.Native.Nat.{ℕ, _<_, _≤_}
 use native.Mathlib.Omega.{arith}
-use mathlib.Core.Path.{_≡_, refl, sym, ap, _∙_}
-use mathlib.Core.Logic.{_↔_}
-use mathlib.Core.Bool.{true, false, false≢true}
-use lib.ListN.{length, getD, take, length-take}
-use Rattle.card.specs.declared.Card.{Card}
+use mathlib.Core.Path.{_≡_}
+use lib.ListN.{length, length-take}
 use Rattle.shelf.specs.Shelf.{Shelf}
-use Rattle.shelf.specs.declared.Found.{Found}
-use Rattle.shelf.specs.declared.Found.the-variants.{At, Nothing}
-use Rattle.shelf.specs.Shelves.{declared, findIn, isAt}
-use Rattle.shelf.specs.declared.Unit as U
-use Rattle.shelf.proofs.Finding.{find-at, find-nothing, declared-at}
-use Rattle.paper.specs.State.{units, unitAt, numberAt, blank, DeclaredAt, Declared, Sound, Whole}
-use Rattle.store.proofs.Slots.{by-lt}
+use Rattle.shelf.proofs.Finding.{declared-at}
+use Rattle.paper.specs.State.{units, unitAt, blank, Whole}
 use lib.Seq.{set-getD}
 use Rattle.soundness.specs.Admission as admit
 use Rattle.sentences.specs.Changes.{withUnit}

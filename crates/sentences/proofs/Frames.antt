@@ -1,20 +1,19 @@
 -- Frame. Assumes nothing.
-use Prim.Native.Nat.{ℕ, zero, suc, _+_, _*_, _-_, _/_, _%_, _^_, _<_, _≤_, min}
+use Prim.Native.Nat.{ℕ, _+_, _-_, _<_, _≤_, min}
 use native.Mathlib.Omega.{arith}
 use mathlib.Core.Path.{_≡_, refl, sym, ap, ap₂, subst, _∙_}
 use mathlib.Core.Logic.{_≢_, _⊎_, _↔_, inl, inr, ⊎-elim}
-use mathlib.Core.Bool.{Bool, true, false, cond, false≢true}
+use mathlib.Core.Bool.{Bool, true, cond}
 use mathlib.Core.List.{List, [], _∷_, _++_, map}
 use lib.Bits.{bitOr}
 use lib.Dec.{eqb}
-use lib.ListN.{length, getD, set, take, drop, replicate, length-take, length-set, length-append, length-map, List·getD-map, List·getD-append}
-use lib.Seq.{getD-set-same, getD-set-other, sets, sets-eq, length-sets, take-at, getD-drop, getD-append-add}
-use borrow.Author.Tests.{eqb-true, eqb-false, eq-eqb, ne-eqb}
+use lib.ListN.{length, getD, take, drop, replicate, length-take, length-set, length-append, length-map, List·getD-map, List·getD-append}
+use lib.Seq.{getD-set-same, getD-set-other, sets-eq, length-sets, take-at, getD-drop, getD-append-add}
+use borrow.Author.Tests.{eqb-true, eqb-false}
 use Rattle.card.specs.declared.Card.{Card}
 use Rattle.bus.specs.Frame as bus
 use Rattle.bus.specs.declared.Heard as B
 use Rattle.arbiter.specs.Arbitration as arbiter
-use Rattle.arbiter.specs.declared.Granted.{Granted}
 use Rattle.arbiter.proofs.Grants.{granted-length}
 use Rattle.store.specs.Places as places
 use Rattle.store.specs.Rings as rings
@@ -31,38 +30,37 @@ use Rattle.paper.specs.Hearing.{queuedIn}
 use Rattle.answer.specs.declared.Answer.the-variants.{Framed as Framed·}
 use Rattle.answer.specs.declared.Hearing as H
 use Rattle.answer.specs.declared.Hearing.the-variants as fate
-use Rattle.answer.specs.Counting.{settled}
 use Rattle.soundness.specs.Admission as admit
 use Rattle.soundness.proofs.Laws.{sound-housed, cell-length}
 use Rattle.hearing.specs.Hearings as hearing
-use Rattle.hearing.specs.declared.Plan.the-variants.{Queue, Lost}
+use Rattle.hearing.specs.Hearings.{Queue}
 use Rattle.octets.proofs.Parts.{getD-any}
 use Rattle.framing.specs.Frames as framing
 use Rattle.framing.specs.Requests.{askingNow, requests}
 use Rattle.framing.specs.Sending as sending
 use Rattle.framing.specs.Sending.{Listened}
 use Rattle.framing.proofs.Sends.{head-inside, out-housed}
-use Rattle.document.specs.Events.{frame, answers}
+use Rattle.document.specs.Events.{frame}
 use Rattle.running.specs.Events.{World, Outcome, happens, ended}
 use Rattle.running.proofs.Sent.{bus-kept, count-kept, many-kept, store-length, heard-units, heard-each, sets-at, agree-sent}
 use Rattle.arbiter.proofs.Requests.{renewed-many}
 use Rattle.running.proofs.Asking.{none-yet}
 use Rattle.paper.specs.Cells.{byte, parity}
 use Rattle.paper.specs.Outlets.{slotAt, cellAt, shorter}
-use Rattle.paper.specs.Counters.{placeOf, sentCounts, hearingCounts, occurs, RisenIn}
+use Rattle.paper.specs.Counters.{sentCounts, hearingCounts}
 use Rattle.outlet.specs.Outlets as outlet
-use Rattle.paper.specs.State.{units, unitAt, numberAt, blank, DeclaredAt, Declared, UnitSound, Sound, Whole}
+use Rattle.paper.specs.State.{units, unitAt, blank, DeclaredAt, UnitSound}
 use Rattle.paper.specs.Grants.{GrantTo, NoGrant}
 use Rattle.paper.specs.Hearing.{queueOf, HearingIs}
 use Rattle.outlet.proofs.Truth.{decide}
 use Rattle.paper.proofs.Cells.{xor-is}
 use Rattle.paper.proofs.Outlets.{slot-is, cell-is, shorter-is}
-use Rattle.paper.proofs.Counters.{Agree, agree, agree-hearing, risen-in}
+use Rattle.paper.proofs.Counters.{Agree, agree-hearing, risen-in}
 use Rattle.paper.proofs.State.{sound-iff}
 use Rattle.paper.proofs.Grants.{Turns, granted, none, turns}
 use Rattle.sentences.specs.Changes.{withInlet, Runs, OnShelves}
 use Rattle.sentences.specs.Hearing.{slotFor, withCopy}
-use Rattle.sentences.specs.Frame.{Requests, Idle, without, counted, Sends, Framed, FrameRule}
+use Rattle.sentences.specs.Frame.{Idle, without, counted, Sends, Framed, FrameRule}
 use Rattle.paper.proofs.State.{found-at}
 use Rattle.sentences.proofs.Found.{many-units, unit-at}
 use Rattle.sentences.proofs.Asks.{requests-are, below-32}

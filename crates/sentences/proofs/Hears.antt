@@ -1,12 +1,12 @@
 -- Hearing of a frame. Assumes nothing.
-use Prim.Native.Nat.{ℕ, _+_, _*_, _<_, _≤_}
+use Prim.Native.Nat.{ℕ, _+_, _<_, _≤_}
 use native.Mathlib.Omega.{arith}
-use mathlib.Core.Path.{_≡_, refl, sym, ap, ap₂, subst, _∙_}
+use mathlib.Core.Path.{_≡_, refl, sym, ap, subst, _∙_}
 use mathlib.Core.Logic.{_≢_, _↔_}
-use mathlib.Core.Bool.{Bool, true, false, cond, false≢true}
-use mathlib.Core.List.{List, [], _∷_, _++_}
+use mathlib.Core.Bool.{true, cond, false≢true}
+use mathlib.Core.List.{List, _++_}
 use lib.Dec.{eqb}
-use lib.ListN.{length, getD, set, take, drop}
+use lib.ListN.{length, take, drop}
 use borrow.Author.Tests.{eqb-true, eq-eqb}
 use Rattle.octets.specs.Octets as octets
 use Rattle.card.specs.declared.Card.{Card}
@@ -28,8 +28,7 @@ use Rattle.shelf.specs.Shelf.{Shelf}
 use Rattle.answer.specs.declared.Hearing as H
 use Rattle.answer.specs.declared.Hearing.the-variants as fate·
 use Rattle.hearing.specs.Hearings as hearing
-use Rattle.hearing.specs.declared.Plan.{Plan}
-use Rattle.hearing.specs.declared.Plan.the-variants.{Queue, Lost}
+use Rattle.hearing.specs.Hearings.{Plan, Queue, Lost}
 use Rattle.hearing.proofs.Plans.{before-parity}
 use Rattle.answer.specs.Answers.{hearingRises, row}
 use Rattle.answer.specs.Counting.{settled}
@@ -47,7 +46,7 @@ use Rattle.sentences.specs.Hearing.{slotFor, withCopy, Hears as Hears·,
 use Rattle.sentences.proofs.Found.{many-units, unit-at, itself}
 use Rattle.sentences.proofs.Arrives.{let-in}
 use Rattle.paper.specs.Cells.{two, four, kind, class, address, Says, Damaged}
-use Rattle.paper.specs.Hearing.{Hears, Addressed, by-unit, by-session, by-broadcast, queueOf, TooWide, Comes, Discards, HearingIs}
+use Rattle.paper.specs.Hearing.{Hears, Addressed, by-unit, by-session, by-broadcast, queueOf, HearingIs}
 use Rattle.outlet.proofs.Truth.{decide}
 use Rattle.paper.proofs.Cells.{HeardAs, as-damaged, as-cell, heard-as}
 use Rattle.paper.proofs.Hearing.{hears-iff, queue-is, queue-in, CopyIs, copy-to, copy-from}

@@ -1,31 +1,28 @@
 -- Units hear a frame one after the other: the units, the counters, the copies and the store, place by place. Assumes nothing.
-use Prim.Native.Nat.{ℕ, zero, suc, _+_, _*_, _<_, _≤_}
+use Prim.Native.Nat.{ℕ, zero, suc, _+_, _<_, _≤_}
 use native.Mathlib.Omega.{arith}
-use mathlib.Core.Path.{_≡_, refl, sym, ap, ap₂, subst, _∙_}
-use mathlib.Core.Logic.{_≢_, _⊎_, _↔_, inl, inr, ⊎-elim}
-use mathlib.Core.Bool.{Bool, true, false, cond, _||_, false≢true}
-use mathlib.Core.List.{List, [], _∷_, _++_, map}
-use lib.ListN.{length, getD, set, take, drop}
+use mathlib.Core.Path.{_≡_, refl, sym, ap, subst, _∙_}
+use mathlib.Core.Logic.{_≢_, _⊎_, _↔_, inl, ⊎-elim}
+use mathlib.Core.Bool.{Bool, true, false, _||_, false≢true}
+use mathlib.Core.List.{List, [], _∷_, map}
+use lib.ListN.{length, getD, drop}
 use lib.Seq.{getD-take, getD-drop}
 use Rattle.octets.specs.Octets.{splice, part}
 use Rattle.octets.proofs.Parts.{part-before, part-after}
 use Rattle.bus.specs.declared.Heard as B
 use Rattle.bus.specs.declared.Heard.the-variants as sort
-use Rattle.bus.specs.declared.Target as T
 use Rattle.bus.specs.declared.Target.the-variants as target
 use Rattle.outlet.specs.Outlets.{capacity, queue}
 use Rattle.outlet.specs.declared.Ring.{Ring}
-use Rattle.store.specs.Places.{Cell, slotAt, outletSlot, cellAt, putAt, Inside}
+use Rattle.store.specs.Places.{Cell, slotAt, outletSlot, cellAt, putAt}
 use Rattle.store.specs.Rings.{tail}
-use Rattle.store.proofs.Slots.{put-here, put-other, slot-inside}
+use Rattle.store.proofs.Slots.{put-here, put-other}
 use Rattle.shelf.specs.declared.Unit as U
-use Rattle.answer.specs.Answers.{queuedOne, isAddressed}
+use Rattle.answer.specs.Answers.{isAddressed}
 use Rattle.answer.specs.declared.Hearing as H
 use Rattle.answer.specs.declared.Hearing.the-variants as fate
 use Rattle.soundness.specs.Admission.{Housed, withInlet}
-use Rattle.hearing.specs.Hearings.{addressed, planOf, copyOf, storeOf, storeBy, fateBy, copyBy}
-use Rattle.hearing.specs.declared.Plan.{Plan}
-use Rattle.hearing.specs.declared.Plan.the-variants.{Queue, Lost}
+use Rattle.hearing.specs.Hearings.{Plan, Queue, Lost, addressed, planOf, copyOf, storeOf, storeBy}
 use Rattle.hearing.proofs.Plans.{plan-queue, slot-below, outlet-inside}
 use Rattle.framing.specs.Sending.{Listened, after, heardFrom, storeFrom}
 use Rattle.running.proofs.Copies.{store-kept}

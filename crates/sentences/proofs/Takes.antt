@@ -1,12 +1,12 @@
 -- Take, and count. Assumes nothing.
-use Prim.Native.Nat.{ℕ, _+_, _*_, _<_, _≤_}
+use Prim.Native.Nat.{ℕ, _+_, _<_}
 use native.Mathlib.Omega.{arith}
-use mathlib.Core.Path.{_≡_, refl, sym, ap, ap₂, subst, _∙_}
-use mathlib.Core.Bool.{Bool, true, false, cond}
-use mathlib.Core.List.{List, [], _∷_, _++_}
+use mathlib.Core.Path.{_≡_, refl, sym, ap, subst, _∙_}
+use mathlib.Core.Bool.{true}
+use mathlib.Core.List.{List, [], _∷_}
 use mathlib.Core.Option.{Option, none, some}
 use lib.Dec.{eqb}
-use lib.ListN.{length, getD, set, drop}
+use lib.ListN.{length}
 use borrow.Author.Tests.{eq-eqb}
 use Rattle.card.specs.declared.Card.{Card}
 use Rattle.outlet.specs.Outlets as outlet
@@ -15,24 +15,22 @@ use Rattle.outlet.specs.declared.Leaving.{Leaving}
 use Rattle.store.specs.Places as places
 use Rattle.store.specs.Rings as rings
 use Rattle.shelf.specs.declared.Unit as U
-use Rattle.shelf.specs.Shelf.{Shelf}
 use Rattle.answer.specs.Answers.{#taken}
 use Rattle.answer.specs.Counting.{settledTo}
 use Rattle.soundness.specs.Admission as admit
-use Rattle.soundness.specs.declared.Admitted.the-variants as admitted
 use Rattle.taking.specs.Takes as taking
 use Rattle.entry.specs.Counts as counting
-use Rattle.document.specs.Events.{take-cell, count, answers, counts}
+use Rattle.document.specs.Events.{take-cell, count}
 use Rattle.running.specs.Events.{World, Outcome, happens, ended, countSaid}
-use Rattle.paper.specs.Outlets.{queueAt, ringAt, cellAt, shorter}
-use Rattle.paper.specs.Counters.{taken, RisenAt, rowAt}
+use Rattle.paper.specs.Outlets.{queueAt, ringAt, cellAt}
+use Rattle.paper.specs.Counters.{taken}
 use Rattle.paper.specs.State.{unitAt, DeclaredAt}
 use Rattle.paper.specs.Take.{Leaves, HandedOut}
 use Rattle.paper.proofs.Outlets.{capacity-is, first-is, cell-is, shorter-is}
 use Rattle.paper.proofs.Counters.{agree-taken, risen-at}
 use Rattle.paper.proofs.Take.{leavingAs, leaves-from, leaves-some, leaves-one, handed-out}
 use Rattle.sentences.specs.Changes.{withUnit, withQueue, Runs, OnShelves}
-use Rattle.sentences.specs.Take.{TakesNone, Takes, TakenFrom, TakenAt, TakeRule}
+use Rattle.sentences.specs.Take.{TakenFrom, TakenAt, TakeRule}
 use Rattle.sentences.specs.Count.{Counts, CountRule}
 use Rattle.sentences.proofs.Found.{many-units, unit-at}
 use Rattle.sentences.proofs.Arrives.{let-in}

@@ -1,7 +1,6 @@
 -- What a count answers. Assumes nothing.
 use Prim.Native.Nat.{ℕ}
 use mathlib.Core.Path.{_≡_}
-use mathlib.Core.List.{List, []}
 use Rattle.card.specs.declared.Card.{Card}
 use Rattle.paper.specs.Counters.{rowAt}
 use Rattle.paper.specs.State.{DeclaredAt}

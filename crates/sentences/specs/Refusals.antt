@@ -1,5 +1,4 @@
 -- "Refusals 8 to 10, in that order, change nothing." Assumes nothing.
-use Prim.Native.Nat.{ℕ}
 use mathlib.Core.Path.{_≡_}
 use mathlib.Core.Logic.{_≢_, _↔_}
 use lib.ListN.{length}

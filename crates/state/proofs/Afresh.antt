@@ -3,12 +3,11 @@ use mathlib.Core.Path.{_≡_, refl, sym, ap, _∙_}
 use mathlib.Core.List.{List, [], _∷_, _++_, append-nil}
 use Prim.Native.Nat.{ℕ, zero, suc, _+_, _*_, _≤_, _<_}
 use native.Mathlib.Omega.{arith}
-use lib.ListN.{length, replicate, getD, set, take, drop, length-set, length-take, length-drop, length-replicate, getD-replicate, drop-of-length-le}
-use lib.Seq.{getD-set-same, getD-set-other, getD-take, getD-drop, ext-getD}
+use lib.ListN.{length, replicate, getD, set, drop, length-set, length-take, length-drop, length-replicate, getD-replicate, drop-of-length-le}
+use lib.Seq.{getD-set-same, getD-set-other, ext-getD}
 use Rattle.octets.specs.Octets.{part}
 use Rattle.arbiter.specs.Arbitration.{nobody}
 use Rattle.shelf.specs.Shelves.{fresh, blank}
-use Rattle.shelf.specs.declared.Unit as U
 use Rattle.state.specs.Bytes.{col, linkOf, modeOf, unitBy, unitIn, unitsFrom, shelfIn}
 use Rattle.state.specs.Placing.{zeros, freshBytes}
 use Rattle.state.proofs.Placed.{by-columns, part-at}

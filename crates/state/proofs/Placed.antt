@@ -21,7 +21,6 @@ use Rattle.outlet.specs.declared.Limits.{Limits}
 use Rattle.shelf.specs.Shelves.{unit}
 use Rattle.shelf.specs.declared.Settings.{Settings}
 use Rattle.shelf.specs.declared.Unit as U
-use Rattle.shelf.specs.Shelf.{Shelf}
 use Rattle.state.specs.Bytes.{col, linkOf, modeOf, unitBy, unitIn, shelfIn}
 use Rattle.state.specs.Placing.{linkByte, modeByte, markByte, columnsOf, puts, placed, declaredBy, declareIn}
 use Rattle.state.proofs.Laws.{units-length, unit-at}

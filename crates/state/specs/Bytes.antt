@@ -1,9 +1,9 @@
 -- The shelf that 2,048 lent bytes are: a column of 32 bytes for each field of a unit, then the rest, then the sessions. Assumes nothing.
 use Prim.Native.Nat.{ℕ, zero, suc, _+_, _*_, _/_, _%_}
-use mathlib.Core.Bool.{Bool, cond}
+use mathlib.Core.Bool.{cond}
 use mathlib.Core.List.{List, [], _∷_}
 use lib.Dec.{eqb}
-use lib.ListN.{getD, set, take, drop}
+use lib.ListN.{getD, set}
 use Rattle.octets.specs.Octets.{part, splice}
 use Rattle.header.specs.declared.Link.{Link}
 use Rattle.header.specs.declared.Link.the-variants.{Uni, Nni}

@@ -15,7 +15,6 @@ use Rattle.line.specs.declared.Line.{Line}
 use Rattle.line.specs.declared.Wrong.the-variants.{Newline}
 use Rattle.line.specs.declared.Reading.{Reading}
 use Rattle.line.specs.declared.Reading.the-variants.{Good as Read, Bad}
-use Rattle.line.specs.Lines.{readingOf}
 use Rattle.line.proofs.Ranges.{read-in-range}
 use Rattle.state.specs.Bytes.{shelfIn}
 use Rattle.state.specs.Placing.{freshBytes}

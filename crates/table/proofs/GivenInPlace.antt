@@ -1,5 +1,5 @@
 -- What a line makes of the bytes is what it makes of the shelf that they are; and bytes that are well formed stay so. Assumes nothing.
-use mathlib.Core.Path.{_≡_, refl, sym, ap, subst, _∙_}
+use mathlib.Core.Path.{_≡_, refl, sym, ap, _∙_}
 use mathlib.Core.Bool.{Bool, true, false, _&&_}
 use mathlib.Core.Logic.{_⊎_, inl, inr}
 use mathlib.Core.List.{List}
@@ -22,13 +22,13 @@ use Rattle.shelf.proofs.Finding.{declared-length, find-at}
 use Rattle.shelf.specs.declared.Settings.{Settings}
 use Rattle.shelf.specs.declared.Found.{Found}
 use Rattle.shelf.specs.declared.Found.the-variants.{At, Nothing}
-use Rattle.state.specs.Bytes.{col, unitBy, unitIn, shelfIn, withUnit}
+use Rattle.state.specs.Bytes.{col, unitBy, shelfIn, withUnit}
 use Rattle.state.specs.Placing.{linkByte, modeByte, markByte, columnsOf, freshBytes, declaredBy, joined}
 use Rattle.state.proofs.Laws.{units-length, unit-at}
 use Rattle.state.proofs.Placed.{placed-long, placed-kept, placed-count, placed-here, placed-there, declared-shelf, part-at}
 use Rattle.state.proofs.Afresh.{fresh-long, fresh-zero, fresh-shelf}
 use Rattle.state.proofs.Joined.{session-long, session-kept, joined-shelf}
-use Rattle.soundness.specs.Lanes.{formed, lanes}
+use Rattle.soundness.specs.Lanes.{formed}
 use Rattle.soundness.specs.Soundings.{formedAll}
 use Rattle.soundness.proofs.Sounding.{lanes-at, lanes-all}
 use Rattle.judge.proofs.Owning.{found-in}

@@ -5,7 +5,6 @@ use Prim.Native.Nat.{ℕ}
 use Rattle.card.specs.declared.Card.{Card}
 use Rattle.lookup.specs.Record.{usable}
 use Rattle.state.specs.Bytes.{shelfIn}
-use Rattle.state.specs.Placing.{freshBytes}
 use Rattle.state.proofs.Afresh.{fresh-shelf}
 use Rattle.told.specs.Told.{shelfOf}
 use Rattle.told.specs.Lines.{Ran, done, stopped}

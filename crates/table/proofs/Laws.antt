@@ -7,13 +7,11 @@ use mathlib.Core.List.{List}
 use lib.Dec.{ltb}
 use borrow.Author.Tests.{ltb-false}
 use Rattle.card.specs.declared.Card.{Card}
-use Rattle.lookup.specs.Record.{size, usable}
-use Rattle.table.specs.declared.Outcome.the-variants.{Loaded, Refused}
+use Rattle.lookup.specs.Record.{usable}
 use Rattle.table.specs.Loading.{Loading}
-use Rattle.table.specs.Load.{ranOf, tooLittle, refusal, loadingOf, isLong, load}
-use Rattle.told.specs.Told.{total, shelfOf}
+use Rattle.table.specs.Load.{ranOf, tooLittle, loadingOf, isLong, load}
+use Rattle.told.specs.Told.{shelfOf}
 use Rattle.told.specs.Lines.{Ran, done, stopped}
-use Rattle.judge.specs.Verdicts.{numberOf}
 
 chosen : (P : Loading → Type 0) (b : Bool) {x y : Loading} → (b ≡ true → P x) → (b ≡ false → P y) → P (cond b x y)
 chosen P true px py = px refl

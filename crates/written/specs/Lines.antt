@@ -14,7 +14,6 @@ use Rattle.written.specs.Answers.{answerFields}
 use Rattle.written.specs.declared.Outcome as Ou
 use Rattle.written.specs.declared.Outcome.the-variants.{Nothing, Answered, Counted}
 use Rattle.answer.specs.Counting.{listed}
-use Rattle.answer.specs.declared.Counters.{Counters}
 
 abbrev pub wTable : List ℕ
 wTable = 116 ∷ 97 ∷ 98 ∷ 108 ∷ 101 ∷ []

@@ -1,5 +1,4 @@
 -- `command::command_named` meets its contract. Assumes nothing.
-use mathlib.Core.Path.{_∙_}
 use Rattle.text.specs.Text.{split}
 use borrow.Author.Needs.{needs}
 use Rattle.command.proofs.command_named.Statement.{statement}

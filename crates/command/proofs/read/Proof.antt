@@ -1,5 +1,5 @@
 -- `command::read` meets its contract. Assumes nothing.
-use mathlib.Core.Path.{sym, ap, _∙_}
+use mathlib.Core.Path.{ap, _∙_}
 use Rattle.command.specs.Fields.{placeIn}
 use Rattle.command.specs.Names.{commands}
 use Rattle.command.specs.Commands.{readingOf, spoken}

@@ -1,5 +1,5 @@
 -- `command::span_at` meets its contract. Assumes nothing.
-use mathlib.Core.Path.{sym, ap, _∙_}
+use mathlib.Core.Path.{sym, _∙_}
 use Rattle.command.proofs.FieldLaws.{too-many, no-bytes, bytes-here, field-short}
 use borrow.Author.Needs.{needs}
 use Rattle.command.proofs.span_at.Statement.{statement}

@@ -1,5 +1,5 @@
 -- `command::spoken` meets its contract. Assumes nothing.
-use mathlib.Core.Path.{sym, ap, _∙_}
+use mathlib.Core.Path.{_∙_}
 use Rattle.command.proofs.Laws.{is-show, as-many, not-as-many}
 use borrow.Author.Needs.{needs}
 use Rattle.command.proofs.spoken.Statement.{statement}

@@ -1,7 +1,7 @@
 -- `event::read` meets its contract. Assumes nothing.
-use mathlib.Core.Path.{_≡_, sym, ap, _∙_}
+use mathlib.Core.Path.{sym, ap, _∙_}
 use borrow.Author.Tests.{eq-eqb, ne-eqb}
-use Rattle.text.specs.Text.{same, fieldsOf, fieldOf}
+use Rattle.text.specs.Text.{same}
 use Rattle.event.specs.Names.{wArrive, wFrame, wTake, wCount}
 use Rattle.event.specs.declared.Event.the-variants.{Take, Count}
 use Rattle.event.specs.Events.{eventIn, arriveOf, on, unitOf}

@@ -2,7 +2,7 @@
 use Prim.Native.Nat.{_<_}
 use native.Mathlib.Omega.{arith}
 use lib.Bits.{bitXor, xor-lt}
-use Rattle.header.proofs.Reduced.{product, product-lt, folded-at}
+use Rattle.header.proofs.Reduced.{product-lt, folded-at}
 use borrow.Author.Needs.{needs}
 use Rattle.header.proofs.pass.Statement.{statement}
 use Rattle.header.proofs.pass.Tie as tie

@@ -4,9 +4,8 @@ use mathlib.Core.Bool.{cond}
 use borrow.Author.Tests.{not-true, not-false}
 use Rattle.answer.specs.declared.Hearing.the-variants.{Other}
 use Rattle.state.specs.Bytes.{unitIn}
-use Rattle.hearing.specs.Hearings.{planTo, planOf, fateBy, storeBy}
+use Rattle.hearing.specs.Hearings.{Lost, planTo, planOf, fateBy, storeBy}
 use Rattle.hearing.specs.InPlace.{stateBy}
-use Rattle.hearing.specs.declared.Plan.the-variants.{Lost}
 use Rattle.hearing.proofs.InPlace.{lost-all}
 use borrow.Author.Needs.{needs}
 use Rattle.hearing.proofs.hear_one.Statement.{statement}

@@ -2,7 +2,6 @@
 use mathlib.Core.Path.{sym, _∙_}
 use Rattle.named.specs.Named.{unitText}
 use Rattle.named.proofs.Written.{found-below}
-use native.Mathlib.Omega.{arith}
 use borrow.Author.Needs.{needs}
 use Rattle.named.proofs.unit.Statement.{statement}
 use Rattle.named.proofs.unit.Tie as tie

@@ -1,5 +1,4 @@
 -- `outlet::fate_in` meets its contract. Assumes nothing.
-use mathlib.Core.Path.{sym, _∙_}
 use Rattle.header.specs.Fields.{fields}
 use borrow.Author.Needs.{needs}
 use Rattle.outlet.proofs.fate_in.Statement.{statement}

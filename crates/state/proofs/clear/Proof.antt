@@ -1,10 +1,9 @@
 -- `state::clear` meets its contract. Assumes nothing.
 use mathlib.Core.Path.{_≡_, refl, _∙_}
-use mathlib.Core.List.{_++_, append-nil}
+use mathlib.Core.List.{_++_}
 use Prim.Native.Nat.{_≤_, _-_}
-use lib.ListN.{length, drop, replicate, length-set, drop-of-length-le}
+use lib.ListN.{length, drop, replicate, length-set}
 use borrow.Author.Fill.{fill-more}
-use Rattle.state.specs.Placing.{zeros}
 use native.Mathlib.Omega.{arith}
 use borrow.Author.Needs.{needs}
 use Rattle.state.proofs.Afresh.{all-zero}

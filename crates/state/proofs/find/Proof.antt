@@ -1,19 +1,15 @@
 -- `state::find` meets its contract. Assumes nothing.
 use Prim.Native.Nat.{_≤_, _-_, min}
-use mathlib.Core.Path.{_≡_, refl, sym, ap, _∙_}
+use mathlib.Core.Path.{_≡_, refl, sym, _∙_}
 use native.Mathlib.Omega.{arith}
-use lib.ListN.{length, drop}
+use lib.ListN.{drop}
 use borrow.Author.Needs.{needs}
-use Rattle.shelf.specs.Shelves.{declared, numbers, numberOf, placeFrom, findIn, blank}
+use Rattle.shelf.specs.Shelves.{declared, numbers, placeFrom, findIn, blank}
 use Rattle.shelf.proofs.Finding.{here, later, nowhere}
-use Rattle.state.specs.Bytes.{shelfIn, unitBy}
+use Rattle.state.specs.Bytes.{shelfIn}
 use Rattle.state.proofs.Laws.{units-length, number-at}
 use Rattle.state.proofs.find.Statement.{statement}
 use Rattle.state.proofs.find.Tie as tie
-use Rattle.state.proofs.find.Reads as reads
-use Rattle.state.proofs.find.Lts as lts
-use Rattle.shelf.proofs.declared_count.Reads as declared-count-reads
-use Rattle.state.proofs.at.Reads as at-reads
 
 abbrev Inv-loop : tie.InvT-loop
 Inv-loop s number end i₀ i =

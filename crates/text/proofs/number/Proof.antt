@@ -1,13 +1,12 @@
 -- `text::number` meets its contract. Assumes nothing.
 use mathlib.Core.Path.{_≡_, refl, sym, _∙_}
 use mathlib.Core.Bool.{true}
-use Prim.Native.Nat.{_+_, _*_, _≤_, _<_, _-_}
-use native.Mathlib.Nat.{lt-of-lt-of-le}
+use Prim.Native.Nat.{_≤_, _-_}
 use native.Mathlib.Omega.{arith}
-use lib.ListN.{length, drop, getD}
+use lib.ListN.{length, drop}
 use borrow.Author.Tests.{not-true, not-false}
 use Rattle.text.specs.Digits.{digits, decimalOf, value}
-use Rattle.text.proofs.Numbers.{has-digits, digit-at, at-least, digits-on, value-on, value-end, grows}
+use Rattle.text.proofs.Numbers.{has-digits, digit-at, at-least, digits-on, value-on, value-end}
 use Rattle.text.proofs.NumberLaws.{past, no-numeral, numeral-above, numeral-is}
 use borrow.Author.Needs.{needs}
 use Rattle.text.proofs.number.Statement.{statement}

@@ -1,9 +1,9 @@
 -- `text::put_decimal` meets its contract. Assumes nothing.
-use mathlib.Core.Path.{_≡_, refl, sym, ap, ap₂, _∙_}
+use mathlib.Core.Path.{_≡_, refl, sym, ap, _∙_}
 use mathlib.Core.List.{_++_, append-nil}
-use Prim.Native.Nat.{_+_, _*_, _<_, _≤_, _-_, _/_, _^_}
+use Prim.Native.Nat.{_+_, _<_, _≤_, _-_, _^_}
 use native.Mathlib.Omega.{arith}
-use lib.ListN.{length, length-set, drop, length-drop}
+use lib.ListN.{length, length-set, drop}
 use Rattle.octets.specs.Octets.{splice}
 use Rattle.text.specs.Decimals.{decimal, digitsTo}
 use Rattle.text.proofs.NumberLaws.{digit-turn, next-place, decimal-most, decimal-ended}

@@ -1,5 +1,4 @@
 -- `text::put_number` meets its contract. Assumes nothing.
-use Prim.Native.Nat.{_≤_}
 use native.Mathlib.Omega.{arith}
 use Rattle.text.proofs.Splices.{then}
 use borrow.Author.Needs.{needs}

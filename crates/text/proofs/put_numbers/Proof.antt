@@ -1,14 +1,12 @@
 -- `text::put_numbers` meets its contract. Assumes nothing.
-use mathlib.Core.Path.{_≡_, refl, ap, _∙_}
-use mathlib.Core.List.{_++_}
+use mathlib.Core.Path.{_≡_, refl}
 use Prim.Native.Nat.{_+_, _*_, _≤_, _-_}
-use native.Mathlib.Numerals.{add-one}
 use native.Mathlib.Omega.{arith}
-use lib.ListN.{length, take, getD}
-use lib.Seq.{take-suc, take-all}
+use lib.ListN.{length, take}
+use lib.Seq.{take-all}
 use Rattle.text.specs.Writing.{Wrote}
-use Rattle.text.specs.Decimals.{numberField, numberFields}
-use Rattle.text.proofs.Splices.{then, cat-snoc, nothing}
+use Rattle.text.specs.Decimals.{numberFields}
+use Rattle.text.proofs.Splices.{then}
 use Rattle.text.proofs.NumberLaws.{no-fields, one-more}
 use borrow.Author.Needs.{needs}
 use Rattle.text.proofs.put_numbers.Statement.{statement}

@@ -1,7 +1,7 @@
 -- `written::put_unloaded` meets its contract. Assumes nothing.
 use mathlib.Core.List.{[], _∷_}
 use native.Mathlib.Omega.{arith}
-use Rattle.written.proofs.FieldJoins.{one, more}
+use Rattle.written.proofs.FieldJoins.{more}
 use borrow.Author.Needs.{needs}
 use Rattle.written.proofs.put_unloaded.Statement.{statement}
 use Rattle.written.proofs.put_unloaded.Tie as tie

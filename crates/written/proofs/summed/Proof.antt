@@ -1,7 +1,5 @@
 -- `written::summed` meets its contract. Assumes nothing.
 use Rattle.text.proofs.Splices.{then}
-use mathlib.Core.Path.{_≡_, ap, _∙_}
-use Rattle.octets.specs.Octets.{be4}
 use native.Mathlib.Omega.{arith}
 use borrow.Author.Needs.{needs}
 use Rattle.written.proofs.summed.Statement.{statement}
