@@ -149,29 +149,35 @@ module _ (n : ℕ) (card : Card) (b : List ℕ) where
       (λ f. rw f (omega arith))
 
 -- ---- the contracts
+abbrev pub few : List Counters → ℕ → List Counters
+few rows lent = take (min lent 40) rows
+
+abbrev pub rest : List Counters → ℕ → List Counters
+rest rows lent = drop (min lent 40) rows
+
 module _ (rows : List Counters) (lent : ℕ) (long : length rows ≡ 40) where
   abbrev n : ℕ
   n = min lent 40
 
-  abbrev pub few : List Counters
-  few = take n rows
+  abbrev lot : List Counters
+  lot = few rows lent
 
-  abbrev pub rest : List Counters
-  rest = drop n rows
+  abbrev others : List Counters
+  others = rest rows lent
 
-  pub many : length few ≡ n
+  pub many : length lot ≡ n
   many = omega (arith, length-take n rows, long)
 
-  pub whole : (zs : List Counters) → length zs ≡ length few → length (zs ++ rest) ≡ 40
-  whole zs e = omega (arith, length-append zs rest, length-drop n rows, many, long, e)
+  pub whole : (zs : List Counters) → length zs ≡ length lot → length (zs ++ others) ≡ 40
+  whole zs e = omega (arith, length-append zs others, length-drop n rows, many, long, e)
 
-  behind : (rises : Rises) (zs : List Counters) → zs ≡ settled few rises → rises .to ≤ n → zs ++ rest ≡ settled rows rises
-  behind rises zs e h = ap (λ (l : List Counters). l ++ rest) e ∙ settled-first rows rises n (rises .to) (omega (arith, long)) h
+  behind : (rises : Rises) (zs : List Counters) → zs ≡ settled lot rises → rises .to ≤ n → zs ++ others ≡ settled rows rises
+  behind rises zs e h = ap (λ (l : List Counters). l ++ others) e ∙ settled-first rows rises n (rises .to) (omega (arith, long)) h
 
   module _ (card : Card) (r : Answer) (zs : List Counters) where
-    pub loads-few : (text memory store m s : List ℕ) → LeavesMemory (loads card text memory store few (length few)) r m s zs → LeavesMemory (loads card text memory store rows lent) r m s (zs ++ rest)
+    pub loads-few : (text memory store m s : List ℕ) → LeavesMemory (loads card text memory store lot (length lot)) r m s zs → LeavesMemory (loads card text memory store rows lent) r m s (zs ++ others)
     loads-few text memory store m s h =
-        let g = subst (λ (k : ℕ). LeavesMemory (loads card text memory store few k) r m s zs) many h in
+        let g = subst (λ (k : ℕ). LeavesMemory (loads card text memory store lot k) r m s zs) many h in
         let e = load-few card (length store) lent text memory in
         let most = load-rows card text memory (length store) n in (
           g .0 ∙ ap (λ (l : Loading). doneOf l .reply .answer) (e .0),
@@ -179,42 +185,42 @@ module _ (rows : List Counters) (lent : ℕ) (long : length rows ≡ 40) where
         )
 
     module _ (b : List ℕ) (store : List ℕ) (s : List ℕ) where
-      pub arrives-few : (memory : List ℕ) (unit : ℕ) (cell t : List ℕ) → LeavesStore (arrives card b memory store few (length few) unit cell) r s t zs → LeavesStore (arrives card b memory store rows lent unit cell) r s t (zs ++ rest)
+      pub arrives-few : (memory : List ℕ) (unit : ℕ) (cell t : List ℕ) → LeavesStore (arrives card b memory store lot (length lot) unit cell) r s t zs → LeavesStore (arrives card b memory store rows lent unit cell) r s t (zs ++ others)
       arrives-few memory unit cell t h =
-          let g = subst (λ (k : ℕ). LeavesStore (arrives card b memory store few k unit cell) r s t zs) many h in
-          subst (λ (l : Left). LeavesStore l r s t (zs ++ rest)) same (g .0, (g .1 .0, (g .1 .1 .0, behind (arriveOut card b memory (length store) n unit cell .rises) zs (g .1 .1 .1) (arrive-most n card b memory (length store) unit cell))))
+          let g = subst (λ (k : ℕ). LeavesStore (arrives card b memory store lot k unit cell) r s t zs) many h in
+          subst (λ (l : Left). LeavesStore l r s t (zs ++ others)) same (g .0, (g .1 .0, (g .1 .1 .0, behind (arriveOut card b memory (length store) n unit cell .rises) zs (g .1 .1 .1) (arrive-most n card b memory (length store) unit cell))))
         where
           same : arrives card b memory store rows n unit cell ≡ arrives card b memory store rows lent unit cell
           same = rw (admitted-few card (shelfIn b) (length store) lent unit (eqb (length cell) 53), admitted-in-few card b (length store) lent unit (eqb (length cell) 53))
 
-      pub hears-few : (unit : ℕ) (heard t : List ℕ) → LeavesStore (hears card b store few (length few) unit heard) r s t zs → LeavesStore (hears card b store rows lent unit heard) r s t (zs ++ rest)
+      pub hears-few : (unit : ℕ) (heard t : List ℕ) → LeavesStore (hears card b store lot (length lot) unit heard) r s t zs → LeavesStore (hears card b store rows lent unit heard) r s t (zs ++ others)
       hears-few unit heard t h =
-          let g = subst (λ (k : ℕ). LeavesStore (hears card b store few k unit heard) r s t zs) many h in
-          subst (λ (l : Left). LeavesStore l r s t (zs ++ rest)) same (g .0, (g .1 .0, (g .1 .1 .0, behind (hearOut card b (length store) n unit heard .rises) zs (g .1 .1 .1) (hear-most n card b (length store) unit heard))))
+          let g = subst (λ (k : ℕ). LeavesStore (hears card b store lot k unit heard) r s t zs) many h in
+          subst (λ (l : Left). LeavesStore l r s t (zs ++ others)) same (g .0, (g .1 .0, (g .1 .1 .0, behind (hearOut card b (length store) n unit heard .rises) zs (g .1 .1 .1) (hear-most n card b (length store) unit heard))))
         where
           same : hears card b store rows n unit heard ≡ hears card b store rows lent unit heard
           same = rw (admitted-few card (shelfIn b) (length store) lent unit (eqb (length heard) 57), admitted-in-few card b (length store) lent unit (eqb (length heard) 57))
 
-      pub takes-few : (unit : ℕ) (buffer t : List ℕ) → LeavesBytes (takes card b store few (length few) unit buffer) r s t zs → LeavesBytes (takes card b store rows lent unit buffer) r s t (zs ++ rest)
+      pub takes-few : (unit : ℕ) (buffer t : List ℕ) → LeavesBytes (takes card b store lot (length lot) unit buffer) r s t zs → LeavesBytes (takes card b store rows lent unit buffer) r s t (zs ++ others)
       takes-few unit buffer t h =
-          let g = subst (λ (k : ℕ). LeavesBytes (takes card b store few k unit buffer) r s t zs) many h in
-          subst (λ (l : Left). LeavesBytes l r s t (zs ++ rest)) same (g .0, (g .1 .0, (g .1 .1 .0, behind (takeOut card b (length store) n unit (length buffer) .rises) zs (g .1 .1 .1) (take-most n card b (length store) unit (length buffer)))))
+          let g = subst (λ (k : ℕ). LeavesBytes (takes card b store lot k unit buffer) r s t zs) many h in
+          subst (λ (l : Left). LeavesBytes l r s t (zs ++ others)) same (g .0, (g .1 .0, (g .1 .1 .0, behind (takeOut card b (length store) n unit (length buffer) .rises) zs (g .1 .1 .1) (take-most n card b (length store) unit (length buffer)))))
         where
           same : takes card b store rows n unit buffer ≡ takes card b store rows lent unit buffer
           same = rw (admitted-few card (shelfIn b) (length store) lent unit (eqb (length buffer) 53), admitted-in-few card b (length store) lent unit (eqb (length buffer) 53))
 
-      pub frames-few : (buffer t u : List ℕ) → LeavesAll (frames card b store few (length few) buffer) r s t u zs → LeavesAll (frames card b store rows lent buffer) r s t u (zs ++ rest)
+      pub frames-few : (buffer t u : List ℕ) → LeavesAll (frames card b store lot (length lot) buffer) r s t u zs → LeavesAll (frames card b store rows lent buffer) r s t u (zs ++ others)
       frames-few buffer t u h =
-          let g = subst (λ (k : ℕ). LeavesAll (frames card b store few k buffer) r s t u zs) many h in
-          subst (λ (l : Left). LeavesAll l r s t u (zs ++ rest)) same (g .0, (g .1 .0, (g .1 .1 .0, (g .1 .1 .1 .0, behind (frameOut card b store n (length buffer) .rises) zs (g .1 .1 .1 .1) (frame-most n card b store (length buffer))))))
+          let g = subst (λ (k : ℕ). LeavesAll (frames card b store lot k buffer) r s t u zs) many h in
+          subst (λ (l : Left). LeavesAll l r s t u (zs ++ others)) same (g .0, (g .1 .0, (g .1 .1 .0, (g .1 .1 .1 .0, behind (frameOut card b store n (length buffer) .rises) zs (g .1 .1 .1 .1) (frame-most n card b store (length buffer))))))
         where
           same : frames card b store rows n buffer ≡ frames card b store rows lent buffer
           same = rw (sound-few card (shelfIn b) (length store) lent, sound-in-few card b (length store) lent)
 
-  pub counts-few : (card : Card) (b store : List ℕ) (unit : ℕ) (r : Counted) → r ≡ countsOf card b store few (length few) unit → r ≡ countsOf card b store rows lent unit
+  pub counts-few : (card : Card) (b store : List ℕ) (unit : ℕ) (r : Counted) → r ≡ countsOf card b store lot (length lot) unit → r ≡ countsOf card b store rows lent unit
   unfolding counted
   counts-few card b store unit r h =
       let at = countedIn card b (length store) n unit in
-      h ∙ ap (λ (k : ℕ). countsOf card b store few k unit) many
+      h ∙ ap (λ (k : ℕ). countsOf card b store lot k unit) many
       ∙ decide (eqb (at .number) 0) (λ t. rw (t, getD-take n rows (at .at) zeros (row-there card b (length store) n unit (eqb-true (at .number) 0 t) .1))) (λ t. rw t)
       ∙ ap (λ (a : A.Admitted). countOf (toldApart a) rows) (admitted-in-few card b (length store) lent unit true)
