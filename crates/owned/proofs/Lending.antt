@@ -1,7 +1,7 @@
 -- What the walks of `owned` share: the first so many of 40 rows in a local array are lent to an entry point, and the array is whole again afterwards.
 --     lends-first, first-back     the first k elements of a local array are lent as a `&mut [T]`, the others stay; and back, with the last list in their place
 --     lends-to     a call of an entry point that is lent the rows so
---     meets, ends     from a walk whose parameters' machine values are written out to `Meets`; and how it ends, with what the callee says of the last values
+--     meets, exits     from a walk whose parameters' machine values are written out to `Meets`; and how it ends, with what the callee says of the last values
 -- Assumes `Given`, and that the table of calls is monotone under a frame.
 use mathlib.Core.Path.{_≡_, refl, sym, _∙_, ap, subst}
 use Prim.Native.Nat.{ℕ, min}
@@ -20,16 +20,17 @@ use prog.Wp.{Heap, Env, Calls, Loops}
 use ghost.Atoms.{Atoms, sem}
 use sound.WpLaws.{FmC}
 use contract.Lifetimes.{Lfts, Shares, AllOutlive, toks}
-use contract.Monad.{Fun}
-use types.Kit.{Goal, Soaks, Given, Item, ‵, raw, mean, _⊛_, some, later, Post, runs, lands, Seq, Step, step, _$_, _∵_, !, qed, use1, use2, use3, await, pick, split, split3, join, fsplit, fjoin, fpick, fpack, feqL, feqI, move, drop, rewrite, show, frame, updating, now as at-once, done}
+use contract.Monad.{Fun, fact, factI}
+use types.Kit.{Goal, Soaks, Given, Item, ‵, raw, mean, _⊛_, some, later, Post, runs, lands, Seq, Step, step, _$_, _∵_, !, qed, by, use0, use1, use2, use3, await, pick, split, join, fsplit, fjoin, fpick, fpack, feqL, feqI, move, drop, rewrite, show, frame, updating, now as at-once, done, ⋆}
 use types.Run.{Opds}
 use types.Tokens.{lft-new, lft-end}
 use types.SemTy.{cells, Arr}
 use types.Share.{arr-parts}
 use denote.RattleType.{RattleType, flat}
 use denote.Laws.{Is, Are, Ises, Spells, Tellss, Makes, shows, valss as spelled}
-use denote.Plain.{uint-makes}
-use denote.Builtin.{usize}
+use denote.Plain.{uint-makes, uint-lawful}
+use denote.Struct.Laws as LL
+use denote.Builtin.{u8, usize}
 use denote.Memory.{lone, mem, shares, cellAt, partAt, partOf}
 use denote.Array.{Array, arrayVal}
 use denote.ArrayMemory.{Single, array-apart, array-whole}
@@ -52,10 +53,11 @@ use Rattle.answer.proofs.Counters as T
 use Rattle.answer.proofs.Counters.Laws as T′
 use Rattle.answer.proofs.Row as R
 use Rattle.answer.proofs.Calls.{Of, calls-of, calls-plain}
-use Rattle.entry.proofs.Arguments.{Got, Lent, Arg, the-array, the-number, the-rows, ref, val, kinds, args, valss, tokens-of, lifetimes, shares as portions}
+use Rattle.entry.proofs.Arguments.{Got, Lent, Arg, the-rows, ref, val, kinds, args, valss, tokens-of, lifetimes, shares as portions, Typed, word}
 use Rattle.entry.proofs.Entering.{each, all, tokens, living, answer-owned}
 use Rattle.owned.specs.declared.After.{After}
 use Rattle.owned.proofs.After as F
+use Rattle.owned.proofs.After.Laws as F′
 use Rattle.owned.proofs.within as within
 use Rattle.owned.proofs.within.Symbol.{name as #within}
 use Rattle.owned.proofs.joined as joined
@@ -122,9 +124,6 @@ tokened 𝓤 A ts = toks 𝓤 A (length ts) (lifetimes ts) (portions ts)
 
 -- ---- the call of an entry point: the arguments before and after the rows, the array of rows, which lies at l, and how many are lent
 module _ (before after : List Arg) (rows : Got R.Row40) (lent : Got usize) (l : ℕ) where
-  abbrev pub had : List Arg
-  had = before ++ the-array rows ∷ the-number lent ∷ after
-
   abbrev lot : List Counters
   lot = few (rows .x) (lent .x)
 
@@ -132,7 +131,7 @@ module _ (before after : List Arg) (rows : Got R.Row40) (lent : Got usize) (l : 
   others = rest (rows .x) (lent .x)
 
   -- the rows that are lent for α, under the name γ
-  abbrev out : GName → Lent T.the-row
+  abbrev pub out : GName → Lent T.the-row
   out γ = record { b = l; o = 0; γ = γ; at = lot; room = room-take T.the-row 40 (min (lent .x) 40) (rows .x) (rows .ok .1 .0 .1) (lit< tt, lit< tt) }
 
   abbrev pub lending : ℕ → GName → List Arg
@@ -177,6 +176,10 @@ module _ (before after : List Arg) (rows : Got R.Row40) (lent : Got usize) (l : 
         move t (2 ∷ 6 ∷ 0 ∷ 7 ∷ []) $ first-back t tt T.the-row 40 (α ∷ []) γ lot others (zs α γ ws) l (whole (rows .x) (lent .x) (rows .ok .1 .0 .1) (zs α γ ws)) (λ v is.
         move t (4 ∷ 3 ∷ 0 ∷ 2 ∷ 1 ∷ []) $ k α γ nv r ws v is))))
 
+-- what is said of the last bytes of a lent slice
+abbrev pub written : Lent u8 → List ℕ → Fml
+written x zs = fsep (finally u8 (x .γ) zs) (feq ℕ (length zs) (length (x .at)))
+
 -- ---- the other two calls
 module _ {M : Type 1} (𝓤 : URA M) (H : Heap 𝓤) (A : Atoms 𝓤) (mem : Memory → SProp 𝓤) (run : Routine → Fun 𝓤) where
   abbrev pub Within : Contract 𝓤
@@ -201,10 +204,10 @@ module _ {M : Type 1} (𝓤 : URA M) (H : Heap 𝓤) (A : Atoms 𝓤) (mem : Mem
 module _ {M : Type 1} {𝓤 : URA M} {H : Heap 𝓤} {A : Atoms 𝓤} {K : Type 0} {W : Given 𝓤 H A} {Γ : List (Item 𝓤)} {E : Env 𝓤 H} {C : Calls 𝓤 H} {ops : List Operand} {Λ : Loops 𝓤 H} {q : Post 𝓤 H} {d : Place} {on : Body} where
   pub withins : K → FmC 𝓤 H (W .laws) C → (mem : Memory → SProp 𝓤) (run : Routine → Fun 𝓤) → Triple 𝓤 (C #within) (Within 𝓤 H A mem run) → (rows : Got R.Row40) (lent : Got usize)
       → Opds K W (raw (Within 𝓤 H A mem run .pre (to-within 𝓤 H A mem run lent)) ∷ Γ) E ops (lent .v ∷ [])
-      → Seq K W Γ (lands C Λ E d (vint w64 (length (few (rows .x) (lent .x)))) on q) → Seq K W Γ (runs C Λ E (seq (call #within ops d) on) q)
-  withins t fm mem run known rows lent os k =
-      calls-plain t fm within.ended (within.clauses 𝓤 H A mem run) known (to-within 𝓤 H A mem run lent) (goes-within 𝓤 H A mem run W lent) (λ r. r ≡ min (lent .x) 40) (λ r e. id⊢ 𝓤 _) os
-      (λ v r e ok. subst (λ (u : Val). Seq K W Γ (lands C Λ E d u on q)) (sym (ap only (ok .0) ∙ ap (vint w64) (e ∙ sym (many (rows .x) (lent .x) (rows .ok .1 .0 .1))))) k)
+      → Step K W Γ (lands C Λ E d (vint w64 (length (few (rows .x) (lent .x)))) on q) Γ (runs C Λ E (seq (call #within ops d) on) q)
+  withins t fm mem run known rows lent os =
+      step (λ k. calls-plain t fm within.ended (within.clauses 𝓤 H A mem run) known (to-within 𝓤 H A mem run lent) (goes-within 𝓤 H A mem run W lent) (λ r. r ≡ min (lent .x) 40) (λ r e. id⊢ 𝓤 _) os
+      (λ v r e ok. subst (λ (u : Val). Seq K W Γ (lands C Λ E d u on q)) (sym (ap only (ok .0) ∙ ap (vint w64) (e ∙ sym (many (rows .x) (lent .x) (rows .ok .1 .0 .1))))) k))
 
   pub joins : K → FmC 𝓤 H (W .laws) C → (mem : Memory → SProp 𝓤) (run : Routine → Fun 𝓤) → Triple 𝓤 (C #joined) (Joined 𝓤 H A mem run)
       → (r : Answer) (zs : List Counters) (nv rv : Val) → Is N.the-row r (nv ∷ []) → Is R.Row40 zs (rv ∷ []) → Opds K W (raw (Joined 𝓤 H A mem run .pre (to-joined 𝓤 H A mem run r zs nv rv)) ∷ Γ) E ops (nv ∷ rv ∷ [])
@@ -213,17 +216,29 @@ module _ {M : Type 1} {𝓤 : URA M} {H : Heap 𝓤} {A : Atoms 𝓤} {K : Type 
       calls-plain t fm joined.ended (joined.clauses 𝓤 H A mem run) known (to-joined 𝓤 H A mem run r zs nv rv) (goes-joined 𝓤 H A mem run W r zs nv rv n-ok r-ok) (λ h. (h .answer ≡ r) × (h .rows ≡ zs)) (λ h _. id⊢ 𝓤 _) os
       (λ v h e ok. k v (subst (λ (x : After). Is F.the-row x (v ∷ [])) (λ i. record { answer = e .0 i; rows = e .1 i }) ok))
 
+module _ {M : Type 1} {𝓤 : URA M} {H : Heap 𝓤} {A : Atoms 𝓤} (W : Given 𝓤 H A) where
+  pub number-typed : (n : Got usize) → Typed word (n .v)
+  number-typed n = uint-lawful 𝓤 H A W w64 .typed (n .x) (n .v ∷ []) (n .ok) .0
+
+  pub after-owned : (x : After) (v : Val) → Is F.the-row x (v ∷ []) → ent 𝓤 (emp 𝓤) (sem 𝓤 H A (F.the-row .own x (v ∷ [])))
+  after-owned x v ok = LL.makes F.the-type F′.the-plain 𝓤 H A x (v ∷ []) ok
+
+  pub after-typed : (x : After) (v : Val) → Is F.the-row x (v ∷ []) → Typed F′.mir v
+  after-typed x v ok = LL.lawful F.the-type F′.the-laws 𝓤 H A W .typed x _ ok .0
+
 -- ---- the walk as a whole
 module _ {M : Type 1} (𝓤 : URA M) (H : Heap 𝓤) (A : Atoms 𝓤) (T : Ended) (c : Clauses 𝓤 T) where
   abbrev S : Signature
   S = T .signature
 
-  pub ends : Given 𝓤 H A → (y : Of 𝓤 H A T c .Ghost) (v : Val) (r : Res S (y .0 .0)) (ws : Lasts T (y .0 .0) (y .0 .3))
-      → ent 𝓤 (sep 𝓤 (sep 𝓤 (alive 𝓤 H A S (y .0 .0) (y .0 .1)) (sep 𝓤 (sem 𝓤 H A (lasts T (y .0 .0) (y .0 .3) ws)) (sem 𝓤 H A (typeAt (S .result) (y .0 .0) .own r (v ∷ []))))) (c (y .0 .0) (y .0 .3) .ensures (y .1) r (atExit T (y .0 .0) (y .0 .3) ws))) (Of 𝓤 H A T c .post y v)
-  ends W y v r ws =
-      qed W ((raw (alive 𝓤 H A S (y .0 .0) (y .0 .1)) ⊛ ‵ (lasts T (y .0 .0) (y .0 .3) ws) ⊛ ‵ (typeAt (S .result) (y .0 .0) .own r (v ∷ []))) ∷ raw (c (y .0 .0) (y .0 .3) .ensures (y .1) r (atExit T (y .0 .0) (y .0 .3) ws)) ∷ []) ∵ updating ! $ split3 ! $ at-once ! $
-      show ! (λ (r′ : Res S (y .0 .0)). sep 𝓤 (Back 𝓤 H A S (y .0) v r′) (ensured 𝓤 H A T c (y .0 .0) (y .0 .3) (y .1) r′)) r $ move ! (0 ∷ 2 ∷ []) $ join ! $ frame ! $
-      show ! (λ (us : Lasts T (y .0 .0) (y .0 .3)). sep 𝓤 (sem 𝓤 H A (lasts T (y .0 .0) (y .0 .3) us)) (c (y .0 .0) (y .0 .3) .ensures (y .1) r (atExit T (y .0 .0) (y .0 .3) us))) ws $ done !
+  -- it ends with the tokens and what is said of the last values; the result owns nothing, and the `ensures` is a fact
+  pub exits : Given 𝓤 H A → (y : Of 𝓤 H A T c .Ghost) (v : Val) (r : Res S (y .0 .0)) (ws : Lasts T (y .0 .0) (y .0 .3)) (ts : List (Lft × Share)) (φ : Type 0)
+      → ent 𝓤 (mean 𝓤 H A (tokens ts)) (alive 𝓤 H A S (y .0 .0) (y .0 .1)) → ent 𝓤 (emp 𝓤) (sem 𝓤 H A (typeAt (S .result) (y .0 .0) .own r (v ∷ [])))
+      → ent 𝓤 (fact 𝓤 φ) (c (y .0 .0) (y .0 .3) .ensures (y .1) r (atExit T (y .0 .0) (y .0 .3) ws)) → φ → ent 𝓤 (⋆ 𝓤 H A (tokens ts ∷ ‵ (lasts T (y .0 .0) (y .0 .3) ws) ∷ [])) (Of 𝓤 H A T c .post y v)
+  exits W y v r ws ts φ live own says x =
+      qed W (tokens ts ∷ ‵ (lasts T (y .0 .0) (y .0 .3) ws) ∷ []) ∵ updating ! $ at-once ! $ show ! (λ (r′ : Res S (y .0 .0)). sep 𝓤 (Back 𝓤 H A S (y .0) v r′) (ensured 𝓤 H A T c (y .0 .0) (y .0 .3) (y .1) r′)) r $
+      use0 W (‵ (typeAt (S .result) (y .0 .0) .own r (v ∷ []))) own $ move ! (1 ∷ []) $ use1 W (raw (alive 𝓤 H A S (y .0 .0) (y .0 .1))) live $ join ! $ frame ! $
+      show ! (λ (us : Lasts T (y .0 .0) (y .0 .3)). sep 𝓤 (sem 𝓤 H A (lasts T (y .0 .0) (y .0 .3) us)) (c (y .0 .0) (y .0 .3) .ensures (y .1) r (atExit T (y .0 .0) (y .0 .3) us))) ws $ frame ! $ by ! (via 𝓤 (fact 𝓤 φ) (factI 𝓤 φ (emp 𝓤) x) says)
 
   pub meets : (run : Fun 𝓤) (sp : (κs : Lfts (S .lifetimes)) → Spells (typesAt (S .params) κs)) → ((κs : Lfts (S .lifetimes)) → Tellss (typesAt (S .params) κs) (Ises (typesAt (S .params) κs)) (sp κs))
       → ((κs : Lfts (S .lifetimes)) (qs : Shares (S .lifetimes)) (bounds : AllOutlive (S .lifetimes) (S .outlives) κs) (a : Args S κs) (g : c κs a .ghost)
