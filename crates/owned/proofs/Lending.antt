@@ -1,6 +1,6 @@
 -- What the walks of `owned` share: the first so many of 40 rows in a local array are lent to an entry point, and the array is whole again afterwards.
---     lends-first, first-back     the first k elements of a local array are lent as a `&mut [T]`, the others stay; and back, with the last list in their place
---     lends-to     a call of an entry point that is lent the rows so
+--     to-write, to-read     how they are lent and come back, as a `&mut` slice and as a `&` one.        lends-to     the call of an entry point with them
+--     withins, joins     the other two calls
 --     meets, exits     from a walk whose parameters' machine values are written out to `Meets`; and how it ends, with what the callee says of the last values
 -- Assumes `Given`, and that the table of calls is monotone under a frame.
 pub use Rattle.entry.proofs.Walking.{_≡_, refl, none, ℕ, List, [], _∷_, _++_, length, URA, fullShare, named, mut, w8, w64, tyRef, Val, vint, vptr, SProp, ent, emp, id⊢, via, fst∗, Lft, Share, Memory, Routine, Heap, Env, WpFn, Tables, Atoms, Fun, givenOf, tables, Given, Item, ‵, raw, runs, atRet, Sq, _$_, _∵_, !, qed, by, move, look, init, stop, hop, fld, from, load, addr, of-opd, and-then, no-more, assigns, land, returns, enter, alloc1, alloc0, params1, pass1, pass0, agg, whole, sub, look-in, fmOf, owns, Is, u8, usize, sliceTy, slice-vals, mut-slice-tells, shr-slice-tells, ptr-vals, mut-tells, uint-vals, uint-tells, onEntry, Meets, tripleOf, Contract, Triple, entered, cited}
@@ -16,7 +16,7 @@ use mathlib.Core.Path.{sym, _∙_, ap, subst}
 use Prim.Native.Nat.{min, _<_, _^_}
 use lib.Dec.{lit<}
 use lib.ListN.{take, drop as behind, take-append-drop}
-use mir.Syntax.{Ty, Lifetime, Name, Place, Opd as Operand, Body, tyArray, erased, seq, call}
+use mir.Syntax.{Ty, Name, Place, Opd as Operand, Body, tyArray, erased, seq, call}
 use base.Logic.{sep, wand, comm∗, monoL, wandI, apply∗}
 use base.Fml.{fat, feq, fsep, flft, flent, fdead}
 use prog.Model.{Model}
@@ -28,7 +28,7 @@ use contract.Monad.{fact, factI}
 use contract.Running.{GhostRules, Running}
 use types.Kit.{Goal, Soaks, mean, _⊛_, some, later, Post, lands, Seq, Step, step, use0, use1, use2, use3, await, pick, split, join, fsplit, fjoin, fpick, fpack, feqL, feqI, drop, rewrite, show, frame, updating, now as at-once, done, ⋆}
 use types.Run.{Opds}
-use types.Tokens.{lft-new, lft-end}
+use types.Tokens.{lft-new, lft-end, lent-back}
 use types.SemTy.{cells as elements, Arr}
 use types.Share.{arr-parts}
 use denote.RattleType.{RattleType, Denots, Valss, flat}
@@ -38,9 +38,8 @@ use denote.Struct.Laws as LL
 use denote.Memory.{lone, mem as lies, shares as parts, cellAt, partAt, partOf, pointee}
 use denote.Array.{Array, arrayVal}
 use denote.ArrayMemory.{Single, array-apart, array-whole}
-use denote.Ref.{RefT}
-use denote.Slice.{MutSlice, Room, finally}
-use denote.Lend.{Held, lends-slice, slice-back}
+use denote.Slice.{MutSlice, ShrSlice, finally}
+use denote.Lend.{Held, lends-slice, slice-back, lends-shr-slice}
 use denote.Index.{row as cells-of, whole-in, whole-out}
 use denote.Signature.{Signature, typeAt, typesAt}
 use denote.Steps.{only, owned, facts, heard, nothing, said}
@@ -73,38 +72,33 @@ use Rattle.owned.proofs.joined.Symbol.{name as #joined}
 use Rattle.owned.proofs.joined.Met as joined-thm
 use Rattle.owned.proofs.Few.{few, rest, many, whole as all-there}
 
-abbrev at-list : (R : RattleType) → ℕ → GName → List (R .Denot) → RefT (List (R .Denot))
-at-list R l γ xs = record { ptr = (l, 0); name = γ; now = xs }
-
 -- the elements behind the first of an array at l, which are xs
 abbrev pub stays : (R : RattleType) → List (R .Denot) → List (R .Denot) → ℕ → Fml
 stays R xs ys l = elements (lies R) ys l (at 0 (lies R .size) (length xs))
 
+-- ---- a local array in two: its first k elements, and those behind; and back, with others in place of the first
 module _ {M : Type 1} {𝓤 : URA M} {H : Heap 𝓤} {A : Atoms 𝓤} {K : Type 0} {W : Given 𝓤 H A} {Γ : List (Item 𝓤)} {G : Goal 𝓤 H} where
-  pub lends-first : K → Soaks G → (R : RattleType) → Single (R .mir) → (n : ℕ) → Makes 𝓤 H A (Array R n) (Is (Array R n)) → (ℓ : Lifetime) (κ : Lft) (xs : List (R .Denot)) (k : ℕ) (v : Val) (l : ℕ) → Is (Array R n) xs (v ∷ []) → Room R (length (take k xs))
-      → ((γ : GName) → Seq K W (‵ (MutSlice ℓ κ R .own (at-list R l γ (take k xs)) (sliceVal (l, 0) (length (take k xs)) ∷ [])) ∷ ‵ (flent κ (Held R (length (take k xs)) l 0 γ)) ∷ ‵ (stays R (take k xs) (behind k xs) l) ∷ Γ) G)
-      → Seq K W (‵ (fat fullShare (tyArray (lone (R .mir)) n) l 0 v) ∷ Γ) G
+  pub apart : K → (R : RattleType) → Single (R .mir) → (n : ℕ) → Makes 𝓤 H A (Array R n) (Is (Array R n)) → (xs : List (R .Denot)) (k : ℕ) (v : Val) (l : ℕ) → Is (Array R n) xs (v ∷ [])
+      → Step K W (‵ (elements (lies R) (take k xs) l 0) ∷ ‵ (stays R (take k xs) (behind k xs) l) ∷ Γ) G (‵ (fat fullShare (tyArray (lone (R .mir)) n) l 0 v) ∷ Γ) G
   unfolding partOf
-  lends-first t z R one n mk ℓ κ xs k v l is room on =
-      use1 W (‵ (cellAt fullShare (Array R n .mir) (v ∷ []) l 0)) (W .laws .at-raw fullShare (tyArray (lone (R .mir)) n) l 0 v) $ owned t (Array R n) (Is (Array R n)) mk xs (v ∷ []) is $ move t (1 ∷ 0 ∷ []) $ fjoin t $
+  apart t R one n mk xs k v l is =
+      step (λ s. use1 W (‵ (cellAt fullShare (Array R n .mir) (v ∷ []) l 0)) (W .laws .at-raw fullShare (tyArray (lone (R .mir)) n) l 0 v) $ owned t (Array R n) (Is (Array R n)) mk xs (v ∷ []) is $ move t (1 ∷ 0 ∷ []) $ fjoin t $
       fpack t (List Val) (λ vs. fsep (cellAt fullShare (Array R n .mir) vs l 0) (Array R n .own xs vs)) (v ∷ []) $
       use1 W (‵ (arr-parts (parts R) n .part fullShare xs l 0)) (array-apart 𝓤 H A W R fullShare one n xs l 0) $ fsplit t $ feqL t (λ _.
       use1 W (‵ (elements (lies R) xs l 0)) (whole-in 𝓤 H A W R xs l 0) $ rewrite t 0 (λ (ys : List (R .Denot)). ‵ (elements (lies R) ys l 0)) (sym (take-append-drop k xs)) refl $
-      use1 W (‵ (elements (lies R) (take k xs) l 0) ⊛ ‵ (stays R (take k xs) (behind k xs) l)) (cut-app 𝓤 H A (lies R) (take k xs) (behind k xs) l 0) $ split t $
-      use1 W (later (some (λ (γ : GName). ‵ (MutSlice ℓ κ R .own (at-list R l γ (take k xs)) (sliceVal (l, 0) (length (take k xs)) ∷ [])) ⊛ ‵ (flent κ (Held R (length (take k xs)) l 0 γ))))) (lends-slice 𝓤 H A W R ℓ κ (take k xs) l 0 room) $ await t z $ pick t (λ γ. split t $ on γ))
+      use1 W (‵ (elements (lies R) (take k xs) l 0) ⊛ ‵ (stays R (take k xs) (behind k xs) l)) (cut-app 𝓤 H A (lies R) (take k xs) (behind k xs) l 0) $ split t $ s))
 
-  pub first-back : K → Soaks G → (R : RattleType) (n : ℕ) (κ : Lft) (γ : GName) (xs ys zs : List (R .Denot)) (l : ℕ) → (length zs ≡ length xs → length (zs ++ ys) ≡ n)
+  pub together : K → (R : RattleType) (n : ℕ) (xs ys zs : List (R .Denot)) (l : ℕ) → length zs ≡ length xs → length (zs ++ ys) ≡ n
       → ((v : Val) → Is (Array R n) (zs ++ ys) (v ∷ []) → Seq K W (‵ (fat fullShare (tyArray (lone (R .mir)) n) l 0 v) ∷ Γ) G)
-      → Seq K W (‵ (fdead κ) ∷ ‵ (flent κ (Held R (length xs) l 0 γ)) ∷ ‵ (finally R γ zs) ∷ ‵ (stays R xs ys l) ∷ Γ) G
+      → Seq K W (‵ (elements (lies R) zs l 0) ∷ ‵ (stays R xs ys l) ∷ Γ) G
   unfolding partOf
-  first-back t z R n κ γ xs ys zs l long on =
-      use3 W (later (‵ (Arr (lies R) (length xs) .lies zs l 0))) (slice-back 𝓤 H A W R κ γ zs (length xs) l 0) $ await t z $ fsplit t $ feqL t (λ m.
+  together t R n xs ys zs l m long on =
       rewrite t 1 (λ (k : ℕ). ‵ (elements (lies R) ys l (at 0 (lies R .size) k))) (sym m) refl $ use2 W (‵ (elements (lies R) (zs ++ ys) l 0)) (join-app 𝓤 H A (lies R) zs ys l 0) $
-      use1 W (‵ (cells-of R fullShare (zs ++ ys) l 0)) (whole-out 𝓤 H A W R (zs ++ ys) l 0) $ feqI t ℕ (length (zs ++ ys)) n (long m) $ fjoin t $ use1 W (‵ (partAt (Array R n) fullShare (zs ++ ys) l 0)) (array-whole 𝓤 H A W R fullShare n (zs ++ ys) l 0) $
+      use1 W (‵ (cells-of R fullShare (zs ++ ys) l 0)) (whole-out 𝓤 H A W R (zs ++ ys) l 0) $ feqI t ℕ (length (zs ++ ys)) n long $ fjoin t $ use1 W (‵ (partAt (Array R n) fullShare (zs ++ ys) l 0)) (array-whole 𝓤 H A W R fullShare n (zs ++ ys) l 0) $
       fpick t (λ vs. fsplit t $ move t (1 ∷ []) $ facts t (Array R n) (Is (Array R n)) (shows 𝓤 H A (Array R n)) (zs ++ ys) vs (λ is.
       rewrite t 0 (λ (us : List Val). ‵ (cellAt fullShare (Array R n .mir) us l 0)) (is .1 .0 .0) refl $
       use1 W (‵ (fat fullShare (tyArray (lone (R .mir)) n) l 0 (arrayVal (is .0)))) (W .laws .raw-at fullShare (tyArray (lone (R .mir)) n) l 0 (arrayVal (is .0))) $
-      on (arrayVal (is .0)) (subst (Is (Array R n) (zs ++ ys)) (is .1 .0 .0) is))))
+      on (arrayVal (is .0)) (subst (Is (Array R n) (zs ++ ys)) (is .1 .0 .0) is)))
 
 -- ---- of what parameters own, or of what is said of their last values: the rows in place of the array and the number, and two that say nothing in place of the rows. Likewise of tokens
 module _ {M : Type 1} {𝓤 : URA M} {H : Heap 𝓤} {A : Atoms 𝓤} {K : Type 0} {W : Given 𝓤 H A} where
@@ -160,62 +154,96 @@ after-with rows lent r zs = record { answer = r; rows = zs ++ rest (rows .x) (le
 abbrev tokened : {M : Type 1} (𝓤 : URA M) (A : Atoms 𝓤) → List (Lft × Share) → SProp 𝓤
 tokened 𝓤 A ts = toks 𝓤 A (length ts) (lifetimes ts) (shares ts)
 
--- ---- the call of an entry point: the arguments before and after the rows, the array of rows, which lies at l, and how many are lent
-module _ (before after : List Arg) (rows : Got Row40) (lent : Got usize) (l : ℕ) where
+-- ---- the rows that are lent, of an array of rows at l: the first so many
+module _ (rows : Got Row40) (lent : Got usize) (l : ℕ) where
   abbrev lot : List Counters
   lot = few (rows .x) (lent .x)
 
   abbrev others : List Counters
   others = rest (rows .x) (lent .x)
 
-  -- the rows that are lent for α, under the name γ
   abbrev pub out : GName → Lent T.the-row
   out γ = record { b = l; o = 0; γ = γ; at = lot; room = room-take T.the-row 40 (min (lent .x) 40) (rows .x) (rows .ok .1 .0 .1) (lit< tt, lit< tt) }
-
-  abbrev pub lending : ℕ → GName → List Arg
-  lending α γ = before ++ the-rows (α ∷ []) fullShare (out γ) ∷ after
-
-  abbrev ts : List (Lft × Share)
-  ts = tokens-of before ++ tokens-of after
-
-  abbrev ts′ : ℕ → List (Lft × Share)
-  ts′ α = tokens-of before ++ (α ∷ [], fullShare) ∷ tokens-of after
-
-  abbrev owned′ : ℕ → GName → Fml
-  owned′ α γ = all (owning before ++ MutSlice erased (α ∷ []) T.the-row .own (ref (out γ)) (val (out γ) ∷ []) ∷ owning after)
 
   abbrev lying : Val → Fml
   lying v = fat fullShare array l 0 v
 
-  -- what is said of the last rows
-  abbrev last : GName → List Counters → Fml
-  last γ zs = fsep (finally T.the-row γ zs) (feq ℕ (length zs) (length lot))
+  -- a loan for α under γ: as what they are lent, what the lender keeps, what the callee says of the last rows zs, which rows these are then; how they are lent, and come back
+  pub record Loan {M : Type 1} (𝓤 : URA M) (H : Heap 𝓤) (A : Atoms 𝓤) (W : Given 𝓤 H A) : Type 3 where
+    pub lent-as : ℕ → GName → Fml
+    pub keeps : ℕ → GName → Fml
+    pub says : GName → List Counters → Fml
+    pub last : List Counters → List Counters
+    pub goes : {K : Type 0} {Γ : List (Item 𝓤)} {G : Goal 𝓤 H} → K → Soaks G → (α : ℕ) → ((γ : GName) → Seq K W (‵ (lent-as α γ) ∷ ‵ (keeps α γ) ∷ Γ) G) → Seq K W (‵ (lying (rows .v)) ∷ Γ) G
+    pub back : {K : Type 0} {Γ : List (Item 𝓤)} {G : Goal 𝓤 H} → K → Soaks G → (α : ℕ) (γ : GName) (zs : List Counters) → ((v : Val) → Is Row40 (last zs ++ others) (v ∷ []) → Seq K W (‵ (lying v) ∷ Γ) G)
+        → Seq K W (‵ (fdead (α ∷ [])) ∷ ‵ (keeps α γ) ∷ ‵ (says γ zs) ∷ Γ) G
 
-  module _ {M : Type 1} {𝓤 : URA M} {H : Heap 𝓤} {A : Atoms 𝓤} {K : Type 0} {W : Given 𝓤 H A} {Γ : List (Item 𝓤)} {E : Env 𝓤 H} {f : Name} {ops : List Operand} {q : Post 𝓤 H} {d : Place} {on : Body} where
-    pub lends-to : K → (𝓣 : Tables 𝓤 H) (G : Ended) (c : Clauses 𝓤 G) → Triple 𝓤 (𝓣 .C f) (Of 𝓤 H A G c) → (y : ℕ → GName → Of 𝓤 H A G c .Ghost)
-        → ((α : ℕ) (γ : GName) → ent 𝓤 (sep 𝓤 (tokened 𝓤 A (ts′ α)) (sem 𝓤 H A (owned′ α γ))) (Of 𝓤 H A G c .pre (y α γ)))
-        → ((α : ℕ) (γ : GName) → ent 𝓤 (alive 𝓤 H A (G .signature) (y α γ .0 .0) (y α γ .0 .1)) (mean 𝓤 H A (tokens (ts′ α))))
-        → (Ps : (α : ℕ) (γ : GName) → Lasts G (y α γ .0 .0) (y α γ .0 .3) → List Fml) (zs : (α : ℕ) (γ : GName) → Lasts G (y α γ .0 .0) (y α γ .0 .3) → List Counters) (Qs : (α : ℕ) (γ : GName) → Lasts G (y α γ .0 .0) (y α γ .0 .3) → List Fml)
-        → ((α : ℕ) (γ : GName) (ws : Lasts G (y α γ .0 .0) (y α γ .0 .3)) → ent 𝓤 (sem 𝓤 H A (lasts G (y α γ .0 .0) (y α γ .0 .3) ws)) (sem 𝓤 H A (all (Ps α γ ws ++ last γ (zs α γ ws) ∷ Qs α γ ws))))
-        → ((α : ℕ) (γ : GName) → Opds K W (raw (Of 𝓤 H A G c .pre (y α γ)) ∷ ‵ (flent (α ∷ []) (Held T.the-row (length lot) l 0 γ)) ∷ ‵ (stays T.the-row lot others l) ∷ Γ) E ops (Of 𝓤 H A G c .args (y α γ)))
-        → ((α : ℕ) (γ : GName) (nv : Val) (r : Res (G .signature) (y α γ .0 .0)) (ws : Lasts G (y α γ .0 .0) (y α γ .0 .3)) (v : Val) → Is Row40 (zs α γ ws ++ others) (v ∷ [])
-        → Seq K W (raw (c (y α γ .0 .0) (y α γ .0 .3) .ensures (y α γ .1) r (atExit G (y α γ .0 .0) (y α γ .0 .3) ws)) ∷ ‵ (typeAt (G .signature .result) (y α γ .0 .0) .own r (nv ∷ [])) ∷ ‵ (lying v) ∷ tokens ts ∷ ‵ (all (Ps α γ ws ++ ftrue ∷ ftrue ∷ Qs α γ ws)) ∷ Γ) (lands (𝓣 .C) (𝓣 .Λ) E d nv on q))
-        → Seq K W (tokens ts ∷ ‵ (all (owning before ++ Row40 .own (rows .x) (rows .v ∷ []) ∷ usize .own (lent .x) (lent .v ∷ []) ∷ owning after)) ∷ ‵ (lying (rows .v)) ∷ Γ) (runs (𝓣 .C) (𝓣 .Λ) E (seq (call f ops d) on) q)
-    lends-to t 𝓣 G c known y goes back Ps zs Qs said os k =
-        lft-new t tt (λ α. move t (3 ∷ []) $ lends-first t tt T.the-row tt 40 (makes40 𝓤 H A W) erased (α ∷ []) (rows .x) (min (lent .x) 40) (rows .v) l (rows .ok) (out 0 .room) (λ γ.
-        -- [the rows that are lent; what the lender keeps; the others; the new token; the tokens; what the parameters own]
-        move t (0 ∷ 5 ∷ []) $ rows-in t (owning before) (owning after) (Row40 .own (rows .x) (rows .v ∷ [])) (usize .own (lent .x) (lent .v ∷ [])) $
-        move t (3 ∷ 4 ∷ []) $ token-in t (tokens-of before) (tokens-of after) (α ∷ [], fullShare) $ use1 W (raw (tokened 𝓤 A (ts′ α))) (living 𝓤 H A (ts′ α)) $ join t $
-        calls-of t (fmOf 𝓤 H (W .laws) 𝓣) G c known (y α γ) (goes α γ) (os α γ) (λ nv r ws.
-        -- [the tokens; the result; what is said of the last values; the `ensures`; what the lender keeps; the others]
-        use1 W (tokens (ts′ α)) (back α γ) $ token-out t (tokens-of before) (tokens-of after) (α ∷ [], fullShare) $ lft-end t tt $
-        move t (3 ∷ []) $ use1 W (‵ (all (Ps α γ ws ++ last γ (zs α γ ws) ∷ Qs α γ ws))) (said α γ ws) $ rows-out t (Ps α γ ws) (Qs α γ ws) (last γ (zs α γ ws)) $ fsplit t $ move t (1 ∷ []) $ drop t $
-        -- [the last rows; what else is said; the lifetime is over; the tokens; the result; the `ensures`; what the lender keeps; the others]
-        move t (2 ∷ 6 ∷ 0 ∷ 7 ∷ []) $ first-back t tt T.the-row 40 (α ∷ []) γ lot others (zs α γ ws) l (all-there (rows .x) (lent .x) (rows .ok .1 .0 .1) (zs α γ ws)) (λ v is.
-        move t (4 ∷ 3 ∷ 0 ∷ 2 ∷ 1 ∷ []) $ k α γ nv r ws v is))))
+  module _ {M : Type 1} (𝓤 : URA M) (H : Heap 𝓤) (A : Atoms 𝓤) (W : Given 𝓤 H A) where
+    -- as a `&mut [Counters]`
+    abbrev pub to-write : Loan 𝓤 H A W
+    to-write = record {
+      lent-as = λ α γ. MutSlice erased (α ∷ []) T.the-row .own (ref (out γ)) (val (out γ) ∷ []);
+      keeps = λ α γ. fsep (flent (α ∷ []) (Held T.the-row (length lot) l 0 γ)) (stays T.the-row lot others l);
+      says = λ γ zs. fsep (finally T.the-row γ zs) (feq ℕ (length zs) (length lot));
+      last = λ zs. zs;
+      goes = λ t z α on. apart t T.the-row tt 40 (makes40 𝓤 H A W) (rows .x) (min (lent .x) 40) (rows .v) l (rows .ok) $
+          use1 W (later (some (λ (γ : GName). ‵ (MutSlice erased (α ∷ []) T.the-row .own (ref (out γ)) (val (out γ) ∷ [])) ⊛ ‵ (flent (α ∷ []) (Held T.the-row (length lot) l 0 γ))))) (lends-slice 𝓤 H A W T.the-row erased (α ∷ []) lot l 0 (out 0 .room)) $
+          await t z $ pick t (λ γ. split t $ move t (1 ∷ 2 ∷ []) $ fjoin t $ move t (1 ∷ 0 ∷ []) $ on γ);
+      back = λ t z α γ zs on. move t (2 ∷ []) $ fsplit t $ move t (1 ∷ []) $ drop t $ move t (2 ∷ []) $ fsplit t $ move t (3 ∷ 0 ∷ 2 ∷ []) $
+          use3 W (later (‵ (Arr (lies T.the-row) (length lot) .lies zs l 0))) (slice-back 𝓤 H A W T.the-row (α ∷ []) γ zs (length lot) l 0) $ await t z $ fsplit t $ feqL t (λ m.
+          together t T.the-row 40 lot others zs l m (all-there (rows .x) (lent .x) (rows .ok .1 .0 .1) zs m) on);
+    }
+
+    -- as a `&[Counters]`
+    abbrev pub to-read : Loan 𝓤 H A W
+    to-read = record {
+      lent-as = λ α γ. ShrSlice erased (α ∷ []) T.the-row .own (ref (out γ)) (val (out γ) ∷ []);
+      keeps = λ α γ. fsep (flent (α ∷ []) (arr-parts (parts T.the-row) (length lot) .part fullShare lot l 0)) (stays T.the-row lot others l);
+      says = λ γ zs. ftrue;
+      last = λ zs. lot;
+      goes = λ t z α on. apart t T.the-row tt 40 (makes40 𝓤 H A W) (rows .x) (min (lent .x) 40) (rows .v) l (rows .ok) $
+          use1 W (‵ (cells-of T.the-row fullShare lot l 0)) (whole-out 𝓤 H A W T.the-row lot l 0) $ feqI t ℕ (length lot) (length lot) refl $ fjoin t $
+          use1 W (later (some (λ (γ : GName). ‵ (ShrSlice erased (α ∷ []) T.the-row .own (ref (out γ)) (val (out γ) ∷ [])) ⊛ ‵ (flent (α ∷ []) (arr-parts (parts T.the-row) (length lot) .part fullShare lot l 0))))) (lends-shr-slice 𝓤 H A W T.the-row erased (α ∷ []) fullShare lot l 0 (out 0 .room)) $
+          await t z $ pick t (λ γ. split t $ move t (1 ∷ 2 ∷ []) $ fjoin t $ move t (1 ∷ 0 ∷ []) $ on γ);
+      back = λ t z α γ zs on. move t (2 ∷ []) $ drop t $ move t (1 ∷ []) $ fsplit t $ move t (2 ∷ 0 ∷ []) $ lent-back t z $ fsplit t $ feqL t (λ _.
+          use1 W (‵ (elements (lies T.the-row) lot l 0)) (whole-in 𝓤 H A W T.the-row lot l 0) $ together t T.the-row 40 lot others lot l refl (all-there (rows .x) (lent .x) (rows .ok .1 .0 .1) lot refl) on);
+    }
+
+  -- ---- the call of an entry point, with arguments before and after the rows
+  module _ (before after : List Arg) where
+    abbrev pub lending : ℕ → GName → List Arg
+    lending α γ = before ++ the-rows (α ∷ []) fullShare (out γ) ∷ after
+
+    abbrev ts : List (Lft × Share)
+    ts = tokens-of before ++ tokens-of after
+
+    abbrev ts′ : ℕ → List (Lft × Share)
+    ts′ α = tokens-of before ++ (α ∷ [], fullShare) ∷ tokens-of after
+
+    module _ {M : Type 1} {𝓤 : URA M} {H : Heap 𝓤} {A : Atoms 𝓤} {K : Type 0} {W : Given 𝓤 H A} {Γ : List (Item 𝓤)} {E : Env 𝓤 H} {f : Name} {ops : List Operand} {q : Post 𝓤 H} {d : Place} {on : Body} where
+      pub lends-to : K → (o : Loan 𝓤 H A W) (𝓣 : Tables 𝓤 H) (G : Ended) (c : Clauses 𝓤 G) → Triple 𝓤 (𝓣 .C f) (Of 𝓤 H A G c) → (y : ℕ → GName → Of 𝓤 H A G c .Ghost)
+          → ((α : ℕ) (γ : GName) → ent 𝓤 (sep 𝓤 (tokened 𝓤 A (ts′ α)) (sem 𝓤 H A (all (owning before ++ o .lent-as α γ ∷ owning after)))) (Of 𝓤 H A G c .pre (y α γ)))
+          → ((α : ℕ) (γ : GName) → ent 𝓤 (alive 𝓤 H A (G .signature) (y α γ .0 .0) (y α γ .0 .1)) (mean 𝓤 H A (tokens (ts′ α))))
+          → (Ps : (α : ℕ) (γ : GName) → Lasts G (y α γ .0 .0) (y α γ .0 .3) → List Fml) (zs : (α : ℕ) (γ : GName) → Lasts G (y α γ .0 .0) (y α γ .0 .3) → List Counters) (Qs : (α : ℕ) (γ : GName) → Lasts G (y α γ .0 .0) (y α γ .0 .3) → List Fml)
+          → ((α : ℕ) (γ : GName) (ws : Lasts G (y α γ .0 .0) (y α γ .0 .3)) → ent 𝓤 (sem 𝓤 H A (lasts G (y α γ .0 .0) (y α γ .0 .3) ws)) (sem 𝓤 H A (all (Ps α γ ws ++ o .says γ (zs α γ ws) ∷ Qs α γ ws))))
+          → ((α : ℕ) (γ : GName) → Opds K W (raw (Of 𝓤 H A G c .pre (y α γ)) ∷ ‵ (o .keeps α γ) ∷ Γ) E ops (Of 𝓤 H A G c .args (y α γ)))
+          → ((α : ℕ) (γ : GName) (nv : Val) (r : Res (G .signature) (y α γ .0 .0)) (ws : Lasts G (y α γ .0 .0) (y α γ .0 .3)) (v : Val) → Is Row40 (o .last (zs α γ ws) ++ others) (v ∷ [])
+          → Seq K W (raw (c (y α γ .0 .0) (y α γ .0 .3) .ensures (y α γ .1) r (atExit G (y α γ .0 .0) (y α γ .0 .3) ws)) ∷ ‵ (typeAt (G .signature .result) (y α γ .0 .0) .own r (nv ∷ [])) ∷ ‵ (lying v) ∷ tokens ts ∷ ‵ (all (Ps α γ ws ++ ftrue ∷ ftrue ∷ Qs α γ ws)) ∷ Γ) (lands (𝓣 .C) (𝓣 .Λ) E d nv on q))
+          → Seq K W (tokens ts ∷ ‵ (all (owning before ++ Row40 .own (rows .x) (rows .v ∷ []) ∷ usize .own (lent .x) (lent .v ∷ []) ∷ owning after)) ∷ ‵ (lying (rows .v)) ∷ Γ) (runs (𝓣 .C) (𝓣 .Λ) E (seq (call f ops d) on) q)
+      lends-to t o 𝓣 G c known y goes back Ps zs Qs said os k =
+          lft-new t tt (λ α. move t (3 ∷ []) $ o .goes t tt α (λ γ.
+          -- [the rows that are lent; what the lender keeps; the new token; the tokens; what the parameters own]
+          move t (0 ∷ 4 ∷ []) $ rows-in t (owning before) (owning after) (Row40 .own (rows .x) (rows .v ∷ [])) (usize .own (lent .x) (lent .v ∷ [])) $
+          move t (2 ∷ 3 ∷ []) $ token-in t (tokens-of before) (tokens-of after) (α ∷ [], fullShare) $ use1 W (raw (tokened 𝓤 A (ts′ α))) (living 𝓤 H A (ts′ α)) $ join t $
+          calls-of t (fmOf 𝓤 H (W .laws) 𝓣) G c known (y α γ) (goes α γ) (os α γ) (λ nv r ws.
+          -- [the tokens; the result; what is said of the last values; the `ensures`; what the lender keeps]
+          use1 W (tokens (ts′ α)) (back α γ) $ token-out t (tokens-of before) (tokens-of after) (α ∷ [], fullShare) $ lft-end t tt $
+          move t (3 ∷ []) $ use1 W (‵ (all (Ps α γ ws ++ o .says γ (zs α γ ws) ∷ Qs α γ ws))) (said α γ ws) $ rows-out t (Ps α γ ws) (Qs α γ ws) (o .says γ (zs α γ ws)) $
+          -- [what is said of the rows, and of the others; the lifetime is over; the tokens; the result; the `ensures`; what the lender keeps]
+          move t (2 ∷ 6 ∷ 0 ∷ []) $ o .back t tt α γ (zs α γ ws) (λ v is. move t (4 ∷ 3 ∷ 0 ∷ 2 ∷ 1 ∷ []) $ k α γ nv r ws v is))))
 
 pub fits : (rows : Got Row40) (lent : Got usize) → length (few (rows .x) (lent .x)) < 2 ^ 64
-fits rows lent = out [] [] rows lent 0 0 .room .0
+fits rows lent = out rows lent 0 0 .room .0
 
 -- what is said of the last bytes of a lent slice
 abbrev pub written : Lent u8 → List ℕ → Fml
@@ -229,9 +257,12 @@ module _ {M : Type 1} (𝓤 : URA M) (H : Heap 𝓤) (A : Atoms 𝓤) (mem : Mem
   abbrev pub Joined : Contract 𝓤
   Joined = Of 𝓤 H A joined.ended (joined.clauses 𝓤 H A mem run)
 
-  -- both are proved of the routines that a table of calls has for them
-  abbrev pub Known : Calls 𝓤 H → Type 1
-  Known C = Triple 𝓤 (C #within) Within × Triple 𝓤 (C #joined) Joined
+  -- each is proved of the routine that a table of calls has for it
+  abbrev pub Within-known : Calls 𝓤 H → Type 1
+  Within-known C = Triple 𝓤 (C #within) Within
+
+  abbrev pub Joined-known : Calls 𝓤 H → Type 1
+  Joined-known C = Triple 𝓤 (C #joined) Joined
 
   abbrev pub to-within : Got usize → Within .Ghost
   to-within n = ((tt, tt, tt, (n .x, tt), (n .v ∷ [], tt)), tt)
@@ -252,18 +283,18 @@ module _ {M : Type 1} {𝓤 : URA M} {H : Heap 𝓤} {A : Atoms 𝓤} {K : Type 
   answered t φ r v k = heard t φ (λ told. facts t N.the-row (Is N.the-row) (shows 𝓤 H A N.the-row) r (v ∷ []) (λ ok. k told ok))
 
 module _ {M : Type 1} {𝓤 : URA M} {H : Heap 𝓤} {A : Atoms 𝓤} {K : Type 0} {W : Given 𝓤 H A} {Γ : List (Item 𝓤)} {E : Env 𝓤 H} {ops : List Operand} {q : Post 𝓤 H} {d : Place} {on : Body} where
-  pub withins : K → (𝓣 : Tables 𝓤 H) (mem : Memory → SProp 𝓤) (run : Routine → Fun 𝓤) → Known 𝓤 H A mem run (𝓣 .C) → (rows : Got Row40) (lent : Got usize)
+  pub withins : K → (𝓣 : Tables 𝓤 H) (mem : Memory → SProp 𝓤) (run : Routine → Fun 𝓤) → Within-known 𝓤 H A mem run (𝓣 .C) → (rows : Got Row40) (lent : Got usize)
       → Opds K W (raw (Within 𝓤 H A mem run .pre (to-within 𝓤 H A mem run lent)) ∷ Γ) E ops (lent .v ∷ [])
       → Step K W Γ (lands (𝓣 .C) (𝓣 .Λ) E d (vint w64 (length (few (rows .x) (lent .x)))) on q) Γ (runs (𝓣 .C) (𝓣 .Λ) E (seq (call #within ops d) on) q)
   withins t 𝓣 mem run known rows lent os =
-      step (λ k. calls-plain t (fmOf 𝓤 H (W .laws) 𝓣) within.ended (within.clauses 𝓤 H A mem run) (known .0) (to-within 𝓤 H A mem run lent) (goes-within 𝓤 H A mem run W lent) (λ r. r ≡ min (lent .x) 40) (λ r e. id⊢ 𝓤 _) os
+      step (λ k. calls-plain t (fmOf 𝓤 H (W .laws) 𝓣) within.ended (within.clauses 𝓤 H A mem run) known (to-within 𝓤 H A mem run lent) (goes-within 𝓤 H A mem run W lent) (λ r. r ≡ min (lent .x) 40) (λ r e. id⊢ 𝓤 _) os
       (λ v r e ok. subst (λ (u : Val). Seq K W Γ (lands (𝓣 .C) (𝓣 .Λ) E d u on q)) (sym (ap only (ok .0) ∙ ap (vint w64) (e ∙ sym (many (rows .x) (lent .x) (rows .ok .1 .0 .1))))) k))
 
-  pub joins : K → (𝓣 : Tables 𝓤 H) (mem : Memory → SProp 𝓤) (run : Routine → Fun 𝓤) → Known 𝓤 H A mem run (𝓣 .C)
+  pub joins : K → (𝓣 : Tables 𝓤 H) (mem : Memory → SProp 𝓤) (run : Routine → Fun 𝓤) → Joined-known 𝓤 H A mem run (𝓣 .C)
       → (r : Answer) (zs : List Counters) (nv rv : Val) → Is N.the-row r (nv ∷ []) → Is Row40 zs (rv ∷ []) → Opds K W (raw (Joined 𝓤 H A mem run .pre (to-joined 𝓤 H A mem run r zs nv rv)) ∷ Γ) E ops (nv ∷ rv ∷ [])
       → ((v : Val) → Is F.the-row (record { answer = r; rows = zs }) (v ∷ []) → Seq K W Γ (lands (𝓣 .C) (𝓣 .Λ) E d v on q)) → Seq K W Γ (runs (𝓣 .C) (𝓣 .Λ) E (seq (call #joined ops d) on) q)
   joins t 𝓣 mem run known r zs nv rv n-ok r-ok os k =
-      calls-plain t (fmOf 𝓤 H (W .laws) 𝓣) joined.ended (joined.clauses 𝓤 H A mem run) (known .1) (to-joined 𝓤 H A mem run r zs nv rv) (goes-joined 𝓤 H A mem run W r zs nv rv n-ok r-ok) (λ h. (h .answer ≡ r) × (h .rows ≡ zs)) (λ h _. id⊢ 𝓤 _) os
+      calls-plain t (fmOf 𝓤 H (W .laws) 𝓣) joined.ended (joined.clauses 𝓤 H A mem run) known (to-joined 𝓤 H A mem run r zs nv rv) (goes-joined 𝓤 H A mem run W r zs nv rv n-ok r-ok) (λ h. (h .answer ≡ r) × (h .rows ≡ zs)) (λ h _. id⊢ 𝓤 _) os
       (λ v h e ok. k v (subst (λ (x : After). Is F.the-row x (v ∷ [])) (λ i. record { answer = e .0 i; rows = e .1 i }) ok))
 
 module _ {M : Type 1} {𝓤 : URA M} {H : Heap 𝓤} {A : Atoms 𝓤} (W : Given 𝓤 H A) where
@@ -276,12 +307,12 @@ module _ {M : Type 1} {𝓤 : URA M} {H : Heap 𝓤} {A : Atoms 𝓤} (W : Given
   pub after-typed : (x : After) (v : Val) → Is F.the-row x (v ∷ []) → Typed F′.mir v
   after-typed x v ok = LL.lawful F.the-type F′.the-laws 𝓤 H A W .typed x _ ok .0
 
-pub knows : {M : Type 1} (𝓤 : URA M) (H : Heap 𝓤) (𝓜 : Model 𝓤 H) (𝓖 : GhostRules 𝓤 H) (𝓡 : Running 𝓤 H 𝓜) (γ : Names) → γ #within ≡ within-def.routine → γ #joined ≡ joined-def.routine
-    → Known 𝓤 H (𝓖 .A) (𝓜 .mem) (𝓡 .run) (tables 𝓤 H 𝓜 𝓡 γ .C)
-knows 𝓤 H 𝓜 𝓖 𝓡 γ e f = (
-  cited 𝓤 H (Within 𝓤 H (𝓖 .A) (𝓜 .mem) (𝓡 .run)) 𝓜 𝓡 γ #within within-def.routine e (within-thm.met 𝓤 H 𝓜 𝓖 𝓡),
-  cited 𝓤 H (Joined 𝓤 H (𝓖 .A) (𝓜 .mem) (𝓡 .run)) 𝓜 𝓡 γ #joined joined-def.routine f (joined-thm.met 𝓤 H 𝓜 𝓖 𝓡),
-)
+module _ {M : Type 1} (𝓤 : URA M) (H : Heap 𝓤) (𝓜 : Model 𝓤 H) (𝓖 : GhostRules 𝓤 H) (𝓡 : Running 𝓤 H 𝓜) (γ : Names) where
+  pub knows-within : γ #within ≡ within-def.routine → Within-known 𝓤 H (𝓖 .A) (𝓜 .mem) (𝓡 .run) (tables 𝓤 H 𝓜 𝓡 γ .C)
+  knows-within e = cited 𝓤 H (Within 𝓤 H (𝓖 .A) (𝓜 .mem) (𝓡 .run)) 𝓜 𝓡 γ #within within-def.routine e (within-thm.met 𝓤 H 𝓜 𝓖 𝓡)
+
+  pub knows-joined : γ #joined ≡ joined-def.routine → Joined-known 𝓤 H (𝓖 .A) (𝓜 .mem) (𝓡 .run) (tables 𝓤 H 𝓜 𝓡 γ .C)
+  knows-joined e = cited 𝓤 H (Joined 𝓤 H (𝓖 .A) (𝓜 .mem) (𝓡 .run)) 𝓜 𝓡 γ #joined joined-def.routine e (joined-thm.met 𝓤 H 𝓜 𝓖 𝓡)
 
 -- ---- the walk as a whole
 module _ {M : Type 1} (𝓤 : URA M) (H : Heap 𝓤) (A : Atoms 𝓤) (T : Ended) (c : Clauses 𝓤 T) where
