@@ -3,9 +3,9 @@
 --     withins, joins     the other two calls
 --     meets, exits     from a walk whose parameters' machine values are written out to `Meets`; and how it ends, with what the callee says of the last values
 -- Assumes `Given`, and that the table of calls is monotone under a frame.
-pub use Rattle.entry.proofs.Walking.{_≡_, refl, none, ℕ, List, [], _∷_, _++_, length, URA, fullShare, named, mut, w8, w64, tyRef, Val, vint, vptr, SProp, ent, emp, id⊢, via, fst∗, Lft, Share, Memory, Routine, Heap, Env, WpFn, Tables, Atoms, Fun, givenOf, tables, Given, Item, ‵, raw, runs, atRet, Sq, _$_, _∵_, !, qed, by, move, look, init, stop, hop, fld, from, load, addr, of-opd, and-then, no-more, assigns, land, returns, enter, alloc1, alloc0, params1, pass1, pass0, agg, whole, sub, look-in, fmOf, owns, Is, u8, usize, sliceTy, slice-vals, mut-slice-tells, shr-slice-tells, ptr-vals, mut-tells, uint-vals, uint-tells, onEntry, Meets, tripleOf, Contract, Triple, entered, cited}
+pub use Rattle.entry.proofs.Walking.{_≡_, refl, none, ℕ, List, [], _∷_, _++_, length, URA, fullShare, named, imm, mut, w8, w64, tyRef, Val, vint, vptr, SProp, ent, emp, id⊢, via, fst∗, Lft, Share, Memory, Routine, Heap, Env, WpFn, Tables, Atoms, Fun, givenOf, tables, Given, Item, ‵, raw, runs, atRet, Sq, _$_, _∵_, !, qed, by, move, look, init, stop, hop, fld, from, load, addr, of-opd, and-then, no-more, assigns, land, returns, enter, alloc1, alloc0, params1, pass1, pass0, agg, whole, sub, look-in, fmOf, owns, Is, u8, usize, sliceTy, slice-vals, mut-slice-tells, shr-slice-tells, ptr-vals, mut-tells, shr-tells, uint-vals, uint-tells, onEntry, Meets, tripleOf, Contract, Triple, entered, cited}
 unfoldable pub use contract.Running.{tablesOf}
-pub use Rattle.entry.proofs.Arguments.{Got, Lent, taken, val, byte, word, row, shared, lent, again, Arg, the-card, the-state, the-unit, State, Whole, all-of, finally-state, bytes, is-read, is-written, kinds, args, valss, machine, tokens-of, lifetimes, shares, cells, passed, card-vals, card-tells, card-typed, byte-typed, answer-typed}
+pub use Rattle.entry.proofs.Arguments.{Got, Lent, taken, val, byte, word, row, shared, lent, again, Arg, the-card, the-state, state-read, rows-read, the-unit, State, Whole, all-of, finally-state, bytes, is-read, is-written, kinds, args, valss, machine, tokens-of, lifetimes, shares, cells, passed, card-vals, card-tells, card-typed, byte-typed, answer-typed}
 pub use Rattle.entry.proofs.Entering.{all, tokens, held, living, lived, freed, unasked, places}
 pub use base.Fml.{Fml, GName, ftrue}
 pub use denote.Slice.{sliceVal}
