@@ -15,29 +15,26 @@ pub use Rattle.answer.proofs.Calls.{Of}
 use mathlib.Core.Path.{sym, _∙_, ap, subst}
 use Prim.Native.Nat.{min, _<_, _^_}
 use lib.Dec.{lit<}
-use lib.ListN.{take, drop as behind, take-append-drop}
 use mir.Syntax.{Ty, Name, Place, Opd as Operand, Body, tyArray, erased, seq, call}
 use base.Logic.{sep, wand, comm∗, monoL, wandI, apply∗}
 use base.Fml.{fat, feq, fsep, flft, flent, fdead}
 use prog.Model.{Model}
 use prog.Routine.{Env as Names}
-use prog.Wp.{Calls, Loops}
+use prog.Wp.{Calls}
 use ghost.Atoms.{sem}
 use contract.Lifetimes.{Lfts, Shares, AllOutlive, toks}
 use contract.Monad.{fact, factI}
 use contract.Running.{GhostRules, Running}
-use types.Kit.{Goal, Soaks, mean, _⊛_, some, later, Post, lands, Seq, Step, step, use0, use1, use2, use3, await, pick, split, join, fsplit, fjoin, fpick, fpack, feqL, feqI, drop, rewrite, show, frame, updating, now as at-once, done, ⋆}
+use types.Kit.{Goal, Soaks, mean, _⊛_, some, later, Post, lands, Seq, Step, step, use0, use1, use3, await, pick, split, join, fsplit, fjoin, feqL, feqI, drop, show, frame, updating, now as at-once, done, ⋆}
 use types.Run.{Opds}
 use types.Tokens.{lft-new, lft-end, lent-back}
 use types.SemTy.{cells as elements, Arr}
 use types.Share.{arr-parts}
-use denote.RattleType.{RattleType, Denots, Valss, flat}
-use denote.Laws.{Are, Ises, Spells, Tellss, Makes, shows, valss as spelled}
+use denote.RattleType.{Denots, Valss, flat}
+use denote.Laws.{Are, Ises, Spells, Tellss, shows, valss as spelled}
 use denote.Plain.{uint-makes, uint-lawful}
 use denote.Struct.Laws as LL
-use denote.Memory.{lone, mem as lies, shares as parts, cellAt, partAt, partOf, pointee}
-use denote.Array.{Array, arrayVal}
-use denote.ArrayMemory.{Single, array-apart, array-whole}
+use denote.Memory.{mem as lies, shares as parts, pointee}
 use denote.Slice.{MutSlice, ShrSlice, finally}
 use denote.Lend.{Held, lends-slice, slice-back, lends-shr-slice}
 use denote.Index.{row as cells-of, whole-in, whole-out}
@@ -46,7 +43,6 @@ use denote.Steps.{only, owned, facts, heard, nothing, said}
 use denote.Triple.Entry.{Args, Vals, Res, alive}
 use denote.Triple.Spec.{Back}
 use denote.Triple.Clauses.{Ended, Clauses, Lasts, atExit, lasts, ensured, closing}
-use borrow.Table.Elements.{at, cut-app, join-app}
 use borrow.Rule.Array.Share.{room-take}
 use Rattle.answer.specs.declared.Answer.{Answer}
 use Rattle.answer.proofs.Answer as N
@@ -54,6 +50,7 @@ use Rattle.answer.proofs.Answer.Laws as N′
 use Rattle.answer.proofs.Counters as T
 use Rattle.answer.proofs.Counters.Laws as T′
 use Rattle.answer.proofs.Row.{makes40}
+use Rattle.answer.proofs.Arrays.{behind, cuts-array, joins-array}
 use Rattle.answer.proofs.Calls.{calls-of, calls-plain}
 use Rattle.card.proofs.Card as C
 use Rattle.card.proofs.Card.Laws as C′
@@ -71,34 +68,6 @@ use Rattle.owned.proofs.joined.Symbol as joined-def
 use Rattle.owned.proofs.joined.Symbol.{name as #joined}
 use Rattle.owned.proofs.joined.Met as joined-thm
 use Rattle.owned.proofs.Few.{few, rest, many, whole as all-there}
-
--- the elements behind the first of an array at l, which are xs
-abbrev pub stays : (R : RattleType) → List (R .Denot) → List (R .Denot) → ℕ → Fml
-stays R xs ys l = elements (lies R) ys l (at 0 (lies R .size) (length xs))
-
--- ---- a local array in two: its first k elements, and those behind; and back, with others in place of the first
-module _ {M : Type 1} {𝓤 : URA M} {H : Heap 𝓤} {A : Atoms 𝓤} {K : Type 0} {W : Given 𝓤 H A} {Γ : List (Item 𝓤)} {G : Goal 𝓤 H} where
-  pub apart : K → (R : RattleType) → Single (R .mir) → (n : ℕ) → Makes 𝓤 H A (Array R n) (Is (Array R n)) → (xs : List (R .Denot)) (k : ℕ) (v : Val) (l : ℕ) → Is (Array R n) xs (v ∷ [])
-      → Step K W (‵ (elements (lies R) (take k xs) l 0) ∷ ‵ (stays R (take k xs) (behind k xs) l) ∷ Γ) G (‵ (fat fullShare (tyArray (lone (R .mir)) n) l 0 v) ∷ Γ) G
-  unfolding partOf
-  apart t R one n mk xs k v l is =
-      step (λ s. use1 W (‵ (cellAt fullShare (Array R n .mir) (v ∷ []) l 0)) (W .laws .at-raw fullShare (tyArray (lone (R .mir)) n) l 0 v) $ owned t (Array R n) (Is (Array R n)) mk xs (v ∷ []) is $ move t (1 ∷ 0 ∷ []) $ fjoin t $
-      fpack t (List Val) (λ vs. fsep (cellAt fullShare (Array R n .mir) vs l 0) (Array R n .own xs vs)) (v ∷ []) $
-      use1 W (‵ (arr-parts (parts R) n .part fullShare xs l 0)) (array-apart 𝓤 H A W R fullShare one n xs l 0) $ fsplit t $ feqL t (λ _.
-      use1 W (‵ (elements (lies R) xs l 0)) (whole-in 𝓤 H A W R xs l 0) $ rewrite t 0 (λ (ys : List (R .Denot)). ‵ (elements (lies R) ys l 0)) (sym (take-append-drop k xs)) refl $
-      use1 W (‵ (elements (lies R) (take k xs) l 0) ⊛ ‵ (stays R (take k xs) (behind k xs) l)) (cut-app 𝓤 H A (lies R) (take k xs) (behind k xs) l 0) $ split t $ s))
-
-  pub together : K → (R : RattleType) (n : ℕ) (xs ys zs : List (R .Denot)) (l : ℕ) → length zs ≡ length xs → length (zs ++ ys) ≡ n
-      → ((v : Val) → Is (Array R n) (zs ++ ys) (v ∷ []) → Seq K W (‵ (fat fullShare (tyArray (lone (R .mir)) n) l 0 v) ∷ Γ) G)
-      → Seq K W (‵ (elements (lies R) zs l 0) ∷ ‵ (stays R xs ys l) ∷ Γ) G
-  unfolding partOf
-  together t R n xs ys zs l m long on =
-      rewrite t 1 (λ (k : ℕ). ‵ (elements (lies R) ys l (at 0 (lies R .size) k))) (sym m) refl $ use2 W (‵ (elements (lies R) (zs ++ ys) l 0)) (join-app 𝓤 H A (lies R) zs ys l 0) $
-      use1 W (‵ (cells-of R fullShare (zs ++ ys) l 0)) (whole-out 𝓤 H A W R (zs ++ ys) l 0) $ feqI t ℕ (length (zs ++ ys)) n long $ fjoin t $ use1 W (‵ (partAt (Array R n) fullShare (zs ++ ys) l 0)) (array-whole 𝓤 H A W R fullShare n (zs ++ ys) l 0) $
-      fpick t (λ vs. fsplit t $ move t (1 ∷ []) $ facts t (Array R n) (Is (Array R n)) (shows 𝓤 H A (Array R n)) (zs ++ ys) vs (λ is.
-      rewrite t 0 (λ (us : List Val). ‵ (cellAt fullShare (Array R n .mir) us l 0)) (is .1 .0 .0) refl $
-      use1 W (‵ (fat fullShare (tyArray (lone (R .mir)) n) l 0 (arrayVal (is .0)))) (W .laws .raw-at fullShare (tyArray (lone (R .mir)) n) l 0 (arrayVal (is .0))) $
-      on (arrayVal (is .0)) (subst (Is (Array R n) (zs ++ ys)) (is .1 .0 .0) is)))
 
 -- ---- of what parameters own, or of what is said of their last values: the rows in place of the array and the number, and two that say nothing in place of the rows. Likewise of tokens
 module _ {M : Type 1} {𝓤 : URA M} {H : Heap 𝓤} {A : Atoms 𝓤} {K : Type 0} {W : Given 𝓤 H A} where
@@ -183,30 +152,30 @@ module _ (rows : Got Row40) (lent : Got usize) (l : ℕ) where
     abbrev pub to-write : Loan 𝓤 H A W
     to-write = record {
       lent-as = λ α γ. MutSlice erased (α ∷ []) T.the-row .own (ref (out γ)) (val (out γ) ∷ []);
-      keeps = λ α γ. fsep (flent (α ∷ []) (Held T.the-row (length lot) l 0 γ)) (stays T.the-row lot others l);
+      keeps = λ α γ. fsep (flent (α ∷ []) (Held T.the-row (length lot) l 0 γ)) (behind T.the-row lot others l);
       says = λ γ zs. fsep (finally T.the-row γ zs) (feq ℕ (length zs) (length lot));
       last = λ zs. zs;
-      goes = λ t z α on. apart t T.the-row tt 40 (makes40 𝓤 H A W) (rows .x) (min (lent .x) 40) (rows .v) l (rows .ok) $
+      goes = λ t z α on. cuts-array t T.the-row tt 40 (makes40 𝓤 H A W) (rows .x) (min (lent .x) 40) (rows .v) l (rows .ok) $
           use1 W (later (some (λ (γ : GName). ‵ (MutSlice erased (α ∷ []) T.the-row .own (ref (out γ)) (val (out γ) ∷ [])) ⊛ ‵ (flent (α ∷ []) (Held T.the-row (length lot) l 0 γ))))) (lends-slice 𝓤 H A W T.the-row erased (α ∷ []) lot l 0 (out 0 .room)) $
           await t z $ pick t (λ γ. split t $ move t (1 ∷ 2 ∷ []) $ fjoin t $ move t (1 ∷ 0 ∷ []) $ on γ);
       back = λ t z α γ zs on. move t (2 ∷ []) $ fsplit t $ move t (1 ∷ []) $ drop t $ move t (2 ∷ []) $ fsplit t $ move t (3 ∷ 0 ∷ 2 ∷ []) $
           use3 W (later (‵ (Arr (lies T.the-row) (length lot) .lies zs l 0))) (slice-back 𝓤 H A W T.the-row (α ∷ []) γ zs (length lot) l 0) $ await t z $ fsplit t $ feqL t (λ m.
-          together t T.the-row 40 lot others zs l m (all-there (rows .x) (lent .x) (rows .ok .1 .0 .1) zs m) on);
+          joins-array t T.the-row 40 lot others zs l m (all-there (rows .x) (lent .x) (rows .ok .1 .0 .1) zs m) on);
     }
 
     -- as a `&[Counters]`
     abbrev pub to-read : Loan 𝓤 H A W
     to-read = record {
       lent-as = λ α γ. ShrSlice erased (α ∷ []) T.the-row .own (ref (out γ)) (val (out γ) ∷ []);
-      keeps = λ α γ. fsep (flent (α ∷ []) (arr-parts (parts T.the-row) (length lot) .part fullShare lot l 0)) (stays T.the-row lot others l);
+      keeps = λ α γ. fsep (flent (α ∷ []) (arr-parts (parts T.the-row) (length lot) .part fullShare lot l 0)) (behind T.the-row lot others l);
       says = λ γ zs. ftrue;
       last = λ zs. lot;
-      goes = λ t z α on. apart t T.the-row tt 40 (makes40 𝓤 H A W) (rows .x) (min (lent .x) 40) (rows .v) l (rows .ok) $
+      goes = λ t z α on. cuts-array t T.the-row tt 40 (makes40 𝓤 H A W) (rows .x) (min (lent .x) 40) (rows .v) l (rows .ok) $
           use1 W (‵ (cells-of T.the-row fullShare lot l 0)) (whole-out 𝓤 H A W T.the-row lot l 0) $ feqI t ℕ (length lot) (length lot) refl $ fjoin t $
           use1 W (later (some (λ (γ : GName). ‵ (ShrSlice erased (α ∷ []) T.the-row .own (ref (out γ)) (val (out γ) ∷ [])) ⊛ ‵ (flent (α ∷ []) (arr-parts (parts T.the-row) (length lot) .part fullShare lot l 0))))) (lends-shr-slice 𝓤 H A W T.the-row erased (α ∷ []) fullShare lot l 0 (out 0 .room)) $
           await t z $ pick t (λ γ. split t $ move t (1 ∷ 2 ∷ []) $ fjoin t $ move t (1 ∷ 0 ∷ []) $ on γ);
       back = λ t z α γ zs on. move t (2 ∷ []) $ drop t $ move t (1 ∷ []) $ fsplit t $ move t (2 ∷ 0 ∷ []) $ lent-back t z $ fsplit t $ feqL t (λ _.
-          use1 W (‵ (elements (lies T.the-row) lot l 0)) (whole-in 𝓤 H A W T.the-row lot l 0) $ together t T.the-row 40 lot others lot l refl (all-there (rows .x) (lent .x) (rows .ok .1 .0 .1) lot refl) on);
+          use1 W (‵ (elements (lies T.the-row) lot l 0)) (whole-in 𝓤 H A W T.the-row lot l 0) $ joins-array t T.the-row 40 lot others lot l refl (all-there (rows .x) (lent .x) (rows .ok .1 .0 .1) lot refl) on);
     }
 
   -- ---- the call of an entry point, with arguments before and after the rows

@@ -5,7 +5,7 @@ use denote.Memory.{pointee}
 use denote.Laws.{shows}
 use denote.Steps.{facts, heard}
 use denote.Enum.Laws as EL
-use Rattle.owned.proofs.Few.{few, rest, counts-few}
+use Rattle.owned.proofs.Few.{few, counts-few}
 use Rattle.entry.specs.Outcomes.{countsOf}
 use Rattle.entry.proofs.Counted as N
 use Rattle.entry.proofs.Counted.Laws as N′
