@@ -121,7 +121,6 @@ pub fn count(
 ) -> Counted
     ensures { λ r. ⌜ r ≡ countsOf card (now (state .entry)) (now (store .entry)) rows lent unit ⌝ }
 {
-    let rs = rows;
     let n = within(lent);
-    entry::count(card, state, store, &rs[..n], unit)
+    entry::count(card, state, store, &rows[..n], unit)
 }
