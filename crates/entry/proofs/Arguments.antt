@@ -2,7 +2,7 @@
 --     Got, Lent, Whole    plain data with its machine value; a slice, where it lies and what it holds; the state likewise
 --     Arg              an argument: plain data, the state, bytes that are read or written, the rows that are written or read, an array of them, the room for what rises at each unit
 --     kinds, args, valss, tokens-of, machine     of a list of them, the lifetimes numbered on from j
---     numbered         the same for the covered function: the number of the rows in place of the rows.        lending    the rows of an array that is lent in place of the array
+--     numbered         the same for the covered function: the number of the rows in place of the rows
 -- Assumes nothing, but for the laws `typed`, which take `Given`.
 use mathlib.Core.Path.{refl}
 use mathlib.Core.Option.{Option, none, some}
@@ -243,23 +243,6 @@ number (the-each κ q x) = the-each κ q x
 
 abbrev pub numbered : List Arg → List Arg
 numbered xs = map number xs
-
--- an array of rows that is lent for κ in its place
-abbrev lend : Lft → Share → Lent T.the-row → Arg → Arg
-lend κ s y (the-card x) = the-card x
-lend κ s y (the-state κ′ q x) = the-state κ′ q x
-lend κ s y (state-read κ′ q x) = state-read κ′ q x
-lend κ s y (the-unit x) = the-unit x
-lend κ s y (the-number x) = the-number x
-lend κ s y (is-read κ′ q x) = is-read κ′ q x
-lend κ s y (is-written κ′ q x) = is-written κ′ q x
-lend κ s y (the-rows κ′ q x) = the-rows κ′ q x
-lend κ s y (rows-read κ′ q x) = rows-read κ′ q x
-lend κ s y (the-array x) = the-rows κ s y
-lend κ s y (the-each κ′ q x) = the-each κ′ q x
-
-abbrev pub lending : Lft → Share → Lent T.the-row → List Arg → List Arg
-lending κ s y xs = map (lend κ s y) xs
 
 -- ---- locals: a type, a place, a value
 abbrev pub Cell : Type 0
