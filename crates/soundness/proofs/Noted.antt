@@ -1,11 +1,11 @@
 -- What a note says: whether the state is sound, and which unit has the number. Assumes nothing.
-use Prim.Native.Nat.{ℕ, _+_, _*_, _/_, _≤_, _<_}
+use Prim.Native.Nat.{ℕ, _/_, _<_}
 use mathlib.Core.Path.{_≡_, refl, sym, ap, _∙_}
 use mathlib.Core.Bool.{Bool, true, false, not, cond}
 use mathlib.Core.List.{List}
 use native.Mathlib.Omega.{arith}
 use lib.Dec.{eqb}
-use lib.ListN.{length, getD}
+use lib.ListN.{getD}
 use borrow.Author.Tests.{ne-eqb}
 use Rattle.card.specs.declared.Card.{Card}
 use Rattle.shelf.specs.Shelves.{declared, blank, numberOf, findIn}
@@ -15,7 +15,7 @@ use Rattle.shelf.specs.declared.Found.the-variants.{At, Nothing}
 use Rattle.shelf.proofs.Finding.{declared-length, find-at}
 use Rattle.state.specs.Bytes.{shelfIn}
 use Rattle.state.proofs.Laws.{units-length}
-use Rattle.soundness.specs.Numbered.{stands, noteOf}
+use Rattle.soundness.specs.Numbered.{noteOf}
 use Rattle.soundness.specs.Soundings.{soundIn, looked}
 use Rattle.soundness.proofs.Pass.{priorityOf, cellsOf}
 use Rattle.soundness.proofs.Facts.{sound-unit}

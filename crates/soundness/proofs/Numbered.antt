@@ -10,7 +10,7 @@ use native.Mathlib.Omega.{arith}
 use lib.Dec.{eqb, leb}
 use lib.ListN.{length, getD, drop, List·getD-eq-default, drop-of-length-le}
 use lib.Seq.{drop-cons}
-use borrow.Author.Tests.{ne-eqb, eqb-true, eqb-false, le-leb, lt-leb}
+use borrow.Author.Tests.{ne-eqb, le-leb, lt-leb}
 use Rattle.outlet.proofs.Truth.{same, and-iff, or-iff, eq-iff, le-iff}
 use Rattle.arbiter.specs.Arbitration.{besides}
 use Rattle.shelf.specs.Shelves.{blank, numberOf, numbers, findIn}

@@ -1,8 +1,7 @@
 -- `soundness::grant_held` meets its contract. Assumes nothing.
 use mathlib.Core.Path.{ap, _∙_}
-use mathlib.Core.Bool.{not, _&&_}
-use lib.Dec.{eqb, leb}
-use lib.ListN.{getD}
+use mathlib.Core.Bool.{_&&_}
+use lib.Dec.{leb}
 use borrow.Author.Needs.{needs}
 use Rattle.soundness.specs.Numbered.{marks, cellsIn}
 use Rattle.soundness.proofs.Numbered.{grant-in, grant-out}

@@ -10,8 +10,6 @@ use Rattle.soundness.proofs.Numbered.{stands-most}
 use Rattle.soundness.proofs.Sounding.{one-more}
 use Rattle.soundness.proofs.notes.Statement.{statement}
 use Rattle.soundness.proofs.notes.Tie as tie
-use Rattle.soundness.proofs.notes.Reads as reads
-use Rattle.soundness.proofs.notes.Lts as lts
 
 abbrev Inv-loop : tie.InvT-loop
 Inv-loop s granted each₀ i₀ each i = (i ≤ 32) × (length each ≡ 32) × ((j : ℕ) → j < i → getD each j 0 ≡ 8 * j + standingIn granted (col s j))
