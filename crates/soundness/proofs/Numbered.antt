@@ -12,7 +12,7 @@ use lib.ListN.{length, getD, drop, List·getD-eq-default, drop-of-length-le}
 use lib.Seq.{drop-cons}
 use borrow.Author.Tests.{ne-eqb, le-leb, lt-leb}
 use Rattle.outlet.proofs.Truth.{same, and-iff, or-iff, eq-iff, le-iff}
-use Rattle.arbiter.specs.Arbitration.{besides}
+use Rattle.arbiter.specs.Arbitration.{nobody, besides}
 use Rattle.shelf.specs.Shelves.{blank, numberOf, numbers, findIn}
 use Rattle.shelf.specs.declared.Unit as U
 use Rattle.shelf.specs.declared.Found.{Found}
@@ -25,17 +25,17 @@ use Rattle.soundness.proofs.Pass.{priorityOf, cellsOf, Placed, noted-no
 
 -- the code's tests, of 32 numbers
 pub nobody-in : (held : List ℕ) (number : ℕ) → number < 32 → marks held number ≡ nobodyOr (marks held) number
-nobody-in held number h = rw (ne-eqb number 255 (λ e. omega arith))
+nobody-in held number h = rw (ne-eqb number nobody (λ e. omega arith))
 
-pub nobody-out : (held : List ℕ) (number : ℕ) → length held ≡ 32 → 32 ≤ number → eqb number 255 ≡ nobodyOr (marks held) number
-nobody-out held number l h = rw (List·getD-eq-default held 0 {n = number} (omega arith)) (sym (or-false (eqb number 255)))
+pub nobody-out : (held : List ℕ) (number : ℕ) → length held ≡ 32 → 32 ≤ number → eqb number nobody ≡ nobodyOr (marks held) number
+nobody-out held number l h = rw (List·getD-eq-default held 0 {n = number} (omega arith)) (sym (or-false (eqb number nobody)))
 
 module _ (cells : ℕ → ℕ) (held : List ℕ) (granted : ℕ) where
   pub grant-in : granted < 32 → celled cells held granted ≡ grantIn cells held granted
-  grant-in h = rw (ne-eqb granted 255 (λ e. omega arith))
+  grant-in h = rw (ne-eqb granted nobody (λ e. omega arith))
 
-  pub grant-out : length held ≡ 32 → 32 ≤ granted → eqb granted 255 ≡ grantIn cells held granted
-  grant-out l h = rw (List·getD-eq-default held 0 {n = granted} (omega arith)) (sym (or-false (eqb granted 255)))
+  pub grant-out : length held ≡ 32 → 32 ≤ granted → eqb granted nobody ≡ grantIn cells held granted
+  grant-out l h = rw (List·getD-eq-default held 0 {n = granted} (omega arith)) (sym (or-false (eqb granted nobody)))
 
 module _ (held asks : List ℕ) (i : ℕ) (good : Bool) where
   pub held-next : i < length asks → (good && asksHeld held i (drop i asks)) ≡ ((good && askIn (getD asks i 0) (getD held i 0)) && asksHeld held (i + 1) (drop (i + 1) asks))
@@ -140,18 +140,18 @@ module _ (granted : ℕ) (last asks : List ℕ) (us : List U.Unit) (placed : Pla
         ap (λ n. not (eqb n 0) && leb 1 (cells (n / 8))) (noted-at granted us i placed once h) ∙ (λ t. not (there t) && leb 1 (cells (place t))) ∙ ap (leb 1) (inlets i h)
 
     abbrev Celled : Type 0
-    Celled = ((i : ℕ) → i < length us → number i ≡ granted → 1 ≤ cellsOf (unit i)) × ((granted ≡ 255) ⊎ DeclaredIn us granted)
+    Celled = ((i : ℕ) → i < length us → number i ≡ granted → 1 ≤ cellsOf (unit i)) × ((granted ≡ nobody) ⊎ DeclaredIn us granted)
 
     grants : (every (grantHasCell granted) us && nobodyOr known granted) ≡ grantIn cells hs granted
     grants =
         let e = every-iff (grantHasCell granted) (λ u. numberOf u ≡ granted → 1 ≤ cellsOf u) (λ u. imp-iff (eq-iff (numberOf u) granted) (le-iff 1 (cellsOf u))) us in
-        let l = and-iff e (or-iff (eq-iff granted 255) (among-iff us granted)) in
-        let r = or-iff (eq-iff granted 255) (Iff·rfl {A = celled cells hs granted ≡ true}) in
+        let l = and-iff e (or-iff (eq-iff granted nobody) (among-iff us granted)) in
+        let r = or-iff (eq-iff granted nobody) (Iff·rfl {A = celled cells hs granted ≡ true}) in
         same (every (grantHasCell granted) us && nobodyOr known granted) (grantIn cells hs granted)
         (λ t. let w = l .0 t in r .1 (⊎-elim (λ x. inl x) (λ (d : DeclaredIn us granted). inr (subst (λ n. celled cells hs n ≡ true) (d .2) (grant-at (d .0) (d .1) ∙ le-iff 1 (cellsOf (unit (d .0))) .1 (w .0 (d .0) (d .1) (d .2))))) (w .1)))
         (λ t. l .1 (⊎-elim nobody-here somebody (r .0 t)))
       where
-        nobody-here : granted ≡ 255 → Celled
+        nobody-here : granted ≡ nobody → Celled
         nobody-here x = (λ i h e. let p = ranged i h .0 in absurd (omega arith), inl x)
 
         there : (b : Bool) → known granted ≡ b → celled cells hs granted ≡ true → DeclaredIn us granted

@@ -180,7 +180,7 @@ fn taken(number: u8, granted: u8) -> u8
     if number == granted { 1 } else { 0 }
 }
 
-// How a unit stands: its priority, or 4 without a cell besides a granted one.
+// How a unit stands: its priority, or 4 without a cell besides a granted one. By 4, as past the declared units any byte may stand.
 fn standing(priority: u8, cells: u8, number: u8, granted: u8) -> u8
     ensures { λ r. ⌜ r ≡ standingOf priority cells number granted ⌝ }
 {
@@ -256,7 +256,7 @@ fn asks_held(held: [u8; 32], asks: [u8; 32]) -> bool
 }
 
 // By number, what is noted of each declared unit, and 0 where none is declared: no number twice, and the open grant, the last grants and the
-// requests are such as the units could have. What is noted by this number, or 255 where that is not so.
+// requests are such as the units could have. What is noted by this number, or 255 where any of that is not so.
 fn numbers_good(s: &[u8], unit: u8) -> u8
     requires { ⌜ (length (now s) ≡ 2048) × Places (now s) ⌝ }
     ensures { λ r. ⌜ r ≡ cond (numbersHeld (now (s .entry))) (getD (heldIn (now (s .entry))) unit 0) 255 ⌝ }
@@ -283,7 +283,7 @@ fn numbers_good(s: &[u8], unit: u8) -> u8
     if unit < 32 { held[unit as usize] } else { 0 }
 }
 
-// What is noted of the unit with this number, 0 where none has it; or 255, and the state is not sound. First each unit by itself, all places at
+// What is noted of the unit with this number, 0 where none has it; 255 of a state that is not sound. First each unit by itself, all places at
 // once; then by number.
 fn look(card: Card, s: &[u8], store: usize, rows: usize, unit: u8) -> u8
     requires { ⌜ length (now s) ≡ 2048 ⌝ }
