@@ -16,10 +16,10 @@ use Rattle.state.specs.Bytes.{unitIn, shelfIn}
 use Rattle.state.proofs.Laws.{unit-at}
 use Rattle.soundness.specs.State.{soundOf}
 use Rattle.soundness.specs.Soundings.{formedAll, soundIn}
-use Rattle.soundness.specs.Admission.{atUnit, admitted, admittedIn, formedOr, decided, toldApart, countedIn, unitAt, Housed}
+use Rattle.soundness.specs.Admission.{atUnit, admitted, admittedIn, formedOr, decided, toldApart, countedIn, Housed}
 use Rattle.soundness.specs.declared.Admitted as A
 use Rattle.soundness.specs.declared.Admitted.the-variants.{At, Refused}
-use Rattle.soundness.proofs.Laws.{unsound, stranger, misfit, let-in, LetIn, at-let-in, let-in-housed, decided-at, decided-refused}
+use Rattle.soundness.proofs.Laws.{stranger, misfit, let-in, LetIn, at-let-in, let-in-housed, decided-at, decided-refused}
 
 -- bytes that are a state, and a sound one
 pub sound-in : (card : Card) (b : List ℕ) (store rows : ℕ) → soundIn card b store rows ≡ true → (formedAll b ≡ true) × (soundOf card (shelfIn b) store rows ≡ true)

@@ -1,6 +1,6 @@
 -- The flat tests of the bytes are the tests of the unit. Assumes nothing.
 use mathlib.Core.Path.{_≡_, refl, sym, ap, _∙_}
-use mathlib.Core.Bool.{Bool, true, false, _&&_, _||_, cond, and-false, and-true, and-assoc, false≢true}
+use mathlib.Core.Bool.{Bool, true, false, _&&_, _||_, cond, and-false, and-true, and-assoc}
 use mathlib.Core.Logic.{_⊎_, inl, inr, ⊎-elim}
 use mathlib.Core.List.{List}
 use Prim.Native.Nat.{ℕ, zero, suc, _+_, _*_, _-_, _≤_, _<_}
@@ -18,7 +18,6 @@ use Rattle.header.specs.Fields.{highest}
 use Rattle.outlet.specs.Outlets.{between, capacities, capacity, given, ringFits, queueFits, ringsFit}
 use Rattle.outlet.specs.declared.Limits.{Limits}
 use Rattle.outlet.specs.declared.Ring.{Ring}
-use Rattle.outlet.specs.declared.Mode.the-variants.{One, Four}
 use Rattle.outlet.proofs.Laws.{given-iff, fits-iff}
 use Rattle.soundness.specs.State.{settingsGiven, unitFits}
 use Rattle.state.specs.Bytes.{col, linkOf, modeOf, limitsBy, outletBy, ringBy, unitBy}

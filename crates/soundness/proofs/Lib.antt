@@ -7,3 +7,4 @@ pub mod Witness
 pub mod Kept
 pub mod Laws
 pub mod InPlace
+pub mod Noted

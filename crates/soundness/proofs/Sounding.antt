@@ -1,31 +1,32 @@
 -- The test of the bytes, turn by turn. Assumes nothing.
-use Prim.Native.Nat.{ℕ, zero, suc, _+_, _<_, _≤_}
+use Prim.Native.Nat.{ℕ, zero, suc, _+_, _*_, _<_, _≤_}
 use native.Mathlib.Numerals.{add-one}
 use native.Mathlib.Omega.{arith}
 use mathlib.Core.Path.{_≡_, refl, sym, ap, subst, _∙_}
-use mathlib.Core.Bool.{Bool, true, false, _&&_, and-true, and-assoc, false≢true}
+use mathlib.Core.Bool.{Bool, true, false, not, cond, _&&_, and-true, and-assoc, false≢true}
 use mathlib.Core.Logic.{_↔_, _⊎_, inl, inr, ⊎-elim, Iff·rfl}
-use mathlib.Core.List.{List, [], _∷_}
+use mathlib.Core.List.{List, _∷_}
 use lib.Dec.{leb}
 use lib.ListN.{length, getD, set, drop, drop-of-length-le}
 use lib.Seq.{drop-cons, getD-set-same, getD-set-other}
+use borrow.Author.Tests.{not-true, not-false}
 use Rattle.header.specs.Fields.{highest}
 use Rattle.card.specs.declared.Card.{Card}
 use Rattle.card.specs.declared.Ask.the-variants.{On}
 use Rattle.card.specs.Cards.{holds}
 use Rattle.outlet.proofs.Truth.{le-iff, lt-iff, and-iff, or-iff}
-use Rattle.shelf.specs.Shelves.{declared, blank, numberOf, numbers}
+use Rattle.shelf.specs.Shelves.{declared, blank, numberOf, numbers, findIn}
 use Rattle.shelf.specs.declared.Unit as U
 use Rattle.shelf.proofs.Finding.{declared-length, declared-at}
 use Rattle.state.specs.Bytes.{col, unitBy, unitIn, shelfIn}
 use Rattle.state.proofs.Laws.{units-length, unit-at}
 use Rattle.soundness.specs.State.{every, among, noneRepeated, roomy, belowBus, settingsGiven, couldBeGiven, withinCapacity, grantHasCell, requestHasCell, arbiterKnown, unitFits, soundOf}
 use Rattle.soundness.specs.Lanes.{formed, laneGood, lanes}
-use Rattle.soundness.specs.Numbered.{standingIn, stands, free, arbiterHeld, pass, none, Places, numbersHeld}
-use Rattle.soundness.specs.Soundings.{formedAll, soundIn}
-use Rattle.soundness.proofs.Pass.{priorityOf, cellsOf, Placed, all-placed, roomy-iff, bus-most}
+use Rattle.soundness.specs.Numbered.{standingIn, free, arbiterHeld, noted, once, none, cellsIn, heldIn, numbersHeld, Places, noteOf}
+use Rattle.soundness.specs.Soundings.{formedAll, soundIn, looked}
+use Rattle.soundness.proofs.Pass.{priorityOf, cellsOf, Placed, all-placed, once-from-none, roomy-iff, bus-most}
 use Rattle.soundness.proofs.Facts.{every-iff}
-use Rattle.soundness.proofs.Numbered.{Ranged, stands-some, pass-document}
+use Rattle.soundness.proofs.Numbered.{Ranged, stands-some, noted-found, numbers-document}
 
 split : (k i : ℕ) → k ≤ i → (k ≡ i) ⊎ (suc k ≤ i)
 split zero zero h = inl refl
@@ -61,11 +62,11 @@ lanes-all good count k (suc n) g =
         less (inl h) e = absurd (false≢true (sym e ∙ le-iff count k .1 h))
         less (inr h) e = h
 
--- how one place more stands
-pub one-more : (b : List ℕ) (granted : ℕ) (each : List ℕ) (i n : ℕ) → i < length each → ((j : ℕ) → j < i → getD each j 0 ≡ standingIn granted (col b j)) → n ≡ standingIn granted (col b i) →
-    (j : ℕ) → j < i + 1 → getD (set each i n) j 0 ≡ standingIn granted (col b j)
+-- one place more is noted
+pub one-more : (b : List ℕ) (granted : ℕ) (each : List ℕ) (i n : ℕ) → i < length each → ((j : ℕ) → j < i → getD each j 0 ≡ 8 * j + standingIn granted (col b j)) → n ≡ 8 * i + standingIn granted (col b i) →
+    (j : ℕ) → j < i + 1 → getD (set each i n) j 0 ≡ 8 * j + standingIn granted (col b j)
 one-more b granted each i n l g e j h =
-    ⊎-elim (λ x. subst (λ k. getD (set each i n) k 0 ≡ standingIn granted (col b k)) (sym x) (getD-set-same each i n 0 l ∙ e)) (λ x. getD-set-other each i j n 0 (λ y. omega arith) ∙ g j (omega arith))
+    ⊎-elim (λ x. subst (λ k. getD (set each i n) k 0 ≡ 8 * k + standingIn granted (col b k)) (sym x) (getD-set-same each i n 0 l ∙ e)) (λ x. getD-set-other each i j n 0 (λ y. omega arith) ∙ g j (omega arith))
     (split j i (omega arith))
 
 -- two tests, and one of them
@@ -81,6 +82,13 @@ both-true : (a b c : Bool) → (a ≡ true → b ≡ true → c ≡ true) → c 
 both-true true true c f e = absurd (false≢true (sym e ∙ f refl refl))
 both-true true false c f e = refl
 both-true false b c f e = refl
+
+-- what comes of all tests by number
+pub unheld : (good all : Bool) (x : ℕ) → good ≡ all → not good ≡ true → 255 ≡ cond all x 255
+unheld good all x e h = sym (ap (λ a. cond a x 255) (sym e ∙ not-true good h))
+
+pub all-held : (good all : Bool) (x y : ℕ) → good ≡ all → not good ≡ false → y ≡ x → y ≡ cond all x 255
+all-held good all x y e h f = f ∙ sym (ap (λ a. cond a x 255) (sym e ∙ not-false good h))
 
 -- the document's items: those of a unit by itself, and what is left where they hold
 own : (a n b c w g r k : Bool) → (a && n && b && c && w && g && r && k) ≡ true → (b ≡ true) × (c ≡ true) × (w ≡ true)
@@ -104,9 +112,15 @@ module _ (b : List ℕ) where
   abbrev count : ℕ
   count = getD b 805 0
 
-  -- what is left of the pass at place i
-  abbrev pub left : List ℕ → ℕ → Bool
-  left held i = pass (getD b 803 0) (shelfIn b .arbiter .last) (shelfIn b .arbiter .asks) held (drop i us)
+  -- what is left at place i
+  abbrev pub onceLeft : List ℕ → ℕ → Bool
+  onceLeft held i = once (getD b 803 0) held i (drop i us)
+
+  abbrev pub notedLeft : List ℕ → ℕ → List ℕ
+  notedLeft held i = noted (getD b 803 0) held i (drop i us)
+
+  abbrev pub with : List ℕ → ℕ → List ℕ
+  with held i = set held (col b i 0) (8 * i + standingIn (getD b 803 0) (col b i))
 
   module _ (most : count ≤ 32) where
     long : length us ≡ count
@@ -119,14 +133,23 @@ module _ (b : List ℕ) where
       next : i < count → drop i us ≡ unitIn b i ∷ drop (suc i) us
       next h = let l = long in drop-cons us i blank (omega arith) ∙ ap (λ u. u ∷ drop (suc i) us) (there i h)
 
-      pub goes-on : (once : Bool) → i < count → (once && left held i) ≡ ((once && free held (col b i 0)) && left (set held (col b i 0) (standingIn (getD b 803 0) (col b i))) (i + 1))
-      unfolding pass unitBy
-      goes-on once h =
-          rw (add-one, next h) (sym (and-assoc once (free held (col b i 0)) (left (set held (col b i 0) (standingIn (getD b 803 0) (col b i))) (suc i))))
+      pub goes-on : (good : Bool) → i < count → (good && onceLeft held i) ≡ ((good && free held (col b i 0)) && onceLeft (with held i) (i + 1))
+      unfolding once unitBy
+      goes-on good h = rw (add-one, next h) (sym (and-assoc good (free held (col b i 0)) (onceLeft (with held i) (suc i))))
 
-      pub ends : count ≤ i → left held i ≡ arbiterHeld held (getD b 803 0) (shelfIn b .arbiter .last) (shelfIn b .arbiter .asks)
-      unfolding pass
-      ends h = let l = long in rw (drop-of-length-le us {i = i} (omega arith))
+      pub notes-on : i < count → notedLeft held i ≡ notedLeft (with held i) (i + 1)
+      unfolding noted unitBy
+      notes-on h = rw (add-one, next h)
+
+      -- in the end the arbiter
+      pub ends : (good : Bool) → count ≤ i → onceLeft none 0 ≡ (good && onceLeft held i) → heldIn b ≡ notedLeft held i →
+          (heldIn b ≡ held) × (numbersHeld b ≡ (good && arbiterHeld (cellsIn b) held (getD b 803 0) (shelfIn b .arbiter .last) (shelfIn b .arbiter .asks)))
+      unfolding once noted
+      ends good h e f =
+          let l = long in
+          let d = drop-of-length-le us {i = i} (omega arith) in
+          let g : heldIn b ≡ held = f ∙ ap (noted (getD b 803 0) held i) d in
+          (g, (λ t. (e ∙ ap (λ x. good && once (getD b 803 0) held i x) d ∙ and-true good) t && arbiterHeld (cellsIn b) (g t) (getD b 803 0) (shelfIn b .arbiter .last) (shelfIn b .arbiter .asks)))
 
 module _ (card : Card) (b : List ℕ) (store rows : ℕ) where
   abbrev bus : ℕ
@@ -135,9 +158,13 @@ module _ (card : Card) (b : List ℕ) (store rows : ℕ) where
   abbrev good : ℕ → Bool
   good = laneGood card bus b
 
-  pub small : roomy bus (count b) store rows ≡ false → false ≡ soundIn card b store rows
+  unseen : (unit : ℕ) → soundIn card b store rows ≡ false → 255 ≡ looked card b store rows unit
+  unfolding looked
+  unseen unit e = rw e
+
+  pub small : (unit : ℕ) → roomy bus (count b) store rows ≡ false → 255 ≡ looked card b store rows unit
   unfolding soundIn soundOf
-  small e = sym (both-true (formedAll b) (soundOf card (shelfIn b) store rows) (soundOf card (shelfIn b) store rows) (λ p q. q) (rw e))
+  small unit e = unseen unit (both-true (formedAll b) (soundOf card (shelfIn b) store rows) (soundOf card (shelfIn b) store rows) (λ p q. q) (rw e))
 
   module _ (t : roomy bus (count b) store rows ≡ true) where
     pub few : count b ≤ 32
@@ -158,10 +185,10 @@ module _ (card : Card) (b : List ℕ) (store rows : ℕ) where
         (and-iff (and-iff (Iff·rfl {A = belowBus bus (getD (us b) i blank) ≡ true}) (Iff·rfl {A = couldBeGiven card (getD (us b) i blank) ≡ true})) (Iff·rfl {A = withinCapacity (getD (us b) i blank) ≡ true}) .1
         ((each (belowBus bus) (us b) .0 (w .0) i (omega arith), each (couldBeGiven card) (us b) .0 (w .1) i (omega arith)), each withinCapacity (us b) .0 (w .2) i (omega arith)))
 
-    pub unfit : lanes good (count b) 0 32 ≡ false → false ≡ soundIn card b store rows
+    pub unfit : (unit : ℕ) → lanes good (count b) 0 32 ≡ false → 255 ≡ looked card b store rows unit
     unfolding soundIn
-    unfit e =
-        sym (both-true (formedAll b) (soundOf card (shelfIn b) store rows) (lanes good (count b) 0 32)
+    unfit unit e =
+        unseen unit (both-true (formedAll b) (soundOf card (shelfIn b) store rows) (lanes good (count b) 0 32)
         (λ p q. lanes-all good (count b) 0 32 (λ i a l c. and-iff (Iff·rfl {A = formed (col b i) ≡ true}) (Iff·rfl {A = unitFits card bus (unitIn b i) ≡ true}) .1 (lanes-at (λ j. formed (col b j)) (count b) 0 32 i p a l c, fits-at q i c))) e)
 
     module _ (g : lanes good (count b) 0 32 ≡ true) where
@@ -188,9 +215,9 @@ module _ (card : Card) (b : List ℕ) (store rows : ℕ) where
           let q = and-iff (le-iff 1 (priorityOf u)) (le-iff (priorityOf u) 3) .0 s in
           (omega (arith, n, m), q .0, q .1)
 
-      placed : Placed (stands (getD b 803 0)) 32 (us b)
+      placed : Placed (getD b 803 0) 32 (us b)
       placed =
-          all-placed (stands (getD b 803 0)) (us b) 32 (λ i h.
+          all-placed (getD b 803 0) (us b) 32 (λ i h.
           let u = getD (us b) i blank in
           let r = ranged i h in
           (r .0, stands-some (priorityOf u) (cellsOf u) (numberOf u) (getD b 803 0) (r .1) (r .2)))
@@ -205,12 +232,26 @@ module _ (card : Card) (b : List ℕ) (store rows : ℕ) where
             omega (arith, n, m),
       )
 
-      pub begins : soundIn card b store rows ≡ numbersHeld b
+      cells : (i : ℕ) → i < length (us b) → cellsIn b i ≡ cellsOf (getD (us b) i blank)
+      unfolding unitBy
+      cells i h = let l = long b few in sym (ap cellsOf (there b few i (omega arith)))
+
+      by-number : soundIn card b store rows ≡ numbersHeld b
       unfolding soundIn soundOf
-      begins =
+      by-number =
           let a = shelfIn b .arbiter in
           ap (λ x. x && soundOf card (shelfIn b) store rows) (lanes-all (λ i. formed (col b i)) (count b) 0 32 (λ i p l c. parts i c .0))
           ∙ others (roomy bus (count b) store rows) (noneRepeated (numbers (us b))) (every (belowBus bus) (us b)) (every (couldBeGiven card) (us b)) (every withinCapacity (us b))
           (every (grantHasCell (getD b 803 0)) (us b)) (every (requestHasCell (getD b 803 0) (a .asks)) (us b)) (arbiterKnown (among (numbers (us b))) (getD b 803 0) (a .last) (a .asks))
           t (each (belowBus bus) (us b) .1 (λ i h. fits i h .0 .0)) (each (couldBeGiven card) (us b) .1 (λ i h. fits i h .0 .1)) (each withinCapacity (us b) .1 (λ i h. fits i h .1))
-          ∙ pass-document (getD b 803 0) (a .last) (a .asks) (us b) placed ranged
+          ∙ numbers-document (getD b 803 0) (a .last) (a .asks) (us b) placed ranged (cellsIn b) cells
+
+      pub begins : (unit : ℕ) → looked card b store rows unit ≡ cond (numbersHeld b) (getD (heldIn b) unit 0) 255
+      unfolding looked
+      begins unit =
+          ap (λ s. cond s (noteOf (getD b 803 0) (us b) (findIn (us b) unit)) 255) by-number
+          ∙ chosen (numbersHeld b) (λ t. sym (noted-found (getD b 803 0) (us b) unit placed (sym (once-from-none (getD b 803 0) (us b) placed) ∙ first (once (getD b 803 0) none 0 (us b)) _ t)))
+        where
+          chosen : (s : Bool) {x y : ℕ} → (s ≡ true → x ≡ y) → cond s x 255 ≡ cond s y 255
+          chosen true e = e refl
+          chosen false e = refl

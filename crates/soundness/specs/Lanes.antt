@@ -1,6 +1,6 @@
 -- When the bytes of the declared units are such as a unit can have: each byte that says a link, a mode or a mark is one, and the unit fits. Assumes nothing.
 use Prim.Native.Nat.{ℕ, zero, suc, _-_}
-use mathlib.Core.Bool.{Bool, true, false, _&&_, _||_, cond}
+use mathlib.Core.Bool.{Bool, true, _&&_, _||_, cond}
 use mathlib.Core.List.{List}
 use lib.Dec.{eqb, leb}
 use Rattle.card.specs.declared.Card.{Card}

@@ -1,20 +1,21 @@
--- The declared units by their numbers: how each stands, 0 where none is declared. Assumes nothing.
-use Prim.Native.Nat.{ℕ, suc, _%_, _≤_, _<_}
+-- The declared units by their numbers: where and how each stands, 0 where none is declared. Assumes nothing.
+use Prim.Native.Nat.{ℕ, suc, _+_, _*_, _/_, _%_, _≤_, _<_}
 use mathlib.Core.Path.{_≡_}
 use mathlib.Core.Bool.{Bool, true, not, cond, _&&_, _||_}
 use mathlib.Core.List.{List, [], _∷_}
 use lib.Dec.{eqb, leb}
 use lib.ListN.{getD, set, replicate}
-use Rattle.outlet.specs.Outlets.{between}
-use Rattle.shelf.specs.Shelves.{declared, numberOf}
+use Rattle.shelf.specs.Shelves.{declared, blank, numberOf}
 use Rattle.shelf.specs.declared.Unit as U
+use Rattle.shelf.specs.declared.Found.{Found}
+use Rattle.shelf.specs.declared.Found.the-variants.{At, Nothing}
 use Rattle.state.specs.Bytes.{col, shelfIn}
-use Rattle.arbiter.specs.Arbitration.{nobody, besides}
-use Rattle.soundness.specs.State.{lastsKnown}
+use Rattle.arbiter.specs.Arbitration.{besides}
+use Rattle.soundness.specs.State.{nobodyOr, lastsKnown}
 
--- how a unit stands: its priority, or 4 without a cell besides a granted one, or 8 without any; by its columns, and as a unit
+-- how a unit stands: its priority, or 4 without a cell besides a granted one; by its columns, and as a unit
 abbrev pub standing : ℕ → ℕ → ℕ → ℕ → ℕ
-standing priority cells number granted = cond (leb 1 (besides cells (eqb number granted))) priority (cond (eqb cells 0) 8 4)
+standing priority cells number granted = cond (leb 1 (besides cells (eqb number granted))) (priority % 4) 4
 
 abbrev pub standingIn : ℕ → (ℕ → ℕ) → ℕ
 standingIn granted f = standing (f 4) (f 15) (f 0) granted
@@ -22,9 +23,16 @@ standingIn granted f = standing (f 4) (f 15) (f 0) granted
 abbrev pub stands : ℕ → U.Unit → ℕ
 stands granted u = standing (u .settings .priority) (u .inlet .count) (numberOf u) granted
 
--- of each place
-abbrev pub Standings : ℕ → List ℕ → List ℕ → Type 0
-Standings granted b each = (i : ℕ) → i < 32 → getD each i 0 ≡ standingIn granted (col b i)
+-- what is noted of the unit in a place: 8 times the place, and how it stands; of each place; of the unit that was found
+abbrev pub note : ℕ → ℕ → U.Unit → ℕ
+note granted i u = 8 * i + stands granted u
+
+abbrev pub Notes : ℕ → List ℕ → List ℕ → Type 0
+Notes granted b each = (i : ℕ) → i < 32 → getD each i 0 ≡ 8 * i + standingIn granted (col b i)
+
+unfoldable pub noteOf : ℕ → List U.Unit → Found → ℕ
+noteOf granted us (At i) = note granted i (getD us i blank)
+noteOf granted us Nothing = 0
 
 -- whether none has this number; whether one has
 abbrev pub free : List ℕ → ℕ → Bool
@@ -33,32 +41,48 @@ free held n = eqb (getD held n 0) 0
 abbrev pub marks : List ℕ → ℕ → Bool
 marks held n = not (free held n)
 
--- a request is 0, or the priority of a unit with a cell for it: a standing of 4 or 8 is 0 by 4
+-- a request is 0, or the priority of a unit with a cell for it: a standing of 4 is 0 by 4
 abbrev pub askIn : ℕ → ℕ → Bool
-askIn ask standing = eqb ask 0 || eqb ask (standing % 4)
+askIn ask note = eqb ask 0 || eqb ask (note % 4)
 
 -- each request from number n on is held by a unit
 unfoldable pub asksHeld : List ℕ → ℕ → List ℕ → Bool
 asksHeld held n [] = true
 asksHeld held n (ask ∷ asks) = askIn ask (getD held n 0) && asksHeld held (suc n) asks
 
-abbrev pub grantIn : List ℕ → ℕ → Bool
-grantIn held granted = eqb granted nobody || between 1 4 (getD held granted 0)
+-- the unit with this number, by its place, has a cell
+abbrev pub celled : (ℕ → ℕ) → List ℕ → ℕ → Bool
+celled cells held n = marks held n && leb 1 (cells (getD held n 0 / 8))
 
-unfoldable pub arbiterHeld : List ℕ → ℕ → List ℕ → List ℕ → Bool
-arbiterHeld held granted last asks = grantIn held granted && lastsKnown (marks held) last && asksHeld held 0 asks
+abbrev pub grantIn : (ℕ → ℕ) → List ℕ → ℕ → Bool
+grantIn cells held granted = nobodyOr (celled cells held) granted
 
--- one pass over the units, that puts how each stands in its number's place; in the end the arbiter
-unfoldable pub pass : ℕ → List ℕ → List ℕ → List ℕ → List U.Unit → Bool
-pass granted last asks held [] = arbiterHeld held granted last asks
-pass granted last asks held (u ∷ us) = free held (numberOf u) && pass granted last asks (set held (numberOf u) (stands granted u)) us
+unfoldable pub arbiterHeld : (ℕ → ℕ) → List ℕ → ℕ → List ℕ → List ℕ → Bool
+arbiterHeld cells held granted last asks = grantIn cells held granted && lastsKnown (marks held) last && asksHeld held 0 asks
+
+-- the units from place i on, each noted in its number's place; whether none was noted there before
+unfoldable pub noted : ℕ → List ℕ → ℕ → List U.Unit → List ℕ
+noted granted held i [] = held
+noted granted held i (u ∷ us) = noted granted (set held (numberOf u) (note granted i u)) (suc i) us
+
+unfoldable pub once : ℕ → List ℕ → ℕ → List U.Unit → Bool
+once granted held i [] = true
+once granted held i (u ∷ us) = free held (numberOf u) && once granted (set held (numberOf u) (note granted i u)) (suc i) us
 
 abbrev pub none : List ℕ
 none = replicate 32 0
 
 -- of lent bytes; there is a place for each
+abbrev pub cellsIn : List ℕ → ℕ → ℕ
+cellsIn b i = col b i 15
+
+abbrev pub heldIn : List ℕ → List ℕ
+heldIn b = noted (getD b 803 0) none 0 (declared (shelfIn b))
+
 abbrev pub numbersHeld : List ℕ → Bool
-numbersHeld b = pass (getD b 803 0) (shelfIn b .arbiter .last) (shelfIn b .arbiter .asks) none (declared (shelfIn b))
+numbersHeld b =
+    once (getD b 803 0) none 0 (declared (shelfIn b))
+    && arbiterHeld (cellsIn b) (heldIn b) (getD b 803 0) (shelfIn b .arbiter .last) (shelfIn b .arbiter .asks)
 
 abbrev pub Places : List ℕ → Type 0
 Places b = (getD b 805 0 ≤ 32) × ((i : ℕ) → i < getD b 805 0 → col b i 0 < 32)

@@ -2,20 +2,19 @@
 use arbiter::NOBODY;
 use card::Card;
 use outlet::Outlet;
-use shelf::Found;
 use shelf::Unit;
 ghost use mathlib.Core.Path.{_≡_};
 ghost use mathlib.Core.Bool.{_&&_, cond};
 ghost use mathlib.Core.Logic.{_⊎_};
-ghost use Prim.Native.Nat.{_-_, _<_, _≤_};
+ghost use Prim.Native.Nat.{_-_, _/_, _<_, _≤_};
 ghost use lib.Dec.{eqb, leb};
-ghost use lib.ListN.{length};
+ghost use lib.ListN.{length, getD};
 ghost use Rattle.outlet.specs.Outlets.{between, ringFits};
 ghost use Rattle.state.specs.Bytes.{col, ringBy};
 ghost use Rattle.soundness.specs.State.{roomy as roomyIn, nobodyOr};
 ghost use Rattle.soundness.specs.Lanes.{highestLink, lesser, settingsAt, limitsAt, ringsAt, laneAt, laneGood, lanes};
-ghost use Rattle.soundness.specs.Numbered.{marks, standing as standingOf, Standings, asksHeld, grantIn, Places, numbersHeld};
-ghost use Rattle.soundness.specs.Soundings.{soundIn};
+ghost use Rattle.soundness.specs.Numbered.{marks, standing as standingOf, Notes, asksHeld, grantIn, cellsIn, Places, heldIn, numbersHeld};
+ghost use Rattle.soundness.specs.Soundings.{soundIn, looked};
 ghost use Rattle.soundness.specs.Admission.{admittedIn, toldApart, countedIn};
 
 // Whether the bus has a size, and there is room for its units.
@@ -181,34 +180,42 @@ fn taken(number: u8, granted: u8) -> u8
     if number == granted { 1 } else { 0 }
 }
 
-// How a unit stands: its priority, or 4 without a cell besides a granted one, or 8 without any.
+// How a unit stands: its priority, or 4 without a cell besides a granted one. By 4, as past the declared units any byte may stand.
 fn standing(priority: u8, cells: u8, number: u8, granted: u8) -> u8
     ensures { λ r. ⌜ r ≡ standingOf priority cells number granted ⌝ }
 {
-    let without = by(cells, 8, 4);
     if taken(number, granted) < cells {
-        priority
+        priority % 4
     } else {
-        without
+        4
     }
 }
 
-fn standings(s: &[u8], granted: u8) -> [u8; 32]
+// What is noted of each place: 8 times the place, and how its unit stands.
+fn notes(s: &[u8], granted: u8) -> [u8; 32]
     requires { ⌜ length (now s) ≡ 2048 ⌝ }
-    ensures { λ r. ⌜ Standings granted (now (s .entry)) r ⌝ }
+    ensures { λ r. ⌜ Notes granted (now (s .entry)) r ⌝ }
 {
     let mut each = [0; 32];
     let mut i: usize = 0;
     while i < 32 {
-        each[i] = standing(
+        let stands = standing(
             state::at(s, 4, i),
             state::at(s, 15, i),
             state::at(s, 0, i),
             granted,
         );
+        each[i] = 8 * (i as u8) + stands;
         i += 1;
     }
     each
+}
+
+// The place that was noted.
+fn place_of(note: u8) -> usize
+    ensures { λ r. ⌜ (r ≡ note / 8) × (r < 32) ⌝ }
+{
+    (note / 8) as usize
 }
 
 // Whether it is nobody or one that is declared.
@@ -223,17 +230,19 @@ fn nobody_or(held: [u8; 32], number: u8) -> bool
 }
 
 // Whether nobody is granted, or one with a cell.
-fn grant_held(held: [u8; 32], granted: u8) -> bool
-    ensures { λ r. ⌜ r ≡ grantIn held granted ⌝ }
+fn grant_held(s: &[u8], held: [u8; 32], granted: u8) -> bool
+    requires { ⌜ length (now s) ≡ 2048 ⌝ }
+    ensures { λ r. ⌜ r ≡ grantIn (cellsIn (now (s .entry))) held granted ⌝ }
 {
     if granted < 32 {
-        (1 <= held[granted as usize]) & (held[granted as usize] <= 4)
+        let note = held[granted as usize];
+        (note != 0) & (1 <= state::at(s, 15, place_of(note)))
     } else {
         granted == NOBODY
     }
 }
 
-// Whether each number that asks does so at its priority, with a cell besides a granted one: a standing of 4 or 8 is 0 by 4, and 0 is no request.
+// Whether each number that asks does so at its priority, with a cell besides a granted one: a standing of 4 is 0 by 4, and 0 is no request.
 fn asks_held(held: [u8; 32], asks: [u8; 32]) -> bool
     ensures { λ r. ⌜ r ≡ asksHeld held 0 asks ⌝ }
 {
@@ -246,14 +255,14 @@ fn asks_held(held: [u8; 32], asks: [u8; 32]) -> bool
     good
 }
 
-// By number, how each declared unit stands, and 0 where none is declared: no number twice, and the open grant, the last grants and the
-// requests are such as the units could have.
-fn numbers_good(s: &[u8]) -> bool
+// By number, what is noted of each declared unit, and 0 where none is declared: no number twice, and the open grant, the last grants and the
+// requests are such as the units could have. What is noted by this number, or 255 where any of that is not so.
+fn numbers_good(s: &[u8], unit: u8) -> u8
     requires { ⌜ (length (now s) ≡ 2048) × Places (now s) ⌝ }
-    ensures { λ r. ⌜ r ≡ numbersHeld (now (s .entry)) ⌝ }
+    ensures { λ r. ⌜ r ≡ cond (numbersHeld (now (s .entry))) (getD (heldIn (now (s .entry))) unit 0) 255 ⌝ }
 {
     let granted = s[803];
-    let each = standings(s, granted);
+    let each = notes(s, granted);
     let end = s[805] as usize;
     let mut once = true;
     let mut held = [0; 32];
@@ -264,26 +273,38 @@ fn numbers_good(s: &[u8]) -> bool
         held[number] = each[i];
         i += 1;
     }
-    once
-        & (grant_held(held, granted)
+    let good = once
+        & (grant_held(s, held, granted)
             & (nobody_or(held, s[800]) & nobody_or(held, s[801]) & nobody_or(held, s[802]))
-            & asks_held(held, state::asks_at(s)))
+            & asks_held(held, state::asks_at(s)));
+    if !good {
+        return 255;
+    }
+    if unit < 32 { held[unit as usize] } else { 0 }
 }
 
-// First each unit by itself, all places at once; then by number.
-pub fn sound(card: Card, s: &[u8], store: usize, rows: usize) -> bool
+// What is noted of the unit with this number, 0 where none has it; 255 of a state that is not sound. First each unit by itself, all places at
+// once; then by number.
+fn look(card: Card, s: &[u8], store: usize, rows: usize, unit: u8) -> u8
     requires { ⌜ length (now s) ≡ 2048 ⌝ }
-    ensures { λ r. ⌜ r ≡ soundIn card (now (s .entry)) store rows ⌝ }
+    ensures { λ r. ⌜ r ≡ looked card (now (s .entry)) store rows unit ⌝ }
 {
     let bus = s[804];
     let count = s[805];
     if !roomy(bus, count, store, rows) {
-        return false;
+        return 255;
     }
     if !units_good(s, card, bus, count) {
-        return false;
+        return 255;
     }
-    numbers_good(s)
+    numbers_good(s, unit)
+}
+
+pub fn sound(card: Card, s: &[u8], store: usize, rows: usize) -> bool
+    requires { ⌜ length (now s) ≡ 2048 ⌝ }
+    ensures { λ r. ⌜ r ≡ soundIn card (now (s .entry)) store rows ⌝ }
+{
+    look(card, s, store, rows, 0) != 255
 }
 
 // The unit stands in this place, or the event is refused with this number.
@@ -303,16 +324,17 @@ pub fn admit(card: Card, s: &[u8], store: usize, rows: usize, unit: u8, right: b
     requires { ⌜ length (now s) ≡ 2048 ⌝ }
     ensures { λ r. ⌜ r ≡ admittedIn card (now (s .entry)) store rows unit right ⌝ }
 {
-    if !sound(card, s, store, rows) {
+    let note = look(card, s, store, rows, unit);
+    if note == 255 {
         return Admitted::Refused(8);
     }
-    let Found::At(place) = state::find(s, unit) else {
+    if note == 0 {
         return Admitted::Refused(9);
-    };
+    }
     if !right {
         return Admitted::Refused(10);
     }
-    Admitted::At(place)
+    Admitted::At(place_of(note))
 }
 
 // The same as a struct.

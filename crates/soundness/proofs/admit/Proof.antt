@@ -1,50 +1,58 @@
 -- `soundness::admit` meets its contract. Assumes nothing.
-use mathlib.Core.Path.{sym, _∙_}
-use borrow.Author.Tests.{not-true, not-false}
-use Rattle.soundness.proofs.InPlace.{unsound-in, stranger-in, misfit-in, comes-in}
+use Prim.Native.Nat.{_/_}
+use mathlib.Core.Path.{_≡_, sym, ap, _∙_}
+use mathlib.Core.Bool.{true}
 use borrow.Author.Needs.{needs}
+use borrow.Author.Tests.{not-true, not-false}
+use Rattle.shelf.specs.Shelves.{declared, findIn}
+use Rattle.shelf.specs.declared.Found.the-variants as found
+use Rattle.state.specs.Bytes.{shelfIn}
+use Rattle.soundness.specs.Soundings.{soundIn}
+use Rattle.soundness.specs.declared.Admitted.the-variants.{At}
+use Rattle.soundness.proofs.InPlace.{unsound-in, stranger-in, misfit-in, comes-in}
+use Rattle.soundness.proofs.Noted.{note-bad, note-good, note-nobody, note-place}
 use Rattle.soundness.proofs.admit.Statement.{statement}
 use Rattle.soundness.proofs.admit.Tie as tie
 
-sound-requires : tie.Need-sound-requires
-sound-requires c κs = search needs
+look-requires : tie.Need-look-requires
+look-requires c κs = search needs
 
 returns : tie.Need-returns
-returns c = let a = c .before .before .before .args in sym (unsound-in (a .card) (a .s .now) (a .store) (a .rows) (a .unit) (a .right) (sym (c .before .sound .ensures) ∙ not-true _ (c .if1 .taken)))
+returns c =
+    let a = c .before .before .before .args in
+    sym (unsound-in (a .card) (a .s .now) (a .store) (a .rows) (a .unit) (a .right) (note-bad (a .card) (a .s .now) (a .store) (a .rows) (a .unit) _ (c .before .look .ensures) (c .if1 .taken)))
 
-find-requires : tie.Need-find-requires
-find-requires c κs = search needs
+-- the state is sound; and the unit is found where it was noted
+good : (c : tie.Else1) → let a = c .before .before .before .args in soundIn (a .card) (a .s .now) (a .store) (a .rows) ≡ true
+good c = let a = c .before .before .before .args in note-good (a .card) (a .s .now) (a .store) (a .rows) (a .unit) _ (c .before .look .ensures) (c .if1 .left)
 
-enum-known-place : tie.Need-enum-known-place
-enum-known-place c = search needs
-
-enum-told : tie.Need-enum-told
-enum-told c = search needs
+there : (c : tie.Else2) → let look = c .before .before in let a = look .before .before .args in findIn (declared (shelfIn (a .s .now))) (a .unit) ≡ found.At (look .look .result / 8)
+there c =
+    let look = c .before .before in
+    let a = look .before .before .args in
+    note-place (a .card) (a .s .now) (a .store) (a .rows) (a .unit) _ (look .look .ensures) (good (c .before)) (c .if2 .left)
 
 returns-2 : tie.Need-returns-2
 returns-2 c =
-    let a = c .before .before .before .before .before .before .args in
-    sym (stranger-in (a .card) (a .s .now) (a .store) (a .rows) (a .unit) (a .right) (sym (c .before .before .before .before .sound .ensures) ∙ not-false _ (c .before .before .before .if1 .left)) (sym (c .before .before .find .ensures) ∙ c .enum-told .given .1))
+    let look = c .before .before in
+    let a = look .before .before .args in
+    let s = good (c .before) in
+    sym (stranger-in (a .card) (a .s .now) (a .store) (a .rows) (a .unit) (a .right) s (note-nobody (a .card) (a .s .now) (a .store) (a .rows) (a .unit) _ (look .look .ensures) s (c .if2 .taken)))
 
 returns-3 : tie.Need-returns-3
 returns-3 c =
-    let a = c .before .before .before .before .before .before .before .before .args in
-    sym (misfit-in (a .card) (a .s .now) (a .store) (a .rows) (a .unit) (a .right) (sym (c .before .before .before .before .before .before .sound .ensures) ∙ not-false _ (c .before .before .before .before .before .if1 .left)) _ (sym (c .before .before .before .before .find .ensures) ∙ c .before .before .place .given .1) (not-true _ (c .if2 .taken)))
+    let a = c .before .before .before .before .before .args in
+    sym (misfit-in (a .card) (a .s .now) (a .store) (a .rows) (a .unit) (a .right) (good (c .before .before)) _ (there (c .before)) (not-true _ (c .if3 .taken)))
+
+place-of-requires : tie.Need-place-of-requires
+place-of-requires c κs = search needs
 
 returns-4 : tie.Need-returns-4
 returns-4 c =
-    let a = c .before .before .before .before .before .before .before .before .args in
-    sym (comes-in (a .card) (a .s .now) (a .store) (a .rows) (a .unit) (a .right) (sym (c .before .before .before .before .before .before .sound .ensures) ∙ not-false _ (c .before .before .before .before .before .if1 .left)) _ (sym (c .before .before .before .before .find .ensures) ∙ c .before .before .place .given .1) (not-false _ (c .if2 .left)))
+    let found = c .before .before in
+    let a = found .before .before .before .before .args in
+    ap At (c .place-of .ensures .0)
+    ∙ sym (comes-in (a .card) (a .s .now) (a .store) (a .rows) (a .unit) (a .right) (good (found .before)) _ (there found) (not-false _ (c .before .if3 .left)))
 
 pub admit-spec : {M : Type 1} → statement M
-admit-spec =
-    tie.close
-    (tie.spec
-    sound-requires
-    returns
-    find-requires
-    enum-known-place
-    enum-told
-    returns-2
-    returns-3
-    returns-4)
+admit-spec = tie.close (tie.spec look-requires returns returns-2 returns-3 place-of-requires returns-4)

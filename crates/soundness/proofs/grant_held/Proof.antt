@@ -1,20 +1,31 @@
 -- `soundness::grant_held` meets its contract. Assumes nothing.
-use Rattle.soundness.proofs.Numbered.{grant-in, grant-out}
+use mathlib.Core.Path.{ap, _∙_}
+use mathlib.Core.Bool.{_&&_}
+use lib.Dec.{leb}
 use borrow.Author.Needs.{needs}
+use Rattle.soundness.specs.Numbered.{marks, cellsIn}
+use Rattle.soundness.proofs.Numbered.{grant-in, grant-out}
 use Rattle.soundness.proofs.grant_held.Statement.{statement}
 use Rattle.soundness.proofs.grant_held.Tie as tie
 
-array-read-result : tie.Need-array-read-result
-array-read-result c = search needs
+array-read-note : tie.Need-array-read-note
+array-read-note c = search needs
 
-array-read-result-2 : tie.Need-array-read-result-2
-array-read-result-2 c = search needs
+place-of-requires : tie.Need-place-of-requires
+place-of-requires c κs = search needs
+
+at-requires : tie.Need-at-requires
+at-requires c κs = search needs
 
 returns : tie.Need-returns
-returns c = grant-in (c .before .args .t1) (c .before .args .granted) (c .if1 .taken)
+returns c =
+    let p = c .before in
+    let a = p .before .before .before .args in
+    ap (λ n. marks (a .t2) (a .granted) && leb 1 n) (c .at .ensures ∙ ap (cellsIn (a .s .now)) (p .place-of .ensures .0))
+    ∙ grant-in (cellsIn (a .s .now)) (a .t2) (a .granted) (p .before .if1 .taken)
 
 returns-2 : tie.Need-returns-2
-returns-2 c = grant-out (c .before .args .t1) (c .before .args .granted) (search needs) (c .if1 .left)
+returns-2 c = let a = c .before .before .args in grant-out (cellsIn (a .s .now)) (a .t2) (a .granted) (search needs) (c .if1 .left)
 
 pub grant-held-spec : {M : Type 1} → statement M
-grant-held-spec = tie.close (tie.spec array-read-result array-read-result-2 returns returns-2)
+grant-held-spec = tie.close (tie.spec array-read-note place-of-requires at-requires returns returns-2)

@@ -3,24 +3,24 @@ use Prim.Native.Nat.{_+_, _≤_, _-_, _<_}
 use native.Mathlib.Omega.{arith}
 use mathlib.Core.Path.{_≡_, refl, sym, ap, subst, _∙_}
 use mathlib.Core.Bool.{_&&_}
-use lib.ListN.{set}
+use lib.ListN.{length, getD, set, length-set, List·getD-eq-default}
 use borrow.Author.Needs.{needs}
-use Rattle.soundness.specs.Numbered.{free, asksHeld, arbiterHeld, numbersHeld}
-use Rattle.soundness.proofs.Sounding.{left, goes-on, ends}
+use Rattle.soundness.specs.Numbered.{free, asksHeld, arbiterHeld, none, heldIn, numbersHeld}
+use Rattle.soundness.proofs.Sounding.{onceLeft, notedLeft, goes-on, notes-on, ends, unheld, all-held}
 use Rattle.soundness.proofs.numbers_good.Statement.{statement}
 use Rattle.soundness.proofs.numbers_good.Tie as tie
 
 abbrev Inv-loop : tie.InvT-loop
-Inv-loop s granted each end once₀ held₀ i₀ once held i = (i ≤ end) × (numbersHeld s ≡ (once && left s held i))
+Inv-loop s unit granted each end once₀ held₀ i₀ once held i = (i ≤ end) × (onceLeft s none 0 ≡ (once && onceLeft s held i)) × (heldIn s ≡ notedLeft s held i) × (length held ≡ 32)
 
 abbrev μ-loop : tie.MeasureT-loop
-μ-loop s granted each end once₀ held₀ i₀ once held i = end - i
+μ-loop s unit granted each end once₀ held₀ i₀ once held i = end - i
 
 shared-slice-read-granted : tie.Need-shared-slice-read-granted Inv-loop μ-loop
 shared-slice-read-granted c = search needs
 
-standings-requires : tie.Need-standings-requires Inv-loop μ-loop
-standings-requires c κs = search needs
+notes-requires : tie.Need-notes-requires Inv-loop μ-loop
+notes-requires c κs = search needs
 
 shared-slice-read-end : tie.Need-shared-slice-read-end Inv-loop μ-loop
 shared-slice-read-end c = search needs
@@ -29,7 +29,7 @@ cast-end : tie.Need-cast-end Inv-loop μ-loop
 cast-end c = search needs
 
 loop-holds : tie.Need-loop-holds Inv-loop μ-loop
-loop-holds c = (omega arith, refl)
+loop-holds c = (omega arith, refl, refl, refl)
 
 at-requires : tie.Need-at-requires Inv-loop μ-loop
 at-requires c κs = let p = c .before .before .before .before .before .before .pre in (p .0, omega arith, omega (arith, p .1 .0))
@@ -60,8 +60,12 @@ loop-again c =
     let b = p .args .s .now in
     let l = start .loop in
     let n = sym (c .at .ensures) in
-    let stands = sym (start .before .before .standings .ensures (l .i) (omega (arith, most))) in
-    (omega arith, l .inv .1 ∙ goes-on b most (l .held) (l .i) (l .once) (omega arith) ∙ (λ t. (l .once && free (l .held) (n t)) && left b (set (l .held) (n t) (stands t)) (l .i + 1)))
+    let note = sym (start .before .before .notes .ensures (l .i) (omega (arith, most))) in (
+      omega arith,
+      l .inv .1 ∙ goes-on b most (l .held) (l .i) (l .once) (omega arith) ∙ (λ t. (l .once && free (l .held) (n t)) && onceLeft b (set (l .held) (n t) (note t)) (l .i + 1)),
+      l .inv .2 ∙ notes-on b most (l .held) (l .i) (omega arith) ∙ (λ t. notedLeft b (set (l .held) (n t) (note t)) (l .i + 1)),
+      length-set (l .held) _ _ ∙ l .inv .3,
+    )
 
 grant-held-requires : tie.Need-grant-held-requires Inv-loop μ-loop
 grant-held-requires c κs = search needs
@@ -90,20 +94,52 @@ asks-at-requires c κs = search needs
 asks-held-requires : tie.Need-asks-held-requires Inv-loop μ-loop
 asks-held-requires c κs = search needs
 
-returns : tie.Need-returns Inv-loop μ-loop
-unfolding arbiterHeld
-returns c =
+-- the loop, behind which all tests are made; what is noted, and what they come to
+abbrev start : tie.After-asks-held Inv-loop μ-loop → tie.At-loop Inv-loop μ-loop
+start c = c .before .before .before .before .before .before .before .before .before .before
+
+abbrev entry : tie.After-asks-held Inv-loop μ-loop → tie.Start Inv-loop μ-loop
+entry c = start c .before .before .before .before .before
+
+told : (c : tie.After-asks-held Inv-loop μ-loop) →
     let third = c .before .before in
     let second = third .before .before in
     let first = second .before .before in
     let granted = first .before .before in
-    let start = granted .before .before in
-    let p = start .before .before .before .before .before in
-    let b = p .args .s .now in
-    let l = start .loop in
+    let b = entry c .args .s .now in
+    (start c .loop .held ≡ heldIn b)
+    × ((start c .loop .once && (granted .grant-held .result && (first .nobody-or .result && second .nobody-or2 .result && third .nobody-or3 .result) && c .asks-held .result)) ≡ numbersHeld b)
+unfolding arbiterHeld
+told c =
+    let third = c .before .before in
+    let second = third .before .before in
+    let first = second .before .before in
+    let granted = first .before .before in
+    let p = entry c in
+    let l = start c .loop in
     let asks = c .asks-held .ensures ∙ ap (asksHeld (l .held) 0) (c .before .asks-at .ensures) in
-    (λ t. l .once && (granted .grant-held .ensures t && (first .nobody-or .ensures t && second .nobody-or2 .ensures t && third .nobody-or3 .ensures t) && asks t))
-    ∙ sym (l .inv .1 ∙ ap (λ x. l .once && x) (ends b (p .pre .1 .0) (l .held) (l .i) (omega arith)))
+    let e = ends (p .args .s .now) (p .pre .1 .0) (l .held) (l .i) (l .once) (omega arith) (l .inv .1) (l .inv .2) in (
+      sym (e .0),
+      (λ t. l .once && (granted .grant-held .ensures t && (first .nobody-or .ensures t && second .nobody-or2 .ensures t && third .nobody-or3 .ensures t) && asks t)) ∙ sym (e .1),
+    )
+
+returns : tie.Need-returns Inv-loop μ-loop
+returns c = unheld _ _ _ (told (c .before) .1) (c .if1 .taken)
+
+array-read-result : tie.Need-array-read-result Inv-loop μ-loop
+array-read-result c = search needs
+
+returns-2 : tie.Need-returns-2 Inv-loop μ-loop
+returns-2 c =
+    let d = c .before .before in
+    all-held _ _ _ _ (told d .1) (c .before .if1 .left) (λ t. getD (told d .0 t) (entry d .args .unit) 0)
+
+returns-3 : tie.Need-returns-3 Inv-loop μ-loop
+returns-3 c =
+    let d = c .before .before in
+    let e = start d .loop .inv .3 in
+    all-held _ _ _ _ (told d .1) (c .before .if1 .left)
+    (sym (List·getD-eq-default (start d .loop .held) 0 {n = entry d .args .unit} (omega arith)) ∙ (λ t. getD (told d .0 t) (entry d .args .unit) 0))
 
 pub numbers-good-spec : {M : Type 1} → statement M
 numbers-good-spec =
@@ -112,7 +148,7 @@ numbers-good-spec =
     Inv-loop
     μ-loop
     shared-slice-read-granted
-    standings-requires
+    notes-requires
     shared-slice-read-end
     cast-end
     loop-holds
@@ -133,4 +169,7 @@ numbers-good-spec =
     nobody-or-requires-3
     asks-at-requires
     asks-held-requires
-    returns)
+    returns
+    array-read-result
+    returns-2
+    returns-3)

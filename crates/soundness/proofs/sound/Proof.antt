@@ -1,60 +1,17 @@
 -- `soundness::sound` meets its contract. Assumes nothing.
-use mathlib.Core.Path.{sym, _∙_}
-use borrow.Author.Tests.{not-true, not-false}
+use mathlib.Core.Path.{ap, _∙_}
+use mathlib.Core.Bool.{not}
+use lib.Dec.{eqb}
 use borrow.Author.Needs.{needs}
-use Rattle.soundness.proofs.Sounding.{small, some-bus, unfit, places, begins}
+use Rattle.soundness.proofs.Noted.{note-sound}
 use Rattle.soundness.proofs.sound.Statement.{statement}
 use Rattle.soundness.proofs.sound.Tie as tie
 
-shared-slice-read-bus : tie.Need-shared-slice-read-bus
-shared-slice-read-bus c = search needs
-
-shared-slice-read-count : tie.Need-shared-slice-read-count
-shared-slice-read-count c = search needs
-
-roomy-requires : tie.Need-roomy-requires
-roomy-requires c κs = search needs
+look-requires : tie.Need-look-requires
+look-requires c κs = search needs
 
 returns : tie.Need-returns
-returns c =
-    let a = c .before .before .before .before .before .args in
-    small (a .card) (a .s .now) (a .store) (a .rows) (sym (c .before .roomy .ensures) ∙ not-true _ (c .if1 .taken))
-
-units-good-requires : tie.Need-units-good-requires
-units-good-requires c κs =
-    let p = c .before .before .before .before .before in
-    let a = p .args in
-    (p .pre, some-bus (a .card) (a .s .now) (a .store) (a .rows) (sym (c .before .roomy .ensures) ∙ not-false _ (c .if1 .left)))
-
-returns-2 : tie.Need-returns-2
-returns-2 c =
-    let a = c .before .before .before .before .before .before .before .args in
-    let t = sym (c .before .before .before .roomy .ensures) ∙ not-false _ (c .before .before .if1 .left) in
-    unfit (a .card) (a .s .now) (a .store) (a .rows) t (sym (c .before .units-good .ensures) ∙ not-true _ (c .if2 .taken))
-
-numbers-good-requires : tie.Need-numbers-good-requires
-numbers-good-requires c κs =
-    let p = c .before .before .before .before .before .before .before in
-    let a = p .args in
-    let t = sym (c .before .before .before .roomy .ensures) ∙ not-false _ (c .before .before .if1 .left) in
-    (p .pre, places (a .card) (a .s .now) (a .store) (a .rows) t (sym (c .before .units-good .ensures) ∙ not-false _ (c .if2 .left)))
-
-returns-3 : tie.Need-returns-3
-returns-3 c =
-    let good = c .before in
-    let a = good .before .before .before .before .before .before .before .args in
-    let t = sym (good .before .before .before .roomy .ensures) ∙ not-false _ (good .before .before .if1 .left) in
-    c .numbers-good .ensures ∙ sym (begins (a .card) (a .s .now) (a .store) (a .rows) t (sym (good .before .units-good .ensures) ∙ not-false _ (good .if2 .left)))
+returns c = let a = c .before .before .args in ap (λ n. not (eqb n 255)) (c .look .ensures) ∙ note-sound (a .card) (a .s .now) (a .store) (a .rows) 0
 
 pub sound-spec : {M : Type 1} → statement M
-sound-spec =
-    tie.close
-    (tie.spec
-    shared-slice-read-bus
-    shared-slice-read-count
-    roomy-requires
-    returns
-    units-good-requires
-    returns-2
-    numbers-good-requires
-    returns-3)
+sound-spec = tie.close (tie.spec look-requires returns)

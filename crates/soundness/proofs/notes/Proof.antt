@@ -1,17 +1,18 @@
--- `soundness::standings` meets its contract. Assumes nothing.
-use Prim.Native.Nat.{ℕ, _≤_, _-_, _<_}
+-- `soundness::notes` meets its contract. Assumes nothing.
+use Prim.Native.Nat.{ℕ, _+_, _*_, _≤_, _-_, _<_}
 use native.Mathlib.Omega.{arith}
-use mathlib.Core.Path.{_≡_, refl, _∙_}
+use mathlib.Core.Path.{_≡_, refl, ap, _∙_}
 use lib.ListN.{length, length-set, getD}
 use borrow.Author.Needs.{needs}
 use Rattle.state.specs.Bytes.{col}
 use Rattle.soundness.specs.Numbered.{standing, standingIn}
+use Rattle.soundness.proofs.Numbered.{stands-most}
 use Rattle.soundness.proofs.Sounding.{one-more}
-use Rattle.soundness.proofs.standings.Statement.{statement}
-use Rattle.soundness.proofs.standings.Tie as tie
+use Rattle.soundness.proofs.notes.Statement.{statement}
+use Rattle.soundness.proofs.notes.Tie as tie
 
 abbrev Inv-loop : tie.InvT-loop
-Inv-loop s granted each₀ i₀ each i = (i ≤ 32) × (length each ≡ 32) × ((j : ℕ) → j < i → getD each j 0 ≡ standingIn granted (col s j))
+Inv-loop s granted each₀ i₀ each i = (i ≤ 32) × (length each ≡ 32) × ((j : ℕ) → j < i → getD each j 0 ≡ 8 * j + standingIn granted (col s j))
 
 abbrev μ-loop : tie.MeasureT-loop
 μ-loop s granted each₀ i₀ each i = 32 - i
@@ -30,6 +31,19 @@ at-requires-3 c κs = search needs
 
 standing-requires : tie.Need-standing-requires Inv-loop μ-loop
 standing-requires c κs = search needs
+
+cast-each : tie.Need-cast-each Inv-loop μ-loop
+cast-each c = omega arith
+
+mul-each : tie.Need-mul-each Inv-loop μ-loop
+mul-each c = omega arith
+
+add-each : tie.Need-add-each Inv-loop μ-loop
+add-each c =
+    let read = c .before in
+    let s = c .standing .ensures in
+    let most = stands-most (read .before .before .at .result) (read .before .at2 .result) (read .at3 .result) (read .before .before .before .before .before .before .args .granted) in
+    omega arith
 
 array-write-each : tie.Need-array-write-each Inv-loop μ-loop
 array-write-each c = omega arith
@@ -50,14 +64,14 @@ loop-again c =
       omega arith,
       length-set (l .each) _ _ ∙ e,
       one-more (a .s .now) (a .granted) (l .each) (l .i) _ (omega arith) (l .inv .2)
-          (c .standing .ensures ∙ (λ t. standing (read .before .before .at .ensures t) (read .before .at2 .ensures t) (read .at3 .ensures t) (a .granted))),
+          (ap (λ n. 8 * l .i + n) (c .standing .ensures ∙ (λ t. standing (read .before .before .at .ensures t) (read .before .at2 .ensures t) (read .at3 .ensures t) (a .granted)))),
     )
 
 returns : tie.Need-returns Inv-loop μ-loop
 returns c = λ j h. c .before .loop .inv .2 j (omega arith)
 
-pub standings-spec : {M : Type 1} → statement M
-standings-spec =
+pub notes-spec : {M : Type 1} → statement M
+notes-spec =
     tie.close
     (tie.spec
     Inv-loop
@@ -67,6 +81,9 @@ standings-spec =
     at-requires-2
     at-requires-3
     standing-requires
+    cast-each
+    mul-each
+    add-each
     array-write-each
     add-i
     loop-less
