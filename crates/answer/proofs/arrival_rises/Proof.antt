@@ -4,33 +4,6 @@ use borrow.Author.Needs.{needs}
 use Rattle.answer.proofs.arrival_rises.Statement.{statement}
 use Rattle.answer.proofs.arrival_rises.Tie as tie
 
-enum-told : tie.Need-enum-told
-enum-told c = search needs
-
-add-result : tie.Need-add-result
-add-result c = search needs
-
-enum-told-2 : tie.Need-enum-told-2
-enum-told-2 c = search needs
-
-add-result-2 : tie.Need-add-result-2
-add-result-2 c = search needs
-
-enum-told-3 : tie.Need-enum-told-3
-enum-told-3 c = search needs
-
-add-result-3 : tie.Need-add-result-3
-add-result-3 c = search needs
-
-enum-told-4 : tie.Need-enum-told-4
-enum-told-4 c = search needs
-
-add-result-4 : tie.Need-add-result-4
-add-result-4 c = search needs
-
-enum-told-5 : tie.Need-enum-told-5
-enum-told-5 c = search needs
-
 returns : tie.Need-returns
 unfolding arrivalRises
 returns c = rw (c .enum-told .given .1)
@@ -55,15 +28,15 @@ pub arrival-rises-spec : {M : Type 1} → statement M
 arrival-rises-spec =
     tie.close
     (tie.spec
-    enum-told
-    add-result
-    enum-told-2
-    add-result-2
-    enum-told-3
-    add-result-3
-    enum-told-4
-    add-result-4
-    enum-told-5
+    (λ c. search needs)
+    (λ c. search needs)
+    (λ c. search needs)
+    (λ c. search needs)
+    (λ c. search needs)
+    (λ c. search needs)
+    (λ c. search needs)
+    (λ c. search needs)
+    (λ c. search needs)
     returns
     returns-2
     returns-3

@@ -8,15 +8,9 @@ returns : tie.Need-returns
 unfolding riseAt
 returns c = simp (c .if1 .taken)
 
-mul-result : tie.Need-mul-result
-mul-result c = search needs
-
-element-copy-out-result : tie.Need-element-copy-out-result
-element-copy-out-result c = search needs
-
 returns-2 : tie.Need-returns-2
 unfolding riseAt
 returns-2 c = simp (c .before .if1 .left)
 
 pub rise-at-spec : {M : Type 1} → statement M
-rise-at-spec = tie.close (tie.spec returns mul-result element-copy-out-result returns-2)
+rise-at-spec = tie.close (tie.spec returns (λ c. search needs) (λ c. search needs) returns-2)

@@ -7,15 +7,6 @@ use Rattle.answer.proofs.Ticking.{bit-in, bit-out}
 use Rattle.answer.proofs.tick.Statement.{statement}
 use Rattle.answer.proofs.tick.Tie as tie
 
-mul-if1 : tie.Need-mul-if1
-mul-if1 c = search needs
-
-rem-if1 : tie.Need-rem-if1
-rem-if1 c = search needs
-
-wrapping-add-u32-requires : tie.Need-wrapping-add-u32-requires
-wrapping-add-u32-requires c κs = search needs
-
 returns : tie.Need-returns
 returns c = c .wrapping-add-u32 .ensures ∙ ap (λ (k : ℕ). (c .before .before .args .value + k) % 2 ^ 32) (sym (bit-in (c .before .before .args .counters) (c .before .before .args .bit) (c .before .before .pre .0) (c .before .if1 .taken)))
 
@@ -25,4 +16,4 @@ returns-2 c =
     omega (arith, none)
 
 pub tick-spec : {M : Type 1} → statement M
-tick-spec = tie.close (tie.spec mul-if1 rem-if1 wrapping-add-u32-requires returns returns-2)
+tick-spec = tie.close (tie.spec (λ c. search needs) (λ c. search needs) (λ c κs. search needs) returns returns-2)

@@ -16,9 +16,6 @@ Inv-loop priority last asks unit₀ passed₀ unit passed = (passed ≤ 32) × (
 abbrev μ-loop : tie.MeasureT-loop
 μ-loop priority last asks unit₀ passed₀ unit passed = 32 - passed
 
-next-requires : tie.Need-next-requires Inv-loop μ-loop
-next-requires c κs = search needs
-
 loop-holds : tie.Need-loop-holds Inv-loop μ-loop
 loop-holds c = (omega arith, λ h. c .next .ensures ∙ sym (cyclic-start (c .before .args .last)), refl)
 
@@ -42,15 +39,6 @@ returns c =
     let a = s .before .before .args in
     sym (s .loop .inv .2 ∙ here (a .t1) (a .priority) (a .last) (s .loop .passed) (s .loop .unit) (omega arith) (s .loop .inv .1 (omega arith)) (c .if1 .taken))
 
-next-requires-2 : tie.Need-next-requires-2 Inv-loop μ-loop
-next-requires-2 c κs = search needs
-
-add-passed : tie.Need-add-passed Inv-loop μ-loop
-add-passed c = search needs
-
-loop-less : tie.Need-loop-less Inv-loop μ-loop
-loop-less c = search needs
-
 loop-again : tie.Need-loop-again Inv-loop μ-loop
 loop-again c =
     let s = c .before .before .before in
@@ -73,13 +61,13 @@ first-after-spec =
     (tie.spec
     Inv-loop
     μ-loop
-    next-requires
+    (λ c κs. search needs)
     loop-holds
     cast-if1
     array-read-if1
     returns
-    next-requires-2
-    add-passed
-    loop-less
+    (λ c κs. search needs)
+    (λ c. search needs)
+    (λ c. search needs)
     loop-again
     returns-2)

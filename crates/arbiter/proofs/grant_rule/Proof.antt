@@ -5,17 +5,8 @@ use borrow.Author.Needs.{needs}
 use Rattle.arbiter.proofs.grant_rule.Statement.{statement}
 use Rattle.arbiter.proofs.grant_rule.Tie as tie
 
-highest-requires : tie.Need-highest-requires
-highest-requires c κs = search needs
-
 returns : tie.Need-returns
 returns c = none-granted (c .before .before .args .t1) (c .before .before .args .t2) (c .before .highest .result) (c .before .highest .ensures) (c .if1 .taken)
-
-sub-place : tie.Need-sub-place
-sub-place c = search needs
-
-cast-place : tie.Need-cast-place
-cast-place c = search needs
 
 array-read-first-after : tie.Need-array-read-first-after
 array-read-first-after c =
@@ -23,17 +14,11 @@ array-read-first-after c =
     let m = top-most (a .t1) (a .t2) (c .before .highest .result) (c .before .highest .ensures) in
     omega arith
 
-first-after-requires : tie.Need-first-after-requires
-first-after-requires c κs = search needs
-
 array-write-last : tie.Need-array-write-last
 array-write-last c =
     let a = c .before .before .before .args in
     let m = top-most (a .t1) (a .t2) (c .before .before .highest .result) (c .before .before .highest .ensures) in
     omega arith
-
-cast-asks : tie.Need-cast-asks
-cast-asks c = search needs
 
 array-write-asks : tie.Need-array-write-asks
 array-write-asks c =
@@ -52,13 +37,13 @@ pub grant-rule-spec : {M : Type 1} → statement M
 grant-rule-spec =
     tie.close
     (tie.spec
-    highest-requires
+    (λ c κs. search needs)
     returns
-    sub-place
-    cast-place
+    (λ c. search needs)
+    (λ c. search needs)
     array-read-first-after
-    first-after-requires
+    (λ c κs. search needs)
     array-write-last
-    cast-asks
+    (λ c. search needs)
     array-write-asks
     returns-2)

@@ -4,22 +4,13 @@ use borrow.Author.Needs.{needs}
 use Rattle.arbiter.proofs.highest.Statement.{statement}
 use Rattle.arbiter.proofs.highest.Tie as tie
 
-some-asks-requires : tie.Need-some-asks-requires
-some-asks-requires c κs = search needs
-
 returns : tie.Need-returns
 unfolding highest
 returns c = rw (← c .before .some-asks .ensures, c .if1 .taken)
 
-some-asks-requires-2 : tie.Need-some-asks-requires-2
-some-asks-requires-2 c κs = search needs
-
 returns-2 : tie.Need-returns-2
 unfolding highest
 returns-2 c = rw (← c .before .before .before .some-asks .ensures, c .before .before .if1 .left, ← c .before .some-asks2 .ensures, c .if2 .taken)
-
-some-asks-requires-3 : tie.Need-some-asks-requires-3
-some-asks-requires-3 c κs = search needs
 
 returns-3 : tie.Need-returns-3
 unfolding highest
@@ -33,10 +24,10 @@ pub highest-spec : {M : Type 1} → statement M
 highest-spec =
     tie.close
     (tie.spec
-    some-asks-requires
+    (λ c κs. search needs)
     returns
-    some-asks-requires-2
+    (λ c κs. search needs)
     returns-2
-    some-asks-requires-3
+    (λ c κs. search needs)
     returns-3
     returns-4)

@@ -5,9 +5,6 @@ use borrow.Author.Needs.{needs}
 use Rattle.arbiter.proofs.next.Statement.{statement}
 use Rattle.arbiter.proofs.next.Tie as tie
 
-add-result : tie.Need-add-result
-add-result c = search needs
-
 returns : tie.Need-returns
 returns c = sym (next-below (c .before .args .unit) (c .if1 .taken))
 
@@ -15,4 +12,4 @@ returns-2 : tie.Need-returns-2
 returns-2 c = sym (next-top (c .before .args .unit) (c .if1 .left))
 
 pub next-spec : {M : Type 1} → statement M
-next-spec = tie.close (tie.spec add-result returns returns-2)
+next-spec = tie.close (tie.spec (λ c. search needs) returns returns-2)

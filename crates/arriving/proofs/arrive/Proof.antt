@@ -18,12 +18,6 @@ use borrow.Author.Needs.{needs}
 use Rattle.arriving.proofs.arrive.Statement.{statement}
 use Rattle.arriving.proofs.arrive.Tie as tie
 
-admit-requires : tie.Need-admit-requires
-admit-requires c κs = search needs
-
-enum-known-place : tie.Need-enum-known-place
-enum-known-place c = search needs
-
 arrive-at-requires : tie.Need-arrive-at-requires
 arrive-at-requires c κs =
     let a = c .before .before .before .before .before .before .before .before .before .before .before .args in
@@ -32,15 +26,6 @@ arrive-at-requires c κs =
     let e = sym (c .before .before .before .before .before .admit .ensures) ∙ c .before .before .before .place .given .1 in
     let w = in-place (a .card) b (length (a .store .now)) (a .rows) (a .unit) (eqb (length (a .cell .now)) 53) _ e in
     (long, eqb-true (length (a .cell .now)) 53 (w .let-in .fits), w .housed)
-
-enum-known-number : tie.Need-enum-known-number
-enum-known-number c = search needs
-
-uncounted-requires : tie.Need-uncounted-requires
-uncounted-requires c κs = search needs
-
-same-length : tie.Need-same-length
-same-length c = search needs
 
 returns : tie.Need-returns
 returns c =
@@ -84,11 +69,11 @@ pub arrive-spec : {M : Type 1} → statement M
 arrive-spec =
     tie.close
     (tie.spec
-    admit-requires
-    enum-known-place
+    (λ c κs. search needs)
+    (λ c. search needs)
     arrive-at-requires
-    enum-known-number
-    uncounted-requires
-    same-length
+    (λ c. search needs)
+    (λ c κs. search needs)
+    (λ c. search needs)
     returns
     returns-2)

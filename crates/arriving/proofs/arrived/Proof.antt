@@ -6,14 +6,8 @@ use borrow.Author.Needs.{needs}
 use Rattle.arriving.proofs.arrived.Statement.{statement}
 use Rattle.arriving.proofs.arrived.Tie as tie
 
-arrival-rises-requires : tie.Need-arrival-rises-requires
-arrival-rises-requires c κs = search needs
-
-counted-requires : tie.Need-counted-requires
-counted-requires c κs = search needs
-
 returns : tie.Need-returns
 returns c = let a = c .before .before .args in c .counted .ensures ∙ ap (countedWith (Arrived (a .fate)) (a .place)) (c .before .arrival-rises .ensures)
 
 pub arrived-spec : {M : Type 1} → statement M
-arrived-spec = tie.close (tie.spec arrival-rises-requires counted-requires returns)
+arrived-spec = tie.close (tie.spec (λ c κs. search needs) (λ c κs. search needs) returns)

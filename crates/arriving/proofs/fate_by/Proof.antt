@@ -4,12 +4,6 @@ use borrow.Author.Needs.{needs}
 use Rattle.arriving.proofs.fate_by.Statement.{statement}
 use Rattle.arriving.proofs.fate_by.Tie as tie
 
-enum-told : tie.Need-enum-told
-enum-told c = search needs
-
-enum-known-way : tie.Need-enum-known-way
-enum-known-way c = search needs
-
 returns : tie.Need-returns
 unfolding fateBy
 returns c = rw (c .enum-told .given .1)
@@ -19,4 +13,4 @@ unfolding fateBy
 returns-2 c = rw (c .before .way .given .1)
 
 pub fate-by-spec : {M : Type 1} → statement M
-fate-by-spec = tie.close (tie.spec enum-told enum-known-way returns returns-2)
+fate-by-spec = tie.close (tie.spec (λ c. search needs) (λ c. search needs) returns returns-2)

@@ -13,26 +13,11 @@ use borrow.Author.Needs.{needs}
 use Rattle.arriving.proofs.way_of.Statement.{statement}
 use Rattle.arriving.proofs.way_of.Tie as tie
 
-four-requires : tie.Need-four-requires
-four-requires c κs = search needs
-
-shared-slice-read-sound : tie.Need-shared-slice-read-sound
-shared-slice-read-sound c = search needs
-
-sound-requires : tie.Need-sound-requires
-sound-requires c κs = search needs
-
 returns : tie.Need-returns
 returns c =
     let a = c .before .before .before .before .before .before .args in
     let e : soundHeader (four (a .cell .now) 0) (getD (a .cell .now) 4 0) ≡ false = ap (λ n. soundHeader n (getD (a .cell .now) 4 0)) (sym (c .before .before .before .four .ensures)) ∙ sym (c .before .sound .ensures) ∙ not-true _ (c .if1 .taken) in
     unheaded (a .card) (a .settings) (a .at) (a .memory .now) (a .cell .now) e
-
-translate-requires : tie.Need-translate-requires
-translate-requires c κs = search needs
-
-way-by-requires : tie.Need-way-by-requires
-way-by-requires c κs = search needs
 
 returns-2 : tie.Need-returns-2
 returns-2 c =
@@ -46,10 +31,10 @@ pub way-of-spec : {M : Type 1} → statement M
 way-of-spec =
     tie.close
     (tie.spec
-    four-requires
-    shared-slice-read-sound
-    sound-requires
+    (λ c κs. search needs)
+    (λ c. search needs)
+    (λ c κs. search needs)
     returns
-    translate-requires
-    way-by-requires
+    (λ c κs. search needs)
+    (λ c κs. search needs)
     returns-2)

@@ -17,35 +17,14 @@ returns c = sym (heard-length (c .before .before .args .frame .now) (c .if1 .tak
 slice-aggregate-parity : tie.Need-slice-aggregate-parity
 slice-aggregate-parity c = sym (length-take-le 56 (c .before .before .before .args .frame .now) (omega arith))
 
-parity-requires : tie.Need-parity-requires
-parity-requires c κs = search needs
-
-shared-slice-read-if2 : tie.Need-shared-slice-read-if2
-shared-slice-read-if2 c = search needs
-
 returns-2 : tie.Need-returns-2
 returns-2 c = sym (heard-parity (c .before .before .before .before .before .before .args .frame .now) (c .before .before .before .before .if1 .left) (λ e. c .if2 .taken (c .before .before .parity .ensures ∙ e)))
-
-two-requires : tie.Need-two-requires
-two-requires c κs = search needs
-
-read-requires : tie.Need-read-requires
-read-requires c κs = search needs
-
-enum-known-target : tie.Need-enum-known-target
-enum-known-target c = search needs
-
-enum-told : tie.Need-enum-told
-enum-told c = search needs
 
 returns-3 : tie.Need-returns-3
 returns-3 c =
     let f = c .before .before .before .before .before .before .before .before .before .before .args .frame .now in
     let a : address (two f 0) ≡ Bad = sym (c .before .before .read .ensures ∙ ap address (c .before .before .before .two .ensures)) ∙ c .enum-told .given .1 in
     sym (heard-address f (c .before .before .before .before .before .before .before .before .if1 .left) (sym (c .before .before .before .before .before .before .parity .ensures) ∙ c .before .before .before .before .if2 .left) ∙ ap (λ a. delivered a (four f 4)) a)
-
-four-requires : tie.Need-four-requires
-four-requires c κs = search needs
 
 returns-4 : tie.Need-returns-4
 returns-4 c =
@@ -60,13 +39,13 @@ hear-spec =
     (tie.spec
     returns
     slice-aggregate-parity
-    parity-requires
-    shared-slice-read-if2
+    (λ c κs. search needs)
+    (λ c. search needs)
     returns-2
-    two-requires
-    read-requires
-    enum-known-target
-    enum-told
+    (λ c κs. search needs)
+    (λ c κs. search needs)
+    (λ c. search needs)
+    (λ c. search needs)
     returns-3
-    four-requires
+    (λ c κs. search needs)
     returns-4)

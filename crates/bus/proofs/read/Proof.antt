@@ -6,18 +6,6 @@ use borrow.Author.Needs.{needs}
 use Rattle.bus.proofs.read.Statement.{statement}
 use Rattle.bus.proofs.read.Tie as tie
 
-cast-class : tie.Need-cast-class
-cast-class c = search needs
-
-cast-number : tie.Need-cast-number
-cast-number c = search needs
-
-check-requires : tie.Need-check-requires
-check-requires c κs = search needs
-
-cast-if1 : tie.Need-cast-if1
-cast-if1 c = search needs
-
 returns : tie.Need-returns
 returns c = sym (unchecked (c .before .before .args .routing) (c .before .check .result) (c .before .check .ensures) (c .if1 .taken))
 
@@ -43,10 +31,10 @@ pub read-spec : {M : Type 1} → statement M
 read-spec =
     tie.close
     (tie.spec
-    cast-class
-    cast-number
-    check-requires
-    cast-if1
+    (λ c. search needs)
+    (λ c. search needs)
+    (λ c κs. search needs)
+    (λ c. search needs)
     returns
     returns-2
     returns-3

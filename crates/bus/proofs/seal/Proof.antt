@@ -13,26 +13,8 @@ use Rattle.bus.proofs.seal.Tie as tie
 slice-aggregate-copy : tie.Need-slice-aggregate-copy
 slice-aggregate-copy c = let s = c .before .before .before in sym (length-take-le 56 (s .args .bytes .now) (omega (arith, s .pre .0)))
 
-slice-aggregate-copy-2 : tie.Need-slice-aggregate-copy-2
-slice-aggregate-copy-2 c = search needs
-
 copy-requires : tie.Need-copy-requires
 copy-requires c κs = let s = c .before .before .before .before in let e = length-take-le 56 (s .args .bytes .now) (omega (arith, s .pre .0)) in omega (arith, e)
-
-slice-aggregate-copy-3 : tie.Need-slice-aggregate-copy-3
-slice-aggregate-copy-3 c = search needs
-
-copy-requires-2 : tie.Need-copy-requires-2
-copy-requires-2 c κs = search needs
-
-parity-requires : tie.Need-parity-requires
-parity-requires c κs = search needs
-
-slice-write-frame : tie.Need-slice-write-frame
-slice-write-frame c = search needs
-
-same-length : tie.Need-same-length
-same-length c = search needs
 
 returns : tie.Need-returns
 returns c =
@@ -45,11 +27,11 @@ seal-spec =
     tie.close
     (tie.spec
     slice-aggregate-copy
-    slice-aggregate-copy-2
+    (λ c. search needs)
     copy-requires
-    slice-aggregate-copy-3
-    copy-requires-2
-    parity-requires
-    slice-write-frame
-    same-length
+    (λ c. search needs)
+    (λ c κs. search needs)
+    (λ c κs. search needs)
+    (λ c. search needs)
+    (λ c. search needs)
     returns)

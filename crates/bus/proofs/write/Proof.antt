@@ -6,18 +6,6 @@ use borrow.Author.Needs.{needs}
 use Rattle.bus.proofs.write.Statement.{statement}
 use Rattle.bus.proofs.write.Tie as tie
 
-upper-requires : tie.Need-upper-requires
-upper-requires c κs = search needs
-
-mul-result : tie.Need-mul-result
-mul-result c = search needs
-
-check-requires : tie.Need-check-requires
-check-requires c κs = search needs
-
-cast-result : tie.Need-cast-result
-cast-result c = search needs
-
 add-result : tie.Need-add-result
 unfolding check
 add-result c = omega (arith, c .check .ensures, residue-lt divisor 12 (c .before .upper .result))
@@ -28,4 +16,4 @@ returns c = rw (c .check .ensures, c .before .upper .ensures .0)
 
 pub write-spec : {M : Type 1} → statement M
 write-spec =
-    tie.close (tie.spec upper-requires mul-result check-requires cast-result add-result returns)
+    tie.close (tie.spec (λ c κs. search needs) (λ c. search needs) (λ c κs. search needs) (λ c. search needs) add-result returns)

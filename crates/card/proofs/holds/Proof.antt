@@ -4,15 +4,6 @@ use borrow.Author.Needs.{needs}
 use Rattle.card.proofs.holds.Statement.{statement}
 use Rattle.card.proofs.holds.Tie as tie
 
-enum-told : tie.Need-enum-told
-enum-told c = search needs
-
-enum-told-2 : tie.Need-enum-told-2
-enum-told-2 c = search needs
-
-narrow-holds-requires : tie.Need-narrow-holds-requires
-narrow-holds-requires c κs = search needs
-
 returns : tie.Need-returns
 unfolding holds
 returns c = rw (c .enum-told .given .1)
@@ -22,4 +13,4 @@ unfolding holds
 returns-2 c = rw (c .before .enum-told2 .given .1) (c .narrow-holds .ensures)
 
 pub holds-spec : {M : Type 1} → statement M
-holds-spec = tie.close (tie.spec enum-told enum-told-2 narrow-holds-requires returns returns-2)
+holds-spec = tie.close (tie.spec (λ c. search needs) (λ c. search needs) (λ c κs. search needs) returns returns-2)

@@ -4,21 +4,6 @@ use borrow.Author.Needs.{needs}
 use Rattle.card.proofs.narrow_holds.Statement.{statement}
 use Rattle.card.proofs.narrow_holds.Tie as tie
 
-enum-known-ask : tie.Need-enum-known-ask
-enum-known-ask c = search needs
-
-enum-known-ask-2 : tie.Need-enum-known-ask-2
-enum-known-ask-2 c = search needs
-
-enum-told : tie.Need-enum-told
-enum-told c = search needs
-
-enum-told-2 : tie.Need-enum-told-2
-enum-told-2 c = search needs
-
-enum-known-ask-3 : tie.Need-enum-known-ask-3
-enum-known-ask-3 c = search needs
-
 returns : tie.Need-returns
 unfolding narrowHolds
 returns c = rw (c .before .ask .given .1)
@@ -39,11 +24,11 @@ pub narrow-holds-spec : {M : Type 1} → statement M
 narrow-holds-spec =
     tie.close
     (tie.spec
-    enum-known-ask
-    enum-known-ask-2
-    enum-told
-    enum-told-2
-    enum-known-ask-3
+    (λ c. search needs)
+    (λ c. search needs)
+    (λ c. search needs)
+    (λ c. search needs)
+    (λ c. search needs)
     returns
     returns-2
     returns-3

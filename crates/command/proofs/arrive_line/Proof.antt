@@ -5,24 +5,6 @@ use borrow.Author.Needs.{needs}
 use Rattle.command.proofs.arrive_line.Statement.{statement}
 use Rattle.command.proofs.arrive_line.Tie as tie
 
-unit-at-requires : tie.Need-unit-at-requires
-unit-at-requires c κs = search needs
-
-enum-known-unit : tie.Need-enum-known-unit
-enum-known-unit c = search needs
-
-span-at-requires : tie.Need-span-at-requires
-span-at-requires c κs = search needs
-
-enum-known-from : tie.Need-enum-known-from
-enum-known-from c = search needs
-
-enum-told : tie.Need-enum-told
-enum-told c = search needs
-
-enum-told-2 : tie.Need-enum-told-2
-enum-told-2 c = search needs
-
 returns : tie.Need-returns
 unfolding arriveLine
 returns c = simp (sym (c .before .before .before .before .before .before .before .unit-at .ensures) ∙ c .before .before .before .before .before .unit .given .1, sym (c .before .before .before .span-at .ensures) ∙ c .before .from .given .1)
@@ -39,12 +21,12 @@ pub arrive-line-spec : {M : Type 1} → statement M
 arrive-line-spec =
     tie.close
     (tie.spec
-    unit-at-requires
-    enum-known-unit
-    span-at-requires
-    enum-known-from
-    enum-told
-    enum-told-2
+    (λ c κs. search needs)
+    (λ c. search needs)
+    (λ c κs. search needs)
+    (λ c. search needs)
+    (λ c. search needs)
+    (λ c. search needs)
     returns
     returns-2
     returns-3)

@@ -7,23 +7,11 @@ use borrow.Author.Needs.{needs}
 use Rattle.command.proofs.byte_at.Statement.{statement}
 use Rattle.command.proofs.byte_at.Tie as tie
 
-field-requires : tie.Need-field-requires
-field-requires c κs = search needs
-
 returns : tie.Need-returns
 returns c = no-pair _ _ _ (c .before .field .ensures) (c .if1 .taken)
 
-is-hex-requires : tie.Need-is-hex-requires
-is-hex-requires c κs = search needs
-
-slice-aggregate-unhex : tie.Need-slice-aggregate-unhex
-slice-aggregate-unhex c = search needs
-
 unhex-requires : tie.Need-unhex-requires
 unhex-requires c κs = (sym (c .before .before .is-hex .ensures) ∙ c .before .if2 .taken, omega arith)
-
-array-read-t13 : tie.Need-array-read-t13
-array-read-t13 c = search needs
 
 returns-2 : tie.Need-returns-2
 returns-2 c = a-byte _ _ _ (c .before .before .before .before .before .before .field .ensures) _ (omega arith) (sym (c .before .before .before .before .is-hex .ensures) ∙ c .before .before .before .if2 .taken) (ap (λ l. getD l 0 0) (c .before .unhex .ensures) ∙ first-of _ (omega arith))
@@ -35,11 +23,11 @@ pub byte-at-spec : {M : Type 1} → statement M
 byte-at-spec =
     tie.close
     (tie.spec
-    field-requires
+    (λ c κs. search needs)
     returns
-    is-hex-requires
-    slice-aggregate-unhex
+    (λ c κs. search needs)
+    (λ c. search needs)
     unhex-requires
-    array-read-t13
+    (λ c. search needs)
     returns-2
     returns-3)

@@ -7,24 +7,9 @@ use borrow.Author.Needs.{needs}
 use Rattle.command.proofs.card_line.Statement.{statement}
 use Rattle.command.proofs.card_line.Tie as tie
 
-field-requires : tie.Need-field-requires
-field-requires c κs = search needs
-
-slice-aggregate-is : tie.Need-slice-aggregate-is
-slice-aggregate-is c = search needs
-
-is-requires : tie.Need-is-requires
-is-requires c κs = search needs
-
 returns : tie.Need-returns
 unfolding cardLine
 returns c = simp (ap (λ x. same x wNarrow) (sym (c .before .before .before .field .ensures)) ∙ sym (c .before .is .ensures) ∙ c .if1 .taken)
-
-slice-aggregate-is-2 : tie.Need-slice-aggregate-is-2
-slice-aggregate-is-2 c = search needs
-
-is-requires-2 : tie.Need-is-requires-2
-is-requires-2 c κs = search needs
 
 returns-2 : tie.Need-returns-2
 unfolding cardLine
@@ -38,11 +23,11 @@ pub card-line-spec : {M : Type 1} → statement M
 card-line-spec =
     tie.close
     (tie.spec
-    field-requires
-    slice-aggregate-is
-    is-requires
+    (λ c κs. search needs)
+    (λ c. search needs)
+    (λ c κs. search needs)
     returns
-    slice-aggregate-is-2
-    is-requires-2
+    (λ c. search needs)
+    (λ c κs. search needs)
     returns-2
     returns-3)

@@ -4,16 +4,10 @@ use borrow.Author.Needs.{needs}
 use Rattle.command.proofs.command_named.Statement.{statement}
 use Rattle.command.proofs.command_named.Tie as tie
 
-slice-aggregate-find : tie.Need-slice-aggregate-find
-slice-aggregate-find c = search needs
-
-find-requires : tie.Need-find-requires
-find-requires c κs = search needs
-
 returns : tie.Need-returns
 unfolding split
 returns c = c .find .ensures
 
 pub command-named-spec : {M : Type 1} → statement M
 command-named-spec =
-    tie.close (tie.spec slice-aggregate-find find-requires returns)
+    tie.close (tie.spec (λ c. search needs) (λ c κs. search needs) returns)

@@ -5,15 +5,6 @@ use borrow.Author.Needs.{needs}
 use Rattle.command.proofs.count_line.Statement.{statement}
 use Rattle.command.proofs.count_line.Tie as tie
 
-unit-at-requires : tie.Need-unit-at-requires
-unit-at-requires c κs = search needs
-
-enum-known-unit : tie.Need-enum-known-unit
-enum-known-unit c = search needs
-
-enum-told : tie.Need-enum-told
-enum-told c = search needs
-
 returns : tie.Need-returns
 unfolding countLine
 returns c = simp (sym (c .before .before .before .unit-at .ensures) ∙ c .before .unit .given .1)
@@ -24,4 +15,4 @@ returns-2 c = simp (sym (c .before .before .unit-at .ensures) ∙ c .enum-told .
 
 pub count-line-spec : {M : Type 1} → statement M
 count-line-spec =
-    tie.close (tie.spec unit-at-requires enum-known-unit enum-told returns returns-2)
+    tie.close (tie.spec (λ c κs. search needs) (λ c. search needs) (λ c. search needs) returns returns-2)

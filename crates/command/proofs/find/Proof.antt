@@ -19,32 +19,11 @@ abbrev μ-loop : tie.MeasureT-loop
 loop-holds : tie.Need-loop-holds Inv-loop μ-loop
 loop-holds c = (omega arith, omega arith, refl)
 
-field-end-requires : tie.Need-field-end-requires Inv-loop μ-loop
-field-end-requires c κs = search needs
-
-sub-is : tie.Need-sub-is Inv-loop μ-loop
-sub-is c = search needs
-
-part-is-start : tie.Need-part-is-start Inv-loop μ-loop
-part-is-start c = search needs
-
-part-is-end : tie.Need-part-is-end Inv-loop μ-loop
-part-is-end c = search needs
-
-is-requires : tie.Need-is-requires Inv-loop μ-loop
-is-requires c κs = search needs
-
 returns : tie.Need-returns Inv-loop μ-loop
 returns c = sym (c .before .before .before .before .loop .inv .2 ∙ is-here _ _ _ _ _ (c .before .before .before .field-end .ensures .0) (sym (c .before .is .ensures) ∙ c .if1 .taken))
 
-add-k : tie.Need-add-k Inv-loop μ-loop
-add-k c = search needs
-
 returns-2 : tie.Need-returns-2 Inv-loop μ-loop
 returns-2 c = sym (c .before .before .before .before .before .loop .inv .2 ∙ is-last _ _ _ _ _ (c .before .before .before .before .field-end .ensures .0) (sym (c .before .before .is .ensures) ∙ c .before .if1 .left) (c .if2 .taken))
-
-add-from : tie.Need-add-from Inv-loop μ-loop
-add-from c = search needs
 
 loop-less : tie.Need-loop-less Inv-loop μ-loop
 loop-less c = omega arith
@@ -59,14 +38,14 @@ find-spec =
     Inv-loop
     μ-loop
     loop-holds
-    field-end-requires
-    sub-is
-    part-is-start
-    part-is-end
-    is-requires
+    (λ c κs. search needs)
+    (λ c. search needs)
+    (λ c. search needs)
+    (λ c. search needs)
+    (λ c κs. search needs)
     returns
-    add-k
+    (λ c. search needs)
     returns-2
-    add-from
+    (λ c. search needs)
     loop-less
     loop-again)

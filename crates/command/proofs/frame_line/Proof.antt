@@ -8,17 +8,8 @@ use borrow.Author.Needs.{needs}
 use Rattle.command.proofs.frame_line.Statement.{statement}
 use Rattle.command.proofs.frame_line.Tie as tie
 
-number-at-requires : tie.Need-number-at-requires
-number-at-requires c κs = search needs
-
-enum-known-length : tie.Need-enum-known-length
-enum-known-length c = search needs
-
 cast-t5 : tie.Need-cast-t5
 cast-t5 c = omega (arith, number-most (fieldsOf (c .before .before .before .before .before .args .s .now)) 2 1000 (sym (c .before .before .before .number-at .ensures) ∙ c .before .length .given .1))
-
-enum-told : tie.Need-enum-told
-enum-told c = search needs
 
 returns : tie.Need-returns
 unfolding frameLine
@@ -30,4 +21,4 @@ returns-2 c = simp (sym (c .before .before .number-at .ensures) ∙ c .enum-told
 
 pub frame-line-spec : {M : Type 1} → statement M
 frame-line-spec =
-    tie.close (tie.spec number-at-requires enum-known-length cast-t5 enum-told returns returns-2)
+    tie.close (tie.spec (λ c κs. search needs) (λ c. search needs) cast-t5 (λ c. search needs) returns returns-2)

@@ -7,43 +7,13 @@ use borrow.Author.Needs.{needs}
 use Rattle.command.proofs.lend_line.Statement.{statement}
 use Rattle.command.proofs.lend_line.Tie as tie
 
-field-requires : tie.Need-field-requires
-field-requires c κs = search needs
-
-slice-aggregate-is : tie.Need-slice-aggregate-is
-slice-aggregate-is c = search needs
-
-is-requires : tie.Need-is-requires
-is-requires c κs = search needs
-
-lend-bank-requires : tie.Need-lend-bank-requires
-lend-bank-requires c κs = search needs
-
 returns : tie.Need-returns
 unfolding lendLine
 returns c = c .lend-bank .ensures ∙ simp (ap (λ x. same x wMemory) (sym (c .before .before .before .before .field .ensures)) ∙ sym (c .before .before .is .ensures) ∙ c .before .if1 .taken)
 
-slice-aggregate-is-2 : tie.Need-slice-aggregate-is-2
-slice-aggregate-is-2 c = search needs
-
-is-requires-2 : tie.Need-is-requires-2
-is-requires-2 c κs = search needs
-
-lend-bank-requires-2 : tie.Need-lend-bank-requires-2
-lend-bank-requires-2 c κs = search needs
-
 returns-2 : tie.Need-returns-2
 unfolding lendLine
 returns-2 c = c .lend-bank2 .ensures ∙ simp (ap (λ x. same x wMemory) (sym (c .before .before .before .before .before .before .before .field .ensures)) ∙ sym (c .before .before .before .before .before .is .ensures) ∙ c .before .before .before .before .if1 .left, ap (λ x. same x wStore) (sym (c .before .before .before .before .before .before .before .field .ensures)) ∙ sym (c .before .before .is2 .ensures) ∙ c .before .if2 .taken)
-
-slice-aggregate-is-3 : tie.Need-slice-aggregate-is-3
-slice-aggregate-is-3 c = search needs
-
-is-requires-3 : tie.Need-is-requires-3
-is-requires-3 c κs = search needs
-
-lend-rows-requires : tie.Need-lend-rows-requires
-lend-rows-requires c κs = search needs
 
 returns-3 : tie.Need-returns-3
 unfolding lendLine
@@ -57,17 +27,17 @@ pub lend-line-spec : {M : Type 1} → statement M
 lend-line-spec =
     tie.close
     (tie.spec
-    field-requires
-    slice-aggregate-is
-    is-requires
-    lend-bank-requires
+    (λ c κs. search needs)
+    (λ c. search needs)
+    (λ c κs. search needs)
+    (λ c κs. search needs)
     returns
-    slice-aggregate-is-2
-    is-requires-2
-    lend-bank-requires-2
+    (λ c. search needs)
+    (λ c κs. search needs)
+    (λ c κs. search needs)
     returns-2
-    slice-aggregate-is-3
-    is-requires-3
-    lend-rows-requires
+    (λ c. search needs)
+    (λ c κs. search needs)
+    (λ c κs. search needs)
     returns-3
     returns-4)

@@ -5,15 +5,6 @@ use borrow.Author.Needs.{needs}
 use Rattle.command.proofs.load_line.Statement.{statement}
 use Rattle.command.proofs.load_line.Tie as tie
 
-span-at-requires : tie.Need-span-at-requires
-span-at-requires c κs = search needs
-
-enum-known-from : tie.Need-enum-known-from
-enum-known-from c = search needs
-
-enum-told : tie.Need-enum-told
-enum-told c = search needs
-
 returns : tie.Need-returns
 unfolding loadLine
 returns c = simp (sym (c .before .before .before .span-at .ensures) ∙ c .before .from .given .1)
@@ -24,4 +15,4 @@ returns-2 c = simp (sym (c .before .before .span-at .ensures) ∙ c .enum-told .
 
 pub load-line-spec : {M : Type 1} → statement M
 load-line-spec =
-    tie.close (tie.spec span-at-requires enum-known-from enum-told returns returns-2)
+    tie.close (tie.spec (λ c κs. search needs) (λ c. search needs) (λ c. search needs) returns returns-2)

@@ -5,21 +5,6 @@ use borrow.Author.Needs.{needs}
 use Rattle.command.proofs.number_at.Statement.{statement}
 use Rattle.command.proofs.number_at.Tie as tie
 
-field-requires : tie.Need-field-requires
-field-requires c κs = search needs
-
-number-requires : tie.Need-number-requires
-number-requires c κs = search needs
-
-enum-known-n : tie.Need-enum-known-n
-enum-known-n c = search needs
-
-enum-told : tie.Need-enum-told
-enum-told c = search needs
-
-enum-told-2 : tie.Need-enum-told-2
-enum-told-2 c = search needs
-
 returns : tie.Need-returns
 returns c = simp (sym (c .before .before .before .number .ensures ∙ ap (numberOf _) (c .before .before .before .before .field .ensures)) ∙ c .before .n .given .1)
 
@@ -33,11 +18,11 @@ pub number-at-spec : {M : Type 1} → statement M
 number-at-spec =
     tie.close
     (tie.spec
-    field-requires
-    number-requires
-    enum-known-n
-    enum-told
-    enum-told-2
+    (λ c κs. search needs)
+    (λ c κs. search needs)
+    (λ c. search needs)
+    (λ c. search needs)
+    (λ c. search needs)
     returns
     returns-2
     returns-3)

@@ -8,26 +8,8 @@ use borrow.Author.Needs.{needs}
 use Rattle.command.proofs.poke_state.Statement.{statement}
 use Rattle.command.proofs.poke_state.Tie as tie
 
-number-at-requires : tie.Need-number-at-requires
-number-at-requires c κs = search needs
-
-enum-known-n : tie.Need-enum-known-n
-enum-known-n c = search needs
-
-span-at-requires : tie.Need-span-at-requires
-span-at-requires c κs = search needs
-
-enum-known-from : tie.Need-enum-known-from
-enum-known-from c = search needs
-
 cast-at : tie.Need-cast-at
 cast-at c = omega (arith, number-most (fieldsOf (c .before .before .before .before .before .before .before .before .before .args .s .now)) 3 300000 (sym (c .before .before .before .before .before .before .before .number-at .ensures) ∙ c .before .before .before .before .before .n .given .1))
-
-enum-told : tie.Need-enum-told
-enum-told c = search needs
-
-enum-told-2 : tie.Need-enum-told-2
-enum-told-2 c = search needs
 
 returns : tie.Need-returns
 unfolding pokeState
@@ -45,13 +27,13 @@ pub poke-state-spec : {M : Type 1} → statement M
 poke-state-spec =
     tie.close
     (tie.spec
-    number-at-requires
-    enum-known-n
-    span-at-requires
-    enum-known-from
+    (λ c κs. search needs)
+    (λ c. search needs)
+    (λ c κs. search needs)
+    (λ c. search needs)
     cast-at
-    enum-told
-    enum-told-2
+    (λ c. search needs)
+    (λ c. search needs)
     returns
     returns-2
     returns-3)

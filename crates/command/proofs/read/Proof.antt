@@ -8,15 +8,6 @@ use borrow.Author.Needs.{needs}
 use Rattle.command.proofs.read.Statement.{statement}
 use Rattle.command.proofs.read.Tie as tie
 
-field-requires : tie.Need-field-requires
-field-requires c κs = search needs
-
-command-named-requires : tie.Need-command-named-requires
-command-named-requires c κs = search needs
-
-spoken-requires : tie.Need-spoken-requires
-spoken-requires c κs = search needs
-
 returns : tie.Need-returns
 unfolding readingOf
 returns c = c .spoken .ensures ∙ ap (λ k. spoken k (c .before .before .before .before .before .args .s .now)) (c .before .command-named .ensures ∙ ap (λ w. placeIn commands w) (c .before .before .field .ensures)) ∙ simp (le-leb _ _ (c .before .before .before .if1 .taken))
@@ -27,4 +18,4 @@ returns-2 c = simp (lt-leb _ _ (c .if1 .left))
 
 pub read-spec : {M : Type 1} → statement M
 read-spec =
-    tie.close (tie.spec field-requires command-named-requires spoken-requires returns returns-2)
+    tie.close (tie.spec (λ c κs. search needs) (λ c κs. search needs) (λ c κs. search needs) returns returns-2)

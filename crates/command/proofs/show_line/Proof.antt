@@ -6,15 +6,6 @@ use borrow.Author.Needs.{needs}
 use Rattle.command.proofs.show_line.Statement.{statement}
 use Rattle.command.proofs.show_line.Tie as tie
 
-count-requires : tie.Need-count-requires
-count-requires c κs = search needs
-
-show-lent-requires : tie.Need-show-lent-requires
-show-lent-requires c κs = search needs
-
-show-unit-requires : tie.Need-show-unit-requires
-show-unit-requires c κs = search needs
-
 returns : tie.Need-returns
 unfolding showLine
 returns c = c .show-lent .ensures ∙ simp (sym (c .before .before .count .ensures) ∙ c .before .match .keys1)
@@ -30,4 +21,4 @@ returns-3 c = simp (ne-eqb _ 2 (λ q. c .match .rest .0 .1 (c .before .count .en
 pub show-line-spec : {M : Type 1} → statement M
 show-line-spec =
     tie.close
-    (tie.spec count-requires show-lent-requires show-unit-requires returns returns-2 returns-3)
+    (tie.spec (λ c κs. search needs) (λ c κs. search needs) (λ c κs. search needs) returns returns-2 returns-3)

@@ -7,24 +7,6 @@ use borrow.Author.Needs.{needs}
 use Rattle.command.proofs.show_unit.Statement.{statement}
 use Rattle.command.proofs.show_unit.Tie as tie
 
-field-requires : tie.Need-field-requires
-field-requires c κs = search needs
-
-slice-aggregate-is : tie.Need-slice-aggregate-is
-slice-aggregate-is c = search needs
-
-is-requires : tie.Need-is-requires
-is-requires c κs = search needs
-
-unit-at-requires : tie.Need-unit-at-requires
-unit-at-requires c κs = search needs
-
-enum-known-unit : tie.Need-enum-known-unit
-enum-known-unit c = search needs
-
-enum-told : tie.Need-enum-told
-enum-told c = search needs
-
 returns : tie.Need-returns
 unfolding showUnit
 returns c = simp (ap (λ x. same x wUnit) (sym (c .before .before .before .before .before .before .before .field .ensures)) ∙ sym (c .before .before .before .before .before .is .ensures) ∙ c .before .before .before .before .if1 .taken, sym (c .before .before .before .unit-at .ensures) ∙ c .before .unit .given .1)
@@ -41,12 +23,12 @@ pub show-unit-spec : {M : Type 1} → statement M
 show-unit-spec =
     tie.close
     (tie.spec
-    field-requires
-    slice-aggregate-is
-    is-requires
-    unit-at-requires
-    enum-known-unit
-    enum-told
+    (λ c κs. search needs)
+    (λ c. search needs)
+    (λ c κs. search needs)
+    (λ c κs. search needs)
+    (λ c. search needs)
+    (λ c. search needs)
     returns
     returns-2
     returns-3)

@@ -5,14 +5,8 @@ use borrow.Author.Needs.{needs}
 use Rattle.command.proofs.span_at.Statement.{statement}
 use Rattle.command.proofs.span_at.Tie as tie
 
-field-requires : tie.Need-field-requires
-field-requires c κs = search needs
-
 returns : tie.Need-returns
 returns c = too-many _ _ _ _ (c .before .field .ensures) (c .if1 .taken)
-
-is-hex-requires : tie.Need-is-hex-requires
-is-hex-requires c κs = search needs
 
 sub-t11 : tie.Need-sub-t11
 sub-t11 c = field-short _ _ (c .before .before .before .before .before .args .most) _ (c .before .before .before .field .ensures)
@@ -25,4 +19,4 @@ returns-3 c = no-bytes _ _ _ _ (c .before .before .before .field .ensures) (c .b
 
 pub span-at-spec : {M : Type 1} → statement M
 span-at-spec =
-    tie.close (tie.spec field-requires returns is-hex-requires sub-t11 returns-2 returns-3)
+    tie.close (tie.spec (λ c κs. search needs) returns (λ c κs. search needs) sub-t11 returns-2 returns-3)

@@ -8,26 +8,8 @@ use borrow.Author.Needs.{needs}
 use Rattle.command.proofs.take_line.Statement.{statement}
 use Rattle.command.proofs.take_line.Tie as tie
 
-unit-at-requires : tie.Need-unit-at-requires
-unit-at-requires c κs = search needs
-
-enum-known-unit : tie.Need-enum-known-unit
-enum-known-unit c = search needs
-
-number-at-requires : tie.Need-number-at-requires
-number-at-requires c κs = search needs
-
-enum-known-n : tie.Need-enum-known-n
-enum-known-n c = search needs
-
 cast-length : tie.Need-cast-length
 cast-length c = omega (arith, number-most (fieldsOf (c .before .before .before .before .before .before .before .before .before .args .s .now)) 3 1000 (sym (c .before .before .before .number-at .ensures) ∙ c .before .n .given .1))
-
-enum-told : tie.Need-enum-told
-enum-told c = search needs
-
-enum-told-2 : tie.Need-enum-told-2
-enum-told-2 c = search needs
 
 returns : tie.Need-returns
 unfolding takeLine
@@ -45,13 +27,13 @@ pub take-line-spec : {M : Type 1} → statement M
 take-line-spec =
     tie.close
     (tie.spec
-    unit-at-requires
-    enum-known-unit
-    number-at-requires
-    enum-known-n
+    (λ c κs. search needs)
+    (λ c. search needs)
+    (λ c κs. search needs)
+    (λ c. search needs)
     cast-length
-    enum-told
-    enum-told-2
+    (λ c. search needs)
+    (λ c. search needs)
     returns
     returns-2
     returns-3)

@@ -7,23 +7,8 @@ use borrow.Author.Needs.{needs}
 use Rattle.command.proofs.unit_at.Statement.{statement}
 use Rattle.command.proofs.unit_at.Tie as tie
 
-field-requires : tie.Need-field-requires
-field-requires c κs = search needs
-
-number-requires : tie.Need-number-requires
-number-requires c κs = search needs
-
-enum-known-n : tie.Need-enum-known-n
-enum-known-n c = search needs
-
 cast-t7 : tie.Need-cast-t7
 cast-t7 c = omega (arith, numeral-most _ _ (sym (c .before .before .before .number .ensures) ∙ c .before .n .given .1))
-
-enum-told : tie.Need-enum-told
-enum-told c = search needs
-
-enum-told-2 : tie.Need-enum-told-2
-enum-told-2 c = search needs
 
 returns : tie.Need-returns
 returns c = simp (sym (c .before .before .before .number .ensures ∙ ap (numberOf _) (c .before .before .before .before .field .ensures)) ∙ c .before .n .given .1)
@@ -38,12 +23,12 @@ pub unit-at-spec : {M : Type 1} → statement M
 unit-at-spec =
     tie.close
     (tie.spec
-    field-requires
-    number-requires
-    enum-known-n
+    (λ c κs. search needs)
+    (λ c κs. search needs)
+    (λ c. search needs)
     cast-t7
-    enum-told
-    enum-told-2
+    (λ c. search needs)
+    (λ c. search needs)
     returns
     returns-2
     returns-3)

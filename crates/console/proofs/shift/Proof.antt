@@ -13,35 +13,11 @@ Inv-loop input₀ from end i₀ e k₀ input i k = (e ≤ length input) × (i �
 abbrev μ-loop : tie.MeasureT-loop
 μ-loop input₀ from end i₀ e k₀ input i k = e - k
 
-least-requires : tie.Need-least-requires Inv-loop μ-loop
-least-requires c κs = search needs
-
 loop-holds : tie.Need-loop-holds Inv-loop μ-loop
 loop-holds c = (omega (arith, c .least .ensures .1), omega arith, refl)
 
-slice-read-input : tie.Need-slice-read-input Inv-loop μ-loop
-slice-read-input c = search needs
-
-slice-write-input : tie.Need-slice-write-input Inv-loop μ-loop
-slice-write-input c = search needs
-
-add-i : tie.Need-add-i Inv-loop μ-loop
-add-i c = search needs
-
-add-k : tie.Need-add-k Inv-loop μ-loop
-add-k c = search needs
-
-loop-less : tie.Need-loop-less Inv-loop μ-loop
-loop-less c = search needs
-
 loop-again : tie.Need-loop-again Inv-loop μ-loop
 loop-again c = (search needs, omega arith, search needs)
-
-same-length : tie.Need-same-length Inv-loop μ-loop
-same-length c = search needs
-
-returns : tie.Need-returns Inv-loop μ-loop
-returns c = search needs
 
 pub shift-spec : {M : Type 1} → statement M
 shift-spec =
@@ -49,13 +25,13 @@ shift-spec =
     (tie.spec
     Inv-loop
     μ-loop
-    least-requires
+    (λ c κs. search needs)
     loop-holds
-    slice-read-input
-    slice-write-input
-    add-i
-    add-k
-    loop-less
+    (λ c. search needs)
+    (λ c. search needs)
+    (λ c. search needs)
+    (λ c. search needs)
+    (λ c. search needs)
     loop-again
-    same-length
-    returns)
+    (λ c. search needs)
+    (λ c. search needs))

@@ -9,28 +9,13 @@ use borrow.Author.Needs.{needs}
 use Rattle.event.proofs.arrive_event.Statement.{statement}
 use Rattle.event.proofs.arrive_event.Tie as tie
 
-unit-of-requires : tie.Need-unit-of-requires
-unit-of-requires c κs = search needs
-
-enum-known-u : tie.Need-enum-known-u
-enum-known-u c = search needs
-
-enum-told : tie.Need-enum-told
-enum-told c = search needs
-
 returns : tie.Need-returns
 unfolding arriveOf
 returns c = simp (sym (c .before .before .unit-of .ensures) ∙ c .enum-told .given .1)
 
-hexes-requires : tie.Need-hexes-requires
-hexes-requires c κs = search needs
-
 returns-2 : tie.Need-returns-2
 unfolding arriveOf
 returns-2 c = simp (sym (c .before .before .before .before .before .unit-of .ensures) ∙ c .before .before .before .u .given .1, sym (c .before .hexes .ensures) ∙ not-true _ (c .if1 .taken))
-
-hexes-requires-2 : tie.Need-hexes-requires-2
-hexes-requires-2 c κs = search needs
 
 returns-3 : tie.Need-returns-3
 unfolding arriveOf
@@ -38,18 +23,6 @@ returns-3 c = simp (sym (c .before .before .before .before .before .before .befo
 
 head-requires : tie.Need-head-requires
 head-requires c κs = (sym (c .before .before .before .hexes .ensures) ∙ not-false _ (c .before .before .if1 .left), sym (c .before .hexes2 .ensures) ∙ not-false _ (c .if2 .left))
-
-slice-aggregate-four : tie.Need-slice-aggregate-four
-slice-aggregate-four c = search needs
-
-four-requires : tie.Need-four-requires
-four-requires c κs = search needs
-
-array-read-t15 : tie.Need-array-read-t15
-array-read-t15 c = search needs
-
-array-read-t18 : tie.Need-array-read-t18
-array-read-t18 c = search needs
 
 returns-4 : tie.Need-returns-4
 unfolding arriveOf
@@ -63,17 +36,17 @@ pub arrive-event-spec : {M : Type 1} → statement M
 arrive-event-spec =
     tie.close
     (tie.spec
-    unit-of-requires
-    enum-known-u
-    enum-told
+    (λ c κs. search needs)
+    (λ c. search needs)
+    (λ c. search needs)
     returns
-    hexes-requires
+    (λ c κs. search needs)
     returns-2
-    hexes-requires-2
+    (λ c κs. search needs)
     returns-3
     head-requires
-    slice-aggregate-four
-    four-requires
-    array-read-t15
-    array-read-t18
+    (λ c. search needs)
+    (λ c κs. search needs)
+    (λ c. search needs)
+    (λ c. search needs)
     returns-4)

@@ -8,16 +8,10 @@ use borrow.Author.Needs.{needs}
 use Rattle.event.proofs.head.Statement.{statement}
 use Rattle.event.proofs.head.Tie as tie
 
-slice-aggregate-unhex : tie.Need-slice-aggregate-unhex
-slice-aggregate-unhex c = search needs
-
 unhex-requires : tie.Need-unhex-requires
 unhex-requires c κs =
     let p = c .before .before .before .pre in
     (hexes-hex 10 _ (p .0), room 0 10 6 (c .before .before .before .args .header .now) (p .0) (omega arith))
-
-slice-aggregate-unhex-2 : tie.Need-slice-aggregate-unhex-2
-slice-aggregate-unhex-2 c = search needs
 
 unhex-requires-2 : tie.Need-unhex-requires-2
 unhex-requires-2 c κs =
@@ -34,8 +28,8 @@ pub head-spec : {M : Type 1} → statement M
 head-spec =
     tie.close
     (tie.spec
-    slice-aggregate-unhex
+    (λ c. search needs)
     unhex-requires
-    slice-aggregate-unhex-2
+    (λ c. search needs)
     unhex-requires-2
     returns)

@@ -6,20 +6,8 @@ use borrow.Author.Needs.{needs}
 use Rattle.event.proofs.unit_of.Statement.{statement}
 use Rattle.event.proofs.unit_of.Tie as tie
 
-number-requires : tie.Need-number-requires
-number-requires c κs = search needs
-
-enum-known-n : tie.Need-enum-known-n
-enum-known-n c = search needs
-
 cast-t5 : tie.Need-cast-t5
 cast-t5 c = omega (arith, number-in 254 _ (sym (c .before .before .before .number .ensures) ∙ c .before .n .given .1))
-
-enum-told : tie.Need-enum-told
-enum-told c = search needs
-
-enum-told-2 : tie.Need-enum-told-2
-enum-told-2 c = search needs
 
 returns : tie.Need-returns
 returns c = simp (sym (c .before .before .before .number .ensures) ∙ c .before .n .given .1)
@@ -34,11 +22,11 @@ pub unit-of-spec : {M : Type 1} → statement M
 unit-of-spec =
     tie.close
     (tie.spec
-    number-requires
-    enum-known-n
+    (λ c κs. search needs)
+    (λ c. search needs)
     cast-t5
-    enum-told
-    enum-told-2
+    (λ c. search needs)
+    (λ c. search needs)
     returns
     returns-2
     returns-3)

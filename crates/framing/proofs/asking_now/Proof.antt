@@ -22,15 +22,6 @@ Inv-loop s end granted now₀ i₀ now i =
 abbrev μ-loop : tie.MeasureT-loop
 μ-loop s end granted now₀ i₀ now i = end - i
 
-shared-slice-read-declared-count : tie.Need-shared-slice-read-declared-count Inv-loop μ-loop
-shared-slice-read-declared-count c = search needs
-
-declared-count-requires : tie.Need-declared-count-requires Inv-loop μ-loop
-declared-count-requires c κs = search needs
-
-shared-slice-read-granted : tie.Need-shared-slice-read-granted Inv-loop μ-loop
-shared-slice-read-granted c = search needs
-
 loop-holds : tie.Need-loop-holds Inv-loop μ-loop
 loop-holds c = (omega arith, (refl, refl))
 
@@ -42,15 +33,6 @@ at-requires-2 c κs = let e = c .before .before .before .before .before .declare
 
 at-requires-3 : tie.Need-at-requires-3 Inv-loop μ-loop
 at-requires-3 c κs = let e = c .before .before .before .before .before .before .declared-count .ensures in (c .before .before .before .before .before .before .before .before .before .pre, omega arith, omega arith)
-
-asking-requires : tie.Need-asking-requires Inv-loop μ-loop
-asking-requires c κs = search needs
-
-cast-now : tie.Need-cast-now Inv-loop μ-loop
-cast-now c = search needs
-
-array-write-now : tie.Need-array-write-now Inv-loop μ-loop
-array-write-now c = search needs
 
 -- where the arms meet: the unit's request stands in its place; a number that no unit has changes nothing
 met : (c : tie.Joined1 Inv-loop μ-loop) →
@@ -71,9 +53,6 @@ met c =
 
 add-i : tie.Need-add-i Inv-loop μ-loop
 add-i c = let e = c .before .before .before .before .before .declared-count .ensures in omega arith
-
-loop-less : tie.Need-loop-less Inv-loop μ-loop
-loop-less c = search needs
 
 loop-again : tie.Need-loop-again Inv-loop μ-loop
 loop-again c =
@@ -100,17 +79,17 @@ asking-now-spec =
     (tie.spec
     Inv-loop
     μ-loop
-    shared-slice-read-declared-count
-    declared-count-requires
-    shared-slice-read-granted
+    (λ c. search needs)
+    (λ c κs. search needs)
+    (λ c. search needs)
     loop-holds
     at-requires
     at-requires-2
     at-requires-3
-    asking-requires
-    cast-now
-    array-write-now
+    (λ c κs. search needs)
+    (λ c. search needs)
+    (λ c. search needs)
     add-i
-    loop-less
+    (λ c. search needs)
     loop-again
     returns)

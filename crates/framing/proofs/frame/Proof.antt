@@ -20,12 +20,6 @@ use borrow.Author.Needs.{needs}
 use Rattle.framing.proofs.frame.Statement.{statement}
 use Rattle.framing.proofs.frame.Tie as tie
 
-sound-requires : tie.Need-sound-requires
-sound-requires c κs = search needs
-
-refused-requires : tie.Need-refused-requires
-refused-requires c κs = search needs
-
 returns : tie.Need-returns
 returns c =
     let a = c .before .before .before .before .before .before .before .args in
@@ -47,9 +41,6 @@ returns c =
       ),
       subst (λ (x : Outcome). (x .rises .to ≤ 32) × (x .rises .to ≤ a .rows)) (sym w) (omega arith, omega arith),
     )
-
-refused-requires-2 : tie.Need-refused-requires-2
-refused-requires-2 c κs = search needs
 
 returns-2 : tie.Need-returns-2
 returns-2 c =
@@ -83,12 +74,6 @@ frame-on-requires c κs =
     let long : length b ≡ 2048 = search needs in
     (long, c .before .before .before .before .if2 .left, housed-in b (length (a .store .now)) (λ i h. sound-housed (a .card) (shelfIn b) (length (a .store .now)) (a .rows) (w .1) i h .0), c .before .before .before .before .before .before .before .before .before .before .before .pre)
 
-same-length : tie.Need-same-length
-same-length c = search needs
-
-same-length-2 : tie.Need-same-length-2
-same-length-2 c = search needs
-
 returns-3 : tie.Need-returns-3
 returns-3 c =
     let a = c .before .before .before .before .before .before .before .before .before .before .before .before .before .before .before .before .args in
@@ -114,4 +99,4 @@ returns-3 c =
     )
 
 pub frame-spec : {M : Type 1} → statement M
-frame-spec = tie.close (tie.spec sound-requires refused-requires returns refused-requires-2 returns-2 frame-on-requires same-length same-length-2 returns-3)
+frame-spec = tie.close (tie.spec (λ c κs. search needs) (λ c κs. search needs) returns (λ c κs. search needs) returns-2 frame-on-requires (λ c. search needs) (λ c. search needs) returns-3)

@@ -11,44 +11,14 @@ use borrow.Author.Needs.{needs}
 use Rattle.framing.proofs.frame_on.Statement.{statement}
 use Rattle.framing.proofs.frame_on.Tie as tie
 
-frame-at-requires : tie.Need-frame-at-requires
-frame-at-requires c κs = search needs
-
-slice-read-sender : tie.Need-slice-read-sender
-slice-read-sender c = search needs
-
-slice-read-count : tie.Need-slice-read-count
-slice-read-count c = search needs
-
-renew-all-requires : tie.Need-renew-all-requires
-renew-all-requires c κs = search needs
-
 send-granted-requires : tie.Need-send-granted-requires
 send-granted-requires c κs = c .before .before .before .before .before .before .before .before .before .before .before .before .before .before .pre
-
-grant-requires : tie.Need-grant-requires
-grant-requires c κs = search needs
-
-wrapping-add-u16-requires : tie.Need-wrapping-add-u16-requires
-wrapping-add-u16-requires c κs = search needs
 
 put-turn-requires : tie.Need-put-turn-requires
 put-turn-requires c κs = let e : length (c .before .before .before .before .before .before .before .before .before .before .before .before .send-granted .last .0) ≡ length (c .before .before .before .before .before .before .before .before .before .before .before .before .before .before .before .before .before .before .before .before .before .before .before .before .before .before .before .args .s .now) = search needs in e ∙ c .before .before .before .before .before .before .before .before .before .before .before .before .before .before .before .before .before .before .before .before .before .before .before .before .before .before .before .pre .0
 
 cast-t32 : tie.Need-cast-t32
 cast-t32 c = omega (arith, c .before .before .before .before .before .before .before .before .before .before .before .before .before .before .before .before .before .before .before .before .before .before .slice-known6 .given 805)
-
-same-length : tie.Need-same-length
-same-length c = search needs
-
-same-length-2 : tie.Need-same-length-2
-same-length-2 c = search needs
-
-same-length-3 : tie.Need-same-length-3
-same-length-3 c = search needs
-
-same-length-4 : tie.Need-same-length-4
-same-length-4 c = search needs
 
 returns : tie.Need-returns
 returns c =
@@ -69,17 +39,17 @@ pub frame-on-spec : {M : Type 1} → statement M
 frame-on-spec =
     tie.close
     (tie.spec
-    frame-at-requires
-    slice-read-sender
-    slice-read-count
-    renew-all-requires
+    (λ c κs. search needs)
+    (λ c. search needs)
+    (λ c. search needs)
+    (λ c κs. search needs)
     send-granted-requires
-    grant-requires
-    wrapping-add-u16-requires
+    (λ c κs. search needs)
+    (λ c κs. search needs)
     put-turn-requires
     cast-t32
-    same-length
-    same-length-2
-    same-length-3
-    same-length-4
+    (λ c. search needs)
+    (λ c. search needs)
+    (λ c. search needs)
+    (λ c. search needs)
     returns)

@@ -30,12 +30,6 @@ Inv-loop s₀ heard cell store₀ each₀ end copies₀ addressed₀ i₀ s stor
 abbrev μ-loop : tie.MeasureT-loop
 μ-loop s₀ heard cell store₀ each₀ end copies₀ addressed₀ i₀ s store each copies addressed i = end - i
 
-slice-read-declared-count : tie.Need-slice-read-declared-count Inv-loop μ-loop
-slice-read-declared-count c = search needs
-
-declared-count-requires : tie.Need-declared-count-requires Inv-loop μ-loop
-declared-count-requires c κs = search needs
-
 loop-holds : tie.Need-loop-holds Inv-loop μ-loop
 loop-holds c =
     let s = c .before .before .before .before .before .before in
@@ -57,29 +51,8 @@ heed-requires c κs =
     let l = c .before .before .before .loop in
     (l .inv .3, c .before .before .before .before .before .before .before .before .before .before .pre .1, subst (λ n. Housed (l .i) (unitIn (l .s) (l .i)) n) (sym (l .inv .4)) (l .inv .6 (l .i) (omega arith) (omega arith)))
 
-hearing-rises-requires : tie.Need-hearing-rises-requires Inv-loop μ-loop
-hearing-rises-requires c κs = search needs
-
-mul-each : tie.Need-mul-each Inv-loop μ-loop
-mul-each c = search needs
-
-slice-write-each : tie.Need-slice-write-each Inv-loop μ-loop
-slice-write-each c = search needs
-
-queued-one-requires : tie.Need-queued-one-requires Inv-loop μ-loop
-queued-one-requires c κs = search needs
-
 add-copies : tie.Need-add-copies Inv-loop μ-loop
 add-copies c = let w = c .before .before .before .before .before .before .before .before .before .before .loop .inv in let q = c .queued-one .ensures .1 in omega (arith, w .0, w .1, w .2, q)
-
-is-addressed-requires : tie.Need-is-addressed-requires Inv-loop μ-loop
-is-addressed-requires c κs = search needs
-
-add-i : tie.Need-add-i Inv-loop μ-loop
-add-i c = search needs
-
-loop-less : tie.Need-loop-less Inv-loop μ-loop
-loop-less c = search needs
 
 loop-again : tie.Need-loop-again Inv-loop μ-loop
 loop-again c =
@@ -127,18 +100,18 @@ hear-all-spec =
     (tie.spec
     Inv-loop
     μ-loop
-    slice-read-declared-count
-    declared-count-requires
+    (λ c. search needs)
+    (λ c κs. search needs)
     loop-holds
     heed-requires
-    hearing-rises-requires
-    mul-each
-    slice-write-each
-    queued-one-requires
+    (λ c κs. search needs)
+    (λ c. search needs)
+    (λ c. search needs)
+    (λ c κs. search needs)
     add-copies
-    is-addressed-requires
-    add-i
-    loop-less
+    (λ c κs. search needs)
+    (λ c. search needs)
+    (λ c. search needs)
     loop-again
     same-length
     same-length-2

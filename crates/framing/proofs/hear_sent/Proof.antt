@@ -9,27 +9,12 @@ use borrow.Author.Needs.{needs}
 use Rattle.framing.proofs.hear_sent.Statement.{statement}
 use Rattle.framing.proofs.hear_sent.Tie as tie
 
-two-requires : tie.Need-two-requires
-two-requires c κs = search needs
-
-read-requires : tie.Need-read-requires
-read-requires c κs = search needs
-
-enum-known-target : tie.Need-enum-known-target
-enum-known-target c = search needs
-
-enum-told : tie.Need-enum-told
-enum-told c = search needs
-
 returns : tie.Need-returns
 returns c =
     let s = c .before .before .before .before .before in
     let f = s .args .cell .now in
     let a : address (two f 0) ≡ Bad = sym (c .before .before .read .ensures ∙ ap address (c .before .before .before .two .ensures)) ∙ c .enum-told .given .1 in
     sym (heard-sealed f (s .pre) ∙ ap (λ x. delivered x (four f 4)) a)
-
-four-requires : tie.Need-four-requires
-four-requires c κs = search needs
 
 returns-2 : tie.Need-returns-2
 returns-2 c =
@@ -43,10 +28,10 @@ pub hear-sent-spec : {M : Type 1} → statement M
 hear-sent-spec =
     tie.close
     (tie.spec
-    two-requires
-    read-requires
-    enum-known-target
-    enum-told
+    (λ c κs. search needs)
+    (λ c κs. search needs)
+    (λ c. search needs)
+    (λ c. search needs)
     returns
-    four-requires
+    (λ c κs. search needs)
     returns-2)

@@ -59,23 +59,14 @@ cell c = sealed-cell (c .before .before .get-cell .result .now) (c .seal .last .
 whole : (c : tie.After-seal) → length (take 56 (c .seal .last .1 .0)) ≡ 56
 whole c = ap length (cell c) ∙ full (c .before .before)
 
-popped-requires : tie.Need-popped-requires
-popped-requires c κs = search needs
-
 put-ring-requires : tie.Need-put-ring-requires
 put-ring-requires c κs = let s = c .before .before .before .before .before .before .before .before .before .before .before .before .before .before .before in (s .pre .0, omega arith, omega arith, below s)
-
-slice-reshare-prefix-hear-sent : tie.Need-slice-reshare-prefix-hear-sent
-slice-reshare-prefix-hear-sent c = search needs
 
 slice-aggregate-hear-sent : tie.Need-slice-aggregate-hear-sent
 slice-aggregate-hear-sent c = sym (whole (c .before .before .before .before .before .before .before .before .before))
 
 hear-sent-requires : tie.Need-hear-sent-requires
 hear-sent-requires c κs = whole (c .before .before .before .before .before .before .before .before .before)
-
-slice-reshare-prefix-hear-all : tie.Need-slice-reshare-prefix-hear-all
-slice-reshare-prefix-hear-all c = search needs
 
 slice-aggregate-hear-all : tie.Need-slice-aggregate-hear-all
 slice-aggregate-hear-all c = sym (whole (c .before .before .before .before .before .before .before .before .before .before .before))
@@ -106,26 +97,11 @@ mul-each c = let b = below (c .before .before .before .before .before .before .b
 slice-read-each : tie.Need-slice-read-each
 slice-read-each c = let b = below (c .before .before .before .before .before .before .before .before .before .before .before .before .before .before .before .before .before .before .before .before .before .before .before .before .before .before .before .before .before .before .before .before) in let l = room (c .before .before) in omega (arith, b, l)
 
-sent-rises-requires : tie.Need-sent-rises-requires
-sent-rises-requires c κs = search needs
-
 mul-each-2 : tie.Need-mul-each-2
 mul-each-2 c = let b = below (c .before .before .before .before .before .before .before .before .before .before .before .before .before .before .before .before .before .before .before .before .before .before .before .before .before .before .before .before .before .before .before .before .before) in omega (arith, b)
 
 slice-write-each : tie.Need-slice-write-each
 slice-write-each c = let b = below (c .before .before .before .before .before .before .before .before .before .before .before .before .before .before .before .before .before .before .before .before .before .before .before .before .before .before .before .before .before .before .before .before .before) in let l = room (c .before .before .before) in omega (arith, b, l)
-
-same-length : tie.Need-same-length
-same-length c = search needs
-
-same-length-2 : tie.Need-same-length-2
-same-length-2 c = search needs
-
-same-length-3 : tie.Need-same-length-3
-same-length-3 c = search needs
-
-same-length-4 : tie.Need-same-length-4
-same-length-4 c = search needs
 
 returns : tie.Need-returns
 returns c =
@@ -152,21 +128,21 @@ send-spec =
     inlet-at-requires
     get-cell-requires
     seal-requires
-    popped-requires
+    (λ c κs. search needs)
     put-ring-requires
-    slice-reshare-prefix-hear-sent
+    (λ c. search needs)
     slice-aggregate-hear-sent
     hear-sent-requires
-    slice-reshare-prefix-hear-all
+    (λ c. search needs)
     slice-aggregate-hear-all
     hear-all-requires
     mul-each
     slice-read-each
-    sent-rises-requires
+    (λ c κs. search needs)
     mul-each-2
     slice-write-each
-    same-length
-    same-length-2
-    same-length-3
-    same-length-4
+    (λ c. search needs)
+    (λ c. search needs)
+    (λ c. search needs)
+    (λ c. search needs)
     returns)

@@ -13,15 +13,6 @@ use borrow.Author.Needs.{needs}
 use Rattle.framing.proofs.send_granted.Statement.{statement}
 use Rattle.framing.proofs.send_granted.Tie as tie
 
-slice-reshared-read-find : tie.Need-slice-reshared-read-find
-slice-reshared-read-find c = search needs
-
-find-requires : tie.Need-find-requires
-find-requires c κs = search needs
-
-enum-known-place : tie.Need-enum-known-place
-enum-known-place c = search needs
-
 send-requires : tie.Need-send-requires
 send-requires c κs =
     let s = c .before .before .before .before .before .before .before .before .before .before .before .before .before in
@@ -29,24 +20,6 @@ send-requires c κs =
     let e = sym (c .before .before .before .before .before .before .before .find .ensures) ∙ c .before .before .before .before .before .place .given .1 in
     let w = find-at (getD b 803 0) (declared (shelfIn b)) _ .0 e .inside in
     (s .pre .0, s .pre .1, omega (arith, w, declared-length (shelfIn b) (units-length b 0 32)), s .pre .2, s .pre .3)
-
-enum-told : tie.Need-enum-told
-enum-told c = search needs
-
-silence-requires : tie.Need-silence-requires
-silence-requires c κs = search needs
-
-same-length : tie.Need-same-length
-same-length c = search needs
-
-same-length-2 : tie.Need-same-length-2
-same-length-2 c = search needs
-
-same-length-3 : tie.Need-same-length-3
-same-length-3 c = search needs
-
-same-length-4 : tie.Need-same-length-4
-same-length-4 c = search needs
 
 returns : tie.Need-returns
 unfolding listenedBy storeBy bufferBy stateBy
@@ -61,9 +34,6 @@ returns c =
         (w .1 .1 .0 ∙ ap (λ x. storeBy x (shelfIn b) (a .store .now)) e, w .1 .1 .1 ∙ ap (λ x. bufferBy x (shelfIn b) (a .store .now) (a .buffer .now)) e),
       ),
     )
-
-same-length-5 : tie.Need-same-length-5
-same-length-5 c = search needs
 
 returns-2 : tie.Need-returns-2
 unfolding listenedBy storeBy bufferBy stateBy
@@ -83,16 +53,16 @@ pub send-granted-spec : {M : Type 1} → statement M
 send-granted-spec =
     tie.close
     (tie.spec
-    slice-reshared-read-find
-    find-requires
-    enum-known-place
+    (λ c. search needs)
+    (λ c κs. search needs)
+    (λ c. search needs)
     send-requires
-    enum-told
-    silence-requires
-    same-length
-    same-length-2
-    same-length-3
-    same-length-4
+    (λ c. search needs)
+    (λ c κs. search needs)
+    (λ c. search needs)
+    (λ c. search needs)
+    (λ c. search needs)
+    (λ c. search needs)
     returns
-    same-length-5
+    (λ c. search needs)
     returns-2)

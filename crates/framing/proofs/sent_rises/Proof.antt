@@ -4,9 +4,6 @@ use borrow.Author.Needs.{needs}
 use Rattle.framing.proofs.sent_rises.Statement.{statement}
 use Rattle.framing.proofs.sent_rises.Tie as tie
 
-add-result : tie.Need-add-result
-add-result c = search needs
-
 returns : tie.Need-returns
 unfolding sentRises
 returns c = rw (c .if1 .taken)
@@ -16,4 +13,4 @@ unfolding sentRises
 returns-2 c = rw (c .if1 .left)
 
 pub sent-rises-spec : {M : Type 1} → statement M
-sent-rises-spec = tie.close (tie.spec add-result returns returns-2)
+sent-rises-spec = tie.close (tie.spec (λ c. search needs) returns returns-2)

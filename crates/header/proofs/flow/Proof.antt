@@ -5,15 +5,6 @@ use borrow.Author.Needs.{needs}
 use Rattle.header.proofs.flow.Statement.{statement}
 use Rattle.header.proofs.flow.Tie as tie
 
-enum-told : tie.Need-enum-told
-enum-told c = search needs
-
-cast-result : tie.Need-cast-result
-cast-result c = search needs
-
-enum-told-2 : tie.Need-enum-told-2
-enum-told-2 c = search needs
-
 returns : tie.Need-returns
 unfolding fields
 returns c = rw (c .enum-told .given .1) (omega arith)
@@ -23,4 +14,4 @@ unfolding fields
 returns-2 c = rw (c .enum-told2 .given .1) (omega arith)
 
 pub flow-spec : {M : Type 1} → statement M
-flow-spec = tie.close (tie.spec enum-told cast-result enum-told-2 returns returns-2)
+flow-spec = tie.close (tie.spec (λ c. search needs) (λ c. search needs) (λ c. search needs) returns returns-2)

@@ -25,13 +25,10 @@ mul-result c = let p = product-lt _ (mixed-lt c) in record { fits = omega arith 
 mul-result-2 : tie.Need-mul-result-2
 mul-result-2 c = let p = product-lt _ (mixed-lt c) in record { fits = omega arith }
 
-cast-result : tie.Need-cast-result
-cast-result c = search needs
-
 returns : tie.Need-returns
 returns c = folded-at (bitXor (c .args .rest) (c .args .byte)) (mixed-lt c)
 
 pub pass-spec : {M : Type 1} → statement M
 pass-spec =
     tie.close
-    (tie.spec cast-mixed mul-product mul-product-2 mul-result mul-result-2 cast-result returns)
+    (tie.spec cast-mixed mul-product mul-product-2 mul-result mul-result-2 (λ c. search needs) returns)

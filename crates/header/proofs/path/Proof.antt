@@ -5,18 +5,6 @@ use borrow.Author.Needs.{needs}
 use Rattle.header.proofs.path.Statement.{statement}
 use Rattle.header.proofs.path.Tie as tie
 
-enum-told : tie.Need-enum-told
-enum-told c = search needs
-
-cast-result : tie.Need-cast-result
-cast-result c = search needs
-
-enum-told-2 : tie.Need-enum-told-2
-enum-told-2 c = search needs
-
-cast-result-2 : tie.Need-cast-result-2
-cast-result-2 c = search needs
-
 returns : tie.Need-returns
 unfolding fields
 returns c = rw (c .enum-told .given .1) (omega arith)
@@ -26,4 +14,4 @@ unfolding fields
 returns-2 c = rw (c .enum-told2 .given .1) (omega arith)
 
 pub path-spec : {M : Type 1} → statement M
-path-spec = tie.close (tie.spec enum-told cast-result enum-told-2 cast-result-2 returns returns-2)
+path-spec = tie.close (tie.spec (λ c. search needs) (λ c. search needs) (λ c. search needs) (λ c. search needs) returns returns-2)

@@ -6,32 +6,14 @@ use borrow.Author.Needs.{needs}
 use Rattle.header.proofs.write.Statement.{statement}
 use Rattle.header.proofs.write.Tie as tie
 
-top-requires : tie.Need-top-requires
-top-requires c κs = search needs
-
 mul-result : tie.Need-mul-result
 mul-result c = omega (arith, c .top .ensures, top-lt (c .before .args .link) (c .before .args .h .gfc) (c .before .args .h .vpi))
-
-cast-result : tie.Need-cast-result
-cast-result c = search needs
-
-mul-result-2 : tie.Need-mul-result-2
-mul-result-2 c = search needs
 
 add-result : tie.Need-add-result
 add-result c = omega (arith, c .before .top .ensures, top-lt (c .before .before .args .link) (c .before .before .args .h .gfc) (c .before .before .args .h .vpi))
 
-cast-result-2 : tie.Need-cast-result-2
-cast-result-2 c = search needs
-
-mul-result-3 : tie.Need-mul-result-3
-mul-result-3 c = search needs
-
 add-result-2 : tie.Need-add-result-2
 add-result-2 c = omega (arith, c .before .before .top .ensures, top-lt (c .before .before .before .args .link) (c .before .before .before .args .h .gfc) (c .before .before .before .args .h .vpi))
-
-cast-result-3 : tie.Need-cast-result-3
-cast-result-3 c = search needs
 
 add-result-3 : tie.Need-add-result-3
 add-result-3 c = omega (arith, c .before .before .before .top .ensures, top-lt (c .before .before .before .before .args .link) (c .before .before .before .before .args .h .gfc) (c .before .before .before .before .args .h .vpi))
@@ -44,14 +26,14 @@ pub write-spec : {M : Type 1} → statement M
 write-spec =
     tie.close
     (tie.spec
-    top-requires
+    (λ c κs. search needs)
     mul-result
-    cast-result
-    mul-result-2
+    (λ c. search needs)
+    (λ c. search needs)
     add-result
-    cast-result-2
-    mul-result-3
+    (λ c. search needs)
+    (λ c. search needs)
     add-result-2
-    cast-result-3
+    (λ c. search needs)
     add-result-3
     returns)

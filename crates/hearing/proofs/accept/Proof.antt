@@ -13,66 +13,12 @@ use borrow.Author.Needs.{needs}
 use Rattle.hearing.proofs.accept.Statement.{statement}
 use Rattle.hearing.proofs.accept.Tie as tie
 
-at-requires : tie.Need-at-requires
-at-requires c κs = search needs
-
-link-of-requires : tie.Need-link-of-requires
-link-of-requires c κs = search needs
-
-limits-at-requires : tie.Need-limits-at-requires
-limits-at-requires c κs = search needs
-
-queue-of-requires : tie.Need-queue-of-requires
-queue-of-requires c κs = search needs
-
-capacity-requires : tie.Need-capacity-requires
-capacity-requires c κs = search needs
-
-cast-q : tie.Need-cast-q
-cast-q c = search needs
-
-add-ring-at : tie.Need-add-ring-at
-add-ring-at c = search needs
-
-add-ring-at-2 : tie.Need-add-ring-at-2
-add-ring-at-2 c = search needs
-
 -- the queue is one of the four
 one-of-four : (c : tie.After-queue-of) → c .queue-of .result < 4
 one-of-four c = let a = c .before .before .before .before .before .before .before .before .before .args in few (a .s .now) (a .place) (a .class) _ _ (c .before .limits-at .ensures) (c .queue-of .ensures)
 
 ring-at-requires : tie.Need-ring-at-requires
 ring-at-requires c κs = let f = one-of-four (c .before .before) in (c .before .before .before .before .before .before .before .before .before .before .before .pre .0, omega (arith, f), omega (arith, f), c .before .before .before .before .before .before .before .before .before .before .before .pre .2 .below)
-
-limit-requires : tie.Need-limit-requires
-limit-requires c κs = search needs
-
-fate-in-requires : tie.Need-fate-in-requires
-fate-in-requires c κs = search needs
-
-enum-told : tie.Need-enum-told
-enum-told c = search needs
-
-enum-told-2 : tie.Need-enum-told-2
-enum-told-2 c = search needs
-
-enum-told-3 : tie.Need-enum-told-3
-enum-told-3 c = search needs
-
-enum-told-4 : tie.Need-enum-told-4
-enum-told-4 c = search needs
-
-tail-requires : tie.Need-tail-requires
-tail-requires c κs = search needs
-
-add-put-ring : tie.Need-add-put-ring
-add-put-ring c = search needs
-
-add-put-ring-2 : tie.Need-add-put-ring-2
-add-put-ring-2 c = search needs
-
-pushed-requires : tie.Need-pushed-requires
-pushed-requires c κs = search needs
 
 put-ring-requires : tie.Need-put-ring-requires
 put-ring-requires c κs = let f = one-of-four (c .before .before .before .before .before .before .before .before .before .before) in (c .before .before .before .before .before .before .before .before .before .before .before .before .before .before .before .before .before .before .before .pre .0, omega (arith, f), omega (arith, f), c .before .before .before .before .before .before .before .before .before .before .before .before .before .before .before .before .before .before .before .pre .2 .below)
@@ -92,9 +38,6 @@ put-cell-requires c κs =
     let a = s .args in
     (s .pre .1, subst (λ n. n + 56 ≤ length (a .store .now)) (sym (slot c)) (outlet-inside (a .place) (length (a .store .now)) (unitIn (a .s .now) (a .place)) _ (s .pre .2) (one-of-four (c .before .before .before .before .before .before .before .before .before .before .before .before .before .before .before))))
 
-same-length : tie.Need-same-length
-same-length c = search needs
-
 -- what becomes of the copy
 plan : (c : tie.After-fate-in) → let a = c .before .before .before .before .before .before .before .before .before .before .before .before .before .before .args in planTo (unitIn (a .s .now) (a .place)) (a .class) (a .header) ≡ planFor (c .fate-in .result) (c .before .before .before .before .before .queue-of .result)
 plan c =
@@ -109,9 +52,6 @@ returns c =
     lost-all (unitIn (a .s .now) (a .place)) (a .s .now) (a .place) (a .store .now) (a .cell .now) _ _
     (plan (c .before .before) ∙ ap (λ x. planFor x (c .before .before .before .before .before .before .before .queue-of .result)) (c .enum-told .given .1))
 
-same-length-2 : tie.Need-same-length-2
-same-length-2 c = search needs
-
 returns-2 : tie.Need-returns-2
 unfolding planFor
 returns-2 c =
@@ -119,21 +59,12 @@ returns-2 c =
     lost-all (unitIn (a .s .now) (a .place)) (a .s .now) (a .place) (a .store .now) (a .cell .now) _ _
     (plan (c .before .before) ∙ ap (λ x. planFor x (c .before .before .before .before .before .before .before .queue-of .result)) (c .enum-told2 .given .1))
 
-same-length-3 : tie.Need-same-length-3
-same-length-3 c = search needs
-
 returns-3 : tie.Need-returns-3
 unfolding planFor
 returns-3 c =
     let a = c .before .before .before .before .before .before .before .before .before .before .before .before .before .before .before .before .args in
     lost-all (unitIn (a .s .now) (a .place)) (a .s .now) (a .place) (a .store .now) (a .cell .now) _ _
     (plan (c .before .before) ∙ ap (λ x. planFor x (c .before .before .before .before .before .before .before .queue-of .result)) (c .enum-told3 .given .1))
-
-same-length-4 : tie.Need-same-length-4
-same-length-4 c = search needs
-
-same-length-5 : tie.Need-same-length-5
-same-length-5 c = search needs
 
 returns-4 : tie.Need-returns-4
 unfolding planFor
@@ -155,34 +86,34 @@ pub accept-spec : {M : Type 1} → statement M
 accept-spec =
     tie.close
     (tie.spec
-    at-requires
-    link-of-requires
-    limits-at-requires
-    queue-of-requires
-    capacity-requires
-    cast-q
-    add-ring-at
-    add-ring-at-2
+    (λ c κs. search needs)
+    (λ c κs. search needs)
+    (λ c κs. search needs)
+    (λ c κs. search needs)
+    (λ c κs. search needs)
+    (λ c. search needs)
+    (λ c. search needs)
+    (λ c. search needs)
     ring-at-requires
-    limit-requires
-    fate-in-requires
-    enum-told
-    enum-told-2
-    enum-told-3
-    enum-told-4
-    tail-requires
-    add-put-ring
-    add-put-ring-2
-    pushed-requires
+    (λ c κs. search needs)
+    (λ c κs. search needs)
+    (λ c. search needs)
+    (λ c. search needs)
+    (λ c. search needs)
+    (λ c. search needs)
+    (λ c κs. search needs)
+    (λ c. search needs)
+    (λ c. search needs)
+    (λ c κs. search needs)
     put-ring-requires
     outlet-at-requires
     put-cell-requires
-    same-length
+    (λ c. search needs)
     returns
-    same-length-2
+    (λ c. search needs)
     returns-2
-    same-length-3
+    (λ c. search needs)
     returns-3
-    same-length-4
-    same-length-5
+    (λ c. search needs)
+    (λ c. search needs)
     returns-4)

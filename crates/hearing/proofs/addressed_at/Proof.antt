@@ -8,24 +8,6 @@ use borrow.Author.Needs.{needs}
 use Rattle.hearing.proofs.addressed_at.Statement.{statement}
 use Rattle.hearing.proofs.addressed_at.Tie as tie
 
-enum-known-target : tie.Need-enum-known-target
-enum-known-target c = search needs
-
-at-requires : tie.Need-at-requires
-at-requires c κs = search needs
-
-enum-known-target-2 : tie.Need-enum-known-target-2
-enum-known-target-2 c = search needs
-
-sessions-at-requires : tie.Need-sessions-at-requires
-sessions-at-requires c κs = search needs
-
-hears-requires : tie.Need-hears-requires
-hears-requires c κs = search needs
-
-enum-told : tie.Need-enum-told
-enum-told c = search needs
-
 returns : tie.Need-returns
 unfolding addressed unitBy
 returns c = rw (c .before .before .target .given .1) (λ t. eqb (c .at .ensures t) (c .before .before .target .given .0 .0))
@@ -42,12 +24,12 @@ pub addressed-at-spec : {M : Type 1} → statement M
 addressed-at-spec =
     tie.close
     (tie.spec
-    enum-known-target
-    at-requires
-    enum-known-target-2
-    sessions-at-requires
-    hears-requires
-    enum-told
+    (λ c. search needs)
+    (λ c κs. search needs)
+    (λ c. search needs)
+    (λ c κs. search needs)
+    (λ c κs. search needs)
+    (λ c. search needs)
     returns
     returns-2
     returns-3)

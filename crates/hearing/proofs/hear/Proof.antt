@@ -14,12 +14,6 @@ use borrow.Author.Needs.{needs}
 use Rattle.hearing.proofs.hear.Statement.{statement}
 use Rattle.hearing.proofs.hear.Tie as tie
 
-admit-requires : tie.Need-admit-requires
-admit-requires c κs = search needs
-
-enum-known-place : tie.Need-enum-known-place
-enum-known-place c = search needs
-
 -- the event is let in at the place
 let-in : (c : tie.After-place) → let a = c .before .before .before .before .before .before .before .args in LetInPlace (a .card) (a .s .now) (length (a .store .now)) (a .rows) (a .unit) (eqb (length (a .frame .now)) 57) (c .place .given .0 .0)
 let-in c = let a = c .before .before .before .before .before .before .before .args in in-place (a .card) (a .s .now) (length (a .store .now)) (a .rows) (a .unit) (eqb (length (a .frame .now)) 57) _ (sym (c .before .before .admit .ensures) ∙ c .place .given .1)
@@ -30,15 +24,6 @@ hear-at-requires c κs =
     let l = let-in (c .before .before .before) in
     let long : length (a .s .now) ≡ 2048 = search needs in
     (long, eqb-true (length (a .frame .now)) 57 (l .let-in .fits), l .housed)
-
-enum-known-number : tie.Need-enum-known-number
-enum-known-number c = search needs
-
-uncounted-requires : tie.Need-uncounted-requires
-uncounted-requires c κs = search needs
-
-same-length : tie.Need-same-length
-same-length c = search needs
 
 returns : tie.Need-returns
 returns c =
@@ -69,11 +54,11 @@ pub hear-spec : {M : Type 1} → statement M
 hear-spec =
     tie.close
     (tie.spec
-    admit-requires
-    enum-known-place
+    (λ c κs. search needs)
+    (λ c. search needs)
     hear-at-requires
-    enum-known-number
-    uncounted-requires
-    same-length
+    (λ c. search needs)
+    (λ c κs. search needs)
+    (λ c. search needs)
     returns
     returns-2)

@@ -11,26 +11,11 @@ use borrow.Author.Needs.{needs}
 use Rattle.hearing.proofs.hear_at.Statement.{statement}
 use Rattle.hearing.proofs.hear_at.Tie as tie
 
-hear-requires : tie.Need-hear-requires
-hear-requires c κs = search needs
-
 slice-aggregate-hear-one : tie.Need-slice-aggregate-hear-one
 slice-aggregate-hear-one c = let s = c .before .before .before .before .before .before in sym (before-parity (s .args .frame .now) (s .pre .1))
 
 hear-one-requires : tie.Need-hear-one-requires
 hear-one-requires c κs = let s = c .before .before .before .before .before .before .before in (s .pre .0, before-parity (s .args .frame .now) (s .pre .1), s .pre .2)
-
-hearing-rises-requires : tie.Need-hearing-rises-requires
-hearing-rises-requires c κs = search needs
-
-counted-requires : tie.Need-counted-requires
-counted-requires c κs = search needs
-
-same-length : tie.Need-same-length
-same-length c = search needs
-
-same-length-2 : tie.Need-same-length-2
-same-length-2 c = search needs
 
 returns : tie.Need-returns
 unfolding spread
@@ -51,11 +36,11 @@ pub hear-at-spec : {M : Type 1} → statement M
 hear-at-spec =
     tie.close
     (tie.spec
-    hear-requires
+    (λ c κs. search needs)
     slice-aggregate-hear-one
     hear-one-requires
-    hearing-rises-requires
-    counted-requires
-    same-length
-    same-length-2
+    (λ c κs. search needs)
+    (λ c κs. search needs)
+    (λ c. search needs)
+    (λ c. search needs)
     returns)

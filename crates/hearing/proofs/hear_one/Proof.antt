@@ -11,21 +11,6 @@ use borrow.Author.Needs.{needs}
 use Rattle.hearing.proofs.hear_one.Statement.{statement}
 use Rattle.hearing.proofs.hear_one.Tie as tie
 
-enum-told : tie.Need-enum-told
-enum-told c = search needs
-
-enum-told-2 : tie.Need-enum-told-2
-enum-told-2 c = search needs
-
-enum-known-heard : tie.Need-enum-known-heard
-enum-known-heard c = search needs
-
-addressed-at-requires : tie.Need-addressed-at-requires
-addressed-at-requires c κs = search needs
-
-same-length : tie.Need-same-length
-same-length c = search needs
-
 returns : tie.Need-returns
 unfolding planOf
 returns c =
@@ -34,9 +19,6 @@ returns c =
     let g = c .before .before .before .before .heard .given in
     let e = sym (c .before .addressed-at .ensures) ∙ not-true _ (c .if1 .taken) in
     lost-all u (a .s .now) (a .place) (a .store .now) (a .cell .now) _ _ (ap (planOf u) (g .1) ∙ ap (λ t. cond t (planTo u (g .0 .1 .0) (g .0 .1 .1 .0)) (Lost Other)) e)
-
-accept-requires : tie.Need-accept-requires
-accept-requires c κs = search needs
 
 returns-2 : tie.Need-returns-2
 unfolding planOf
@@ -51,12 +33,6 @@ returns-3 c =
     let a = c .before .before .before .before .before .args in
     let u = unitIn (a .s .now) (a .place) in
     lost-all u (a .s .now) (a .place) (a .store .now) (a .cell .now) _ _ (ap (planOf u) (c .enum-told2 .given .1))
-
-same-length-2 : tie.Need-same-length-2
-same-length-2 c = search needs
-
-same-length-3 : tie.Need-same-length-3
-same-length-3 c = search needs
 
 returns-4 : tie.Need-returns-4
 unfolding planOf
@@ -73,15 +49,15 @@ pub hear-one-spec : {M : Type 1} → statement M
 hear-one-spec =
     tie.close
     (tie.spec
-    enum-told
-    enum-told-2
-    enum-known-heard
-    addressed-at-requires
-    same-length
+    (λ c. search needs)
+    (λ c. search needs)
+    (λ c. search needs)
+    (λ c κs. search needs)
+    (λ c. search needs)
     returns
-    accept-requires
+    (λ c κs. search needs)
     returns-2
     returns-3
-    same-length-2
-    same-length-3
+    (λ c. search needs)
+    (λ c. search needs)
     returns-4)

@@ -6,18 +6,6 @@ use borrow.Author.Needs.{needs}
 use Rattle.hearing.proofs.passes.Statement.{statement}
 use Rattle.hearing.proofs.passes.Tie as tie
 
-enum-told : tie.Need-enum-told
-enum-told c = search needs
-
-enum-told-2 : tie.Need-enum-told-2
-enum-told-2 c = search needs
-
-enum-known-heard : tie.Need-enum-known-heard
-enum-known-heard c = search needs
-
-addressed-at-requires : tie.Need-addressed-at-requires
-addressed-at-requires c κs = search needs
-
 returns : tie.Need-returns
 unfolding passesBy
 returns c = rw (c .enum-told .given .1)
@@ -34,10 +22,10 @@ pub passes-spec : {M : Type 1} → statement M
 passes-spec =
     tie.close
     (tie.spec
-    enum-told
-    enum-told-2
-    enum-known-heard
-    addressed-at-requires
+    (λ c. search needs)
+    (λ c. search needs)
+    (λ c. search needs)
+    (λ c κs. search needs)
     returns
     returns-2
     returns-3)

@@ -11,15 +11,6 @@ use borrow.Author.Needs.{needs}
 use Rattle.judge.proofs.find_owner.Statement.{statement}
 use Rattle.judge.proofs.find_owner.Tie as tie
 
-find-requires : tie.Need-find-requires
-find-requires c κs = search needs
-
-enum-known-at : tie.Need-enum-known-at
-enum-known-at c = search needs
-
-enum-told : tie.Need-enum-told
-enum-told c = search needs
-
 returns : tie.Need-returns
 unfolding ownerOf
 returns c =
@@ -52,9 +43,9 @@ pub find-owner-spec : {M : Type 1} → statement M
 find-owner-spec =
     tie.close
     (tie.spec
-    find-requires
-    enum-known-at
-    enum-told
+    (λ c κs. search needs)
+    (λ c. search needs)
+    (λ c. search needs)
     returns
     settings-at-requires
     place-at-requires

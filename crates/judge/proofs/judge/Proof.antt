@@ -9,57 +9,12 @@ use borrow.Author.Needs.{needs}
 use Rattle.judge.proofs.judge.Statement.{statement}
 use Rattle.judge.proofs.judge.Tie as tie
 
-judge-first-requires : tie.Need-judge-first-requires
-judge-first-requires c κs = search needs
-
 returns : tie.Need-returns
 returns c =
     let a = c .before .before .before .before .args in
     let s = recordAt (a .card) (a .memory .now) in
     let h = shelfIn (a .s .now) in
     c .judge-first .ensures ∙ at-first (a .card) (a .room) s h (a .used) (a .o) (a .line) ∙ ap (λ f. judgeBy (a .card) (a .room) f s h (a .used) (a .o) (a .line)) (sym (c .before .if1 .taken))
-
-shared-slice-read-bus : tie.Need-shared-slice-read-bus
-shared-slice-read-bus c = search needs
-
-enum-told : tie.Need-enum-told
-enum-told c = search needs
-
-enum-known-line : tie.Need-enum-known-line
-enum-known-line c = search needs
-
-judge-unit-requires : tie.Need-judge-unit-requires
-judge-unit-requires c κs = search needs
-
-enum-known-line-2 : tie.Need-enum-known-line-2
-enum-known-line-2 c = search needs
-
-judge-vp-requires : tie.Need-judge-vp-requires
-judge-vp-requires c κs = search needs
-
-enum-known-line-3 : tie.Need-enum-known-line-3
-enum-known-line-3 c = search needs
-
-judge-drop-requires : tie.Need-judge-drop-requires
-judge-drop-requires c κs = search needs
-
-enum-known-line-4 : tie.Need-enum-known-line-4
-enum-known-line-4 c = search needs
-
-judge-page-requires : tie.Need-judge-page-requires
-judge-page-requires c κs = search needs
-
-enum-known-line-5 : tie.Need-enum-known-line-5
-enum-known-line-5 c = search needs
-
-judge-vc-requires : tie.Need-judge-vc-requires
-judge-vc-requires c κs = search needs
-
-enum-known-line-6 : tie.Need-enum-known-line-6
-enum-known-line-6 c = search needs
-
-judge-mc-requires : tie.Need-judge-mc-requires
-judge-mc-requires c κs = search needs
 
 returns-2 : tie.Need-returns-2
 unfolding judgeBy judgeBus
@@ -93,22 +48,22 @@ pub judge-spec : {M : Type 1} → statement M
 judge-spec =
     tie.close
     (tie.spec
-    judge-first-requires
+    (λ c κs. search needs)
     returns
-    shared-slice-read-bus
-    enum-told
-    enum-known-line
-    judge-unit-requires
-    enum-known-line-2
-    judge-vp-requires
-    enum-known-line-3
-    judge-drop-requires
-    enum-known-line-4
-    judge-page-requires
-    enum-known-line-5
-    judge-vc-requires
-    enum-known-line-6
-    judge-mc-requires
+    (λ c. search needs)
+    (λ c. search needs)
+    (λ c. search needs)
+    (λ c κs. search needs)
+    (λ c. search needs)
+    (λ c κs. search needs)
+    (λ c. search needs)
+    (λ c κs. search needs)
+    (λ c. search needs)
+    (λ c κs. search needs)
+    (λ c. search needs)
+    (λ c κs. search needs)
+    (λ c. search needs)
+    (λ c κs. search needs)
     returns-2
     returns-3
     returns-4

@@ -15,15 +15,6 @@ returns-2 c =
     let a = c .before .before .before .before .before .args in
     somebody (a .o) _ _ (c .before .before .if1 .left) (drop-above _ (a .vpi) _ (c .if2 .taken))
 
-spot-requires : tie.Need-spot-requires
-spot-requires c κs = search needs
-
-get-requires : tie.Need-get-requires
-get-requires c κs = search needs
-
-taken-requires : tie.Need-taken-requires
-taken-requires c κs = search needs
-
 returns-3 : tie.Need-returns-3
 returns-3 c =
     let a = c .before .before .before .before .before .before .before .before .before .args in
@@ -37,4 +28,4 @@ returns-4 c =
 pub judge-drop-spec : {M : Type 1} → statement M
 judge-drop-spec =
     tie.close
-    (tie.spec returns returns-2 spot-requires get-requires taken-requires returns-3 returns-4)
+    (tie.spec returns returns-2 (λ c κs. search needs) (λ c κs. search needs) (λ c κs. search needs) returns-3 returns-4)

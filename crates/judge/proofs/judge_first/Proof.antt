@@ -5,30 +5,6 @@ use borrow.Author.Needs.{needs}
 use Rattle.judge.proofs.judge_first.Statement.{statement}
 use Rattle.judge.proofs.judge_first.Tie as tie
 
-enum-known-line : tie.Need-enum-known-line
-enum-known-line c = search needs
-
-asks-requires : tie.Need-asks-requires
-asks-requires c κs = search needs
-
-enum-told : tie.Need-enum-told
-enum-told c = search needs
-
-enum-told-2 : tie.Need-enum-told-2
-enum-told-2 c = search needs
-
-enum-told-3 : tie.Need-enum-told-3
-enum-told-3 c = search needs
-
-enum-told-4 : tie.Need-enum-told-4
-enum-told-4 c = search needs
-
-enum-told-5 : tie.Need-enum-told-5
-enum-told-5 c = search needs
-
-enum-told-6 : tie.Need-enum-told-6
-enum-told-6 c = search needs
-
 returns : tie.Need-returns
 unfolding judgeFirst
 returns c = c .asks .ensures ∙ rw (c .before .before .line .given .1)
@@ -61,14 +37,14 @@ pub judge-first-spec : {M : Type 1} → statement M
 judge-first-spec =
     tie.close
     (tie.spec
-    enum-known-line
-    asks-requires
-    enum-told
-    enum-told-2
-    enum-told-3
-    enum-told-4
-    enum-told-5
-    enum-told-6
+    (λ c. search needs)
+    (λ c κs. search needs)
+    (λ c. search needs)
+    (λ c. search needs)
+    (λ c. search needs)
+    (λ c. search needs)
+    (λ c. search needs)
+    (λ c. search needs)
     returns
     returns-2
     returns-3

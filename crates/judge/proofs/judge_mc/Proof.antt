@@ -23,12 +23,6 @@ heard b i session sessions r h e q = q ∙ ap (λ l. hears l session) (e ∙ sym
 returns : tie.Need-returns
 returns c = nobody (c .before .before .before .args .o) _ (c .if1 .taken)
 
-sessions-at-requires : tie.Need-sessions-at-requires
-sessions-at-requires c κs = search needs
-
-hears-requires : tie.Need-hears-requires
-hears-requires c κs = search needs
-
 returns-2 : tie.Need-returns-2
 unfolding judgeMc
 returns-2 c =
@@ -45,4 +39,4 @@ returns-3 c =
 
 pub judge-mc-spec : {M : Type 1} → statement M
 judge-mc-spec =
-    tie.close (tie.spec returns sessions-at-requires hears-requires returns-2 returns-3)
+    tie.close (tie.spec returns (λ c κs. search needs) (λ c κs. search needs) returns-2 returns-3)

@@ -15,25 +15,10 @@ returns-2 c =
     let a = c .before .before .before .before .before .args in
     somebody (a .o) _ _ (c .before .before .if1 .left) (page-above _ (a .vpi) _ (a .room) (a .used) (a .top) (c .if2 .taken))
 
-spot-requires : tie.Need-spot-requires
-spot-requires c κs = search needs
-
-get-requires : tie.Need-get-requires
-get-requires c κs = search needs
-
-taken-requires : tie.Need-taken-requires
-taken-requires c κs = search needs
-
 returns-3 : tie.Need-returns-3
 returns-3 c =
     let a = c .before .before .before .before .before .before .before .before .before .args in
     somebody (a .o) _ _ (c .before .before .before .before .before .before .if1 .left) (page-taken _ (a .vpi) _ (a .room) (a .used) (a .top) (c .before .before .before .before .if2 .left) (sym (c .before .taken .ensures ∙ ap taken (c .before .before .get .ensures ∙ ap (recordAt (a .card) (a .memory .now)) (c .before .before .before .spot .ensures))) ∙ c .if3 .taken))
-
-add-room-for : tie.Need-add-room-for
-add-room-for c = search needs
-
-room-for-requires : tie.Need-room-for-requires
-room-for-requires c κs = search needs
 
 returns-4 : tie.Need-returns-4
 returns-4 c =
@@ -46,10 +31,10 @@ judge-page-spec =
     (tie.spec
     returns
     returns-2
-    spot-requires
-    get-requires
-    taken-requires
+    (λ c κs. search needs)
+    (λ c κs. search needs)
+    (λ c κs. search needs)
     returns-3
-    add-room-for
-    room-for-requires
+    (λ c. search needs)
+    (λ c κs. search needs)
     returns-4)

@@ -15,18 +15,6 @@ returns-2 c =
     let a = c .before .before .before .args in
     unit-twice (a .card) (a .bus) (a .room) (a .used) (a .settings .number) (a .settings .top) (a .settings .link) (a .declared) (c .before .if1 .left) (c .if2 .taken)
 
-holds-requires : tie.Need-holds-requires
-holds-requires c κs = search needs
-
-cast-room-for : tie.Need-cast-room-for
-cast-room-for c = search needs
-
-add-room-for : tie.Need-add-room-for
-add-room-for c = search needs
-
-room-for-requires : tie.Need-room-for-requires
-room-for-requires c κs = search needs
-
 returns-3 : tie.Need-returns-3
 returns-3 c =
     let a = c .before .before .before .before .before .before .before .args in
@@ -43,9 +31,9 @@ judge-unit-spec =
     (tie.spec
     returns
     returns-2
-    holds-requires
-    cast-room-for
-    add-room-for
-    room-for-requires
+    (λ c κs. search needs)
+    (λ c. search needs)
+    (λ c. search needs)
+    (λ c κs. search needs)
     returns-3
     returns-4)

@@ -17,15 +17,6 @@ returns-2 c =
     let a = c .before .before .before .before .before .args in
     somebody (a .o) _ _ (c .before .before .if1 .left) (vc-above (a .card) (a .bus) _ (a .vpi) (recordAt (a .card) (a .memory .now)) (a .o) (a .vci) (a .target) (a .outvpi) (c .if2 .taken))
 
-spot-requires : tie.Need-spot-requires
-spot-requires c κs = search needs
-
-get-requires : tie.Need-get-requires
-get-requires c κs = search needs
-
-page-in-requires : tie.Need-page-in-requires
-page-in-requires c κs = search needs
-
 returns-3 : tie.Need-returns-3
 returns-3 c =
     let a = c .before .before .before .before .before .before .before .before .before .before .args in
@@ -40,9 +31,6 @@ returns-4 c =
     let e = c .before .before .before .before .page-in .ensures ∙ ap pageIn (c .before .before .before .before .before .get .ensures ∙ ap s (c .before .before .before .before .before .before .spot .ensures)) in
     somebody (a .o) _ _ (c .before .before .before .before .before .before .before .before .before .if1 .left) (vc-over (a .card) (a .bus) _ (a .vpi) (recordAt (a .card) (a .memory .now)) (a .o) (a .vci) (a .target) (a .outvpi) (c .before .before .before .before .before .before .before .if2 .left) (sym (ap (λ p. p .known) e) ∙ not-false _ (c .before .before .if3 .left)) (subst (λ p. p .top < a .vci) e (c .if4 .taken)))
 
-off-bus-requires : tie.Need-off-bus-requires
-off-bus-requires c κs = search needs
-
 returns-5 : tie.Need-returns-5
 returns-5 c =
     let a = c .before .before .before .before .before .before .before .before .before .before .before .before .before .before .args in
@@ -50,24 +38,12 @@ returns-5 c =
     let e = c .before .before .before .before .before .before .page-in .ensures ∙ ap pageIn (c .before .before .before .before .before .before .before .get .ensures ∙ ap s (c .before .before .before .before .before .before .before .before .spot .ensures)) in
     somebody (a .o) _ _ (c .before .before .before .before .before .before .before .before .before .before .before .if1 .left) (vc-off (a .card) (a .bus) _ (a .vpi) (recordAt (a .card) (a .memory .now)) (a .o) (a .vci) (a .target) (a .outvpi) (c .before .before .before .before .before .before .before .before .before .if2 .left) (sym (ap (λ p. p .known) e) ∙ not-false _ (c .before .before .before .before .if3 .left)) (subst (λ p. a .vci ≤ p .top) e (c .before .before .if4 .left)) (sym (c .before .off-bus .ensures) ∙ c .if5 .taken))
 
-vci-spot-requires : tie.Need-vci-spot-requires
-vci-spot-requires c κs = search needs
-
-get-requires-2 : tie.Need-get-requires-2
-get-requires-2 c κs = search needs
-
-taken-requires : tie.Need-taken-requires
-taken-requires c κs = search needs
-
 returns-6 : tie.Need-returns-6
 returns-6 c =
     let a = c .before .before .before .before .before .before .before .before .before .before .before .before .before .before .before .before .before .before .args in
     let s = recordAt (a .card) (a .memory .now) in
     let e = c .before .before .before .before .before .before .before .before .before .before .page-in .ensures ∙ ap pageIn (c .before .before .before .before .before .before .before .before .before .before .before .get .ensures ∙ ap s (c .before .before .before .before .before .before .before .before .before .before .before .before .spot .ensures)) in
     somebody (a .o) _ _ (c .before .before .before .before .before .before .before .before .before .before .before .before .before .before .before .if1 .left) (vc-taken (a .card) (a .bus) _ (a .vpi) (recordAt (a .card) (a .memory .now)) (a .o) (a .vci) (a .target) (a .outvpi) (c .before .before .before .before .before .before .before .before .before .before .before .before .before .if2 .left) (sym (ap (λ p. p .known) e) ∙ not-false _ (c .before .before .before .before .before .before .before .before .if3 .left)) (subst (λ p. a .vci ≤ p .top) e (c .before .before .before .before .before .before .if4 .left)) (sym (c .before .before .before .before .before .off-bus .ensures) ∙ c .before .before .before .before .if5 .left) (sym (c .before .taken .ensures ∙ ap taken (c .before .before .get2 .ensures ∙ ap s (c .before .before .before .vci-spot .ensures ∙ ap (λ p. p .place + size * a .vci) e))) ∙ c .if6 .taken))
-
-asks-requires : tie.Need-asks-requires
-asks-requires c κs = search needs
 
 returns-7 : tie.Need-returns-7
 returns-7 c =
@@ -82,16 +58,16 @@ judge-vc-spec =
     (tie.spec
     returns
     returns-2
-    spot-requires
-    get-requires
-    page-in-requires
+    (λ c κs. search needs)
+    (λ c κs. search needs)
+    (λ c κs. search needs)
     returns-3
     returns-4
-    off-bus-requires
+    (λ c κs. search needs)
     returns-5
-    vci-spot-requires
-    get-requires-2
-    taken-requires
+    (λ c κs. search needs)
+    (λ c κs. search needs)
+    (λ c κs. search needs)
     returns-6
-    asks-requires
+    (λ c κs. search needs)
     returns-7)

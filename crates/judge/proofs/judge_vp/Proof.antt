@@ -15,30 +15,15 @@ returns-2 c =
     let a = c .before .before .before .before .before .args in
     somebody (a .o) _ _ (c .before .before .if1 .left) (vp-above (a .card) (a .bus) _ (a .vpi) _ (a .target) (a .outvpi) (c .if2 .taken))
 
-off-bus-requires : tie.Need-off-bus-requires
-off-bus-requires c κs = search needs
-
 returns-3 : tie.Need-returns-3
 returns-3 c =
     let a = c .before .before .before .before .before .before .before .args in
     somebody (a .o) _ _ (c .before .before .before .before .if1 .left) (vp-off (a .card) (a .bus) _ (a .vpi) _ (a .target) (a .outvpi) (c .before .before .if2 .left) (sym (c .before .off-bus .ensures) ∙ c .if3 .taken))
 
-spot-requires : tie.Need-spot-requires
-spot-requires c κs = search needs
-
-get-requires : tie.Need-get-requires
-get-requires c κs = search needs
-
-taken-requires : tie.Need-taken-requires
-taken-requires c κs = search needs
-
 returns-4 : tie.Need-returns-4
 returns-4 c =
     let a = c .before .before .before .before .before .before .before .before .before .before .before .args in
     somebody (a .o) _ _ (c .before .before .before .before .before .before .before .before .if1 .left) (vp-taken (a .card) (a .bus) _ (a .vpi) _ (a .target) (a .outvpi) (c .before .before .before .before .before .before .if2 .left) (sym (c .before .before .before .before .before .off-bus .ensures) ∙ c .before .before .before .before .if3 .left) (sym (c .before .taken .ensures ∙ ap taken (c .before .before .get .ensures ∙ ap (recordAt (a .card) (a .memory .now)) (c .before .before .before .spot .ensures))) ∙ c .if4 .taken))
-
-asks-requires : tie.Need-asks-requires
-asks-requires c κs = search needs
 
 returns-5 : tie.Need-returns-5
 returns-5 c =
@@ -51,11 +36,11 @@ judge-vp-spec =
     (tie.spec
     returns
     returns-2
-    off-bus-requires
+    (λ c κs. search needs)
     returns-3
-    spot-requires
-    get-requires
-    taken-requires
+    (λ c κs. search needs)
+    (λ c κs. search needs)
+    (λ c κs. search needs)
     returns-4
-    asks-requires
+    (λ c κs. search needs)
     returns-5)

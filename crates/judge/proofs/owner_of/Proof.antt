@@ -6,16 +6,10 @@ use borrow.Author.Needs.{needs}
 use Rattle.judge.proofs.owner_of.Statement.{statement}
 use Rattle.judge.proofs.owner_of.Tie as tie
 
-unit-of-requires : tie.Need-unit-of-requires
-unit-of-requires c κs = search needs
-
-find-owner-requires : tie.Need-find-owner-requires
-find-owner-requires c κs = search needs
-
 returns : tie.Need-returns
 returns c =
     let b = c .before .before .before .args .s .now in
     (c .find-owner .ensures .0 ∙ ap (ownerOf (shelfIn b)) (c .before .unit-of .ensures), c .find-owner .ensures .1)
 
 pub owner-of-spec : {M : Type 1} → statement M
-owner-of-spec = tie.close (tie.spec unit-of-requires find-owner-requires returns)
+owner-of-spec = tie.close (tie.spec (λ c κs. search needs) (λ c κs. search needs) returns)

@@ -3,26 +3,8 @@ use borrow.Author.Needs.{needs}
 use Rattle.judge.proofs.page_in.Statement.{statement}
 use Rattle.judge.proofs.page_in.Tie as tie
 
-enum-known-got : tie.Need-enum-known-got
-enum-known-got c = search needs
-
-enum-told : tie.Need-enum-told
-enum-told c = search needs
-
 returns : tie.Need-returns
 returns c = rw (c .enum-told .given .1)
-
-enum-told-2 : tie.Need-enum-told-2
-enum-told-2 c = search needs
-
-enum-told-3 : tie.Need-enum-told-3
-enum-told-3 c = search needs
-
-enum-told-4 : tie.Need-enum-told-4
-enum-told-4 c = search needs
-
-enum-known-r : tie.Need-enum-known-r
-enum-known-r c = search needs
 
 returns-2 : tie.Need-returns-2
 returns-2 c = rw (c .before .before .before .got .given .1, c .enum-told2 .given .1)
@@ -40,13 +22,13 @@ pub page-in-spec : {M : Type 1} → statement M
 page-in-spec =
     tie.close
     (tie.spec
-    enum-known-got
-    enum-told
+    (λ c. search needs)
+    (λ c. search needs)
     returns
-    enum-told-2
-    enum-told-3
-    enum-told-4
-    enum-known-r
+    (λ c. search needs)
+    (λ c. search needs)
+    (λ c. search needs)
+    (λ c. search needs)
     returns-2
     returns-3
     returns-4

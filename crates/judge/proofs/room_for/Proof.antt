@@ -6,12 +6,6 @@ use borrow.Author.Needs.{needs}
 use Rattle.judge.proofs.room_for.Statement.{statement}
 use Rattle.judge.proofs.room_for.Tie as tie
 
-mul-if1 : tie.Need-mul-if1
-mul-if1 c = search needs
-
-add-if1 : tie.Need-add-if1
-add-if1 c = search needs
-
 returns : tie.Need-returns
 returns c =
     let a = c .before .args in
@@ -23,4 +17,4 @@ returns-2 c =
     rw (lt-leb (a .used + size * a .records) (a .room) (c .if1 .left))
 
 pub room-for-spec : {M : Type 1} → statement M
-room-for-spec = tie.close (tie.spec mul-if1 add-if1 returns returns-2)
+room-for-spec = tie.close (tie.spec (λ c. search needs) (λ c. search needs) returns returns-2)

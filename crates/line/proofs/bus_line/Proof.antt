@@ -6,12 +6,6 @@ use borrow.Author.Needs.{needs}
 use Rattle.line.proofs.bus_line.Statement.{statement}
 use Rattle.line.proofs.bus_line.Tie as tie
 
-number-at-requires : tie.Need-number-at-requires
-number-at-requires c κs = search needs
-
-enum-known-units : tie.Need-enum-known-units
-enum-known-units c = search needs
-
 returns : tie.Need-returns
 unfolding busLine
 returns c = simp (sym (c .before .before .before .before .number-at .ensures) ∙ c .before .before .units .given .1, c .if1 .taken)
@@ -19,9 +13,6 @@ returns c = simp (sym (c .before .before .before .before .number-at .ensures) �
 returns-2 : tie.Need-returns-2
 unfolding busLine
 returns-2 c = simp (sym (c .before .before .before .before .before .number-at .ensures) ∙ c .before .before .before .units .given .1, c .if2 .taken)
-
-enum-known-wrong : tie.Need-enum-known-wrong
-enum-known-wrong c = search needs
 
 returns-3 : tie.Need-returns-3
 unfolding busLine
@@ -37,10 +28,10 @@ pub bus-line-spec : {M : Type 1} → statement M
 bus-line-spec =
     tie.close
     (tie.spec
-    number-at-requires
-    enum-known-units
+    (λ c κs. search needs)
+    (λ c. search needs)
     returns
     returns-2
-    enum-known-wrong
+    (λ c. search needs)
     returns-3
     returns-4)

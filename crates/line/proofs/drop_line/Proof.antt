@@ -5,15 +5,6 @@ use borrow.Author.Needs.{needs}
 use Rattle.line.proofs.drop_line.Statement.{statement}
 use Rattle.line.proofs.drop_line.Tie as tie
 
-key-of-requires : tie.Need-key-of-requires
-key-of-requires c κs = search needs
-
-enum-known-unit : tie.Need-enum-known-unit
-enum-known-unit c = search needs
-
-enum-known-wrong : tie.Need-enum-known-wrong
-enum-known-wrong c = search needs
-
 returns : tie.Need-returns
 unfolding dropLine
 returns c = simp (sym (c .before .before .before .key-of .ensures) ∙ c .before .unit .given .1)
@@ -24,4 +15,4 @@ returns-2 c = simp (sym (c .before .before .before .key-of .ensures) ∙ c .befo
 
 pub drop-line-spec : {M : Type 1} → statement M
 drop-line-spec =
-    tie.close (tie.spec key-of-requires enum-known-unit enum-known-wrong returns returns-2)
+    tie.close (tie.spec (λ c κs. search needs) (λ c. search needs) (λ c. search needs) returns returns-2)

@@ -9,38 +9,14 @@ use borrow.Author.Needs.{needs}
 use Rattle.line.proofs.limits_after.Statement.{statement}
 use Rattle.line.proofs.limits_after.Tie as tie
 
-most-vbr-requires : tie.Need-most-vbr-requires
-most-vbr-requires c κs = search needs
-
-number-at-requires : tie.Need-number-at-requires
-number-at-requires c κs = search needs
-
-enum-known-vbr : tie.Need-enum-known-vbr
-enum-known-vbr c = search needs
-
-enum-known-wrong : tie.Need-enum-known-wrong
-enum-known-wrong c = search needs
-
 returns : tie.Need-returns
 returns c = simp (sym (rw (c .before .before .before .before .most-vbr .ensures) at (c .before .before .before .number-at .ensures)) ∙ c .before .wrong .given .1)
-
-after-requires : tie.Need-after-requires
-after-requires c κs = search needs
-
-number-at-requires-2 : tie.Need-number-at-requires-2
-number-at-requires-2 c κs = search needs
-
-enum-known-mark : tie.Need-enum-known-mark
-enum-known-mark c = search needs
 
 cast-t17 : tie.Need-cast-t17
 cast-t17 c =
     let p1 = c .before .before .before .before .before .before in
     let p2 = p1 .before .before .before .before .before in
     omega (arith, ranged-in _ _ _ _ (sym (rw (p1 .before .before .before .most-vbr .ensures) at (p1 .before .before .number-at .ensures)) ∙ p1 .vbr .given .1), vbr-most (p2 .args .mode) (p2 .args .cbrlength))
-
-enum-known-wrong-2 : tie.Need-enum-known-wrong-2
-enum-known-wrong-2 c = search needs
 
 returns-2 : tie.Need-returns-2
 returns-2 c =
@@ -56,15 +32,15 @@ pub limits-after-spec : {M : Type 1} → statement M
 limits-after-spec =
     tie.close
     (tie.spec
-    most-vbr-requires
-    number-at-requires
-    enum-known-vbr
-    enum-known-wrong
+    (λ c κs. search needs)
+    (λ c κs. search needs)
+    (λ c. search needs)
+    (λ c. search needs)
     returns
-    after-requires
-    number-at-requires-2
-    enum-known-mark
+    (λ c κs. search needs)
+    (λ c κs. search needs)
+    (λ c. search needs)
     cast-t17
-    enum-known-wrong-2
+    (λ c. search needs)
     returns-2
     returns-3)

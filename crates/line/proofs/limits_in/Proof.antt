@@ -11,41 +11,11 @@ use borrow.Author.Needs.{needs}
 use Rattle.line.proofs.limits_in.Statement.{statement}
 use Rattle.line.proofs.limits_in.Tie as tie
 
-least-requires : tie.Need-least-requires
-least-requires c κs = search needs
-
-most-length-requires : tie.Need-most-length-requires
-most-length-requires c κs = search needs
-
-number-at-requires : tie.Need-number-at-requires
-number-at-requires c κs = search needs
-
-enum-known-length : tie.Need-enum-known-length
-enum-known-length c = search needs
-
-enum-known-wrong : tie.Need-enum-known-wrong
-enum-known-wrong c = search needs
-
 returns : tie.Need-returns
 unfolding limitsIn
 returns c =
     let p1 = c .before .before .before .before in
     simp (sym (rw (p1 .before .least .ensures, p1 .most-length .ensures) at (c .before .before .before .number-at .ensures)) ∙ c .before .wrong .given .1)
-
-after-requires : tie.Need-after-requires
-after-requires c κs = search needs
-
-most-limit-requires : tie.Need-most-limit-requires
-most-limit-requires c κs = search needs
-
-number-at-requires-2 : tie.Need-number-at-requires-2
-number-at-requires-2 c κs = search needs
-
-enum-known-limit : tie.Need-enum-known-limit
-enum-known-limit c = search needs
-
-after-requires-2 : tie.Need-after-requires-2
-after-requires-2 c κs = search needs
 
 cast-limits-after : tie.Need-cast-limits-after
 cast-limits-after c = omega (arith, ranged-in _ _ _ _ (sym (rw (c .before .before .before .before .before .before .before .before .before .before .before .before .least .ensures, c .before .before .before .before .before .before .before .before .before .before .before .most-length .ensures) at (c .before .before .before .before .before .before .before .before .before .before .number-at .ensures)) ∙ c .before .before .before .before .before .before .before .before .length .given .1), length-most (c .before .before .before .before .before .before .before .before .before .before .before .before .before .before .args .mode))
@@ -53,12 +23,6 @@ cast-limits-after c = omega (arith, ranged-in _ _ _ _ (sym (rw (c .before .befor
 cast-limits-after-2 : tie.Need-cast-limits-after-2
 cast-limits-after-2 c =
     omega (arith, ranged-in _ _ _ _ (sym (rw (c .before .before .before .before .before .before .before .before .before .before .before .before .least .ensures, c .before .before .before .before .before .before .before .before .before .before .before .most-length .ensures) at (c .before .before .before .before .before .before .before .before .before .before .number-at .ensures)) ∙ c .before .before .before .before .before .before .before .before .length .given .1), length-most (c .before .before .before .before .before .before .before .before .before .before .before .before .before .before .args .mode), ranged-in _ _ _ _ (sym (rw (c .before .before .before .before .before .before .before .before .before .before .before .before .least .ensures, c .before .before .before .before .before .most-limit .ensures) at (c .before .before .before .before .number-at2 .ensures)) ∙ c .before .before .limit .given .1), limit-most (c .before .before .before .before .before .before .before .before .before .before .before .before .before .before .args .mode) (c .before .before .before .before .before .before .before .before .length .given .0 .0))
-
-limits-after-requires : tie.Need-limits-after-requires
-limits-after-requires c κs = search needs
-
-enum-known-wrong-2 : tie.Need-enum-known-wrong-2
-enum-known-wrong-2 c = search needs
 
 returns-2 : tie.Need-returns-2
 unfolding limitsIn
@@ -74,20 +38,20 @@ pub limits-in-spec : {M : Type 1} → statement M
 limits-in-spec =
     tie.close
     (tie.spec
-    least-requires
-    most-length-requires
-    number-at-requires
-    enum-known-length
-    enum-known-wrong
+    (λ c κs. search needs)
+    (λ c κs. search needs)
+    (λ c κs. search needs)
+    (λ c. search needs)
+    (λ c. search needs)
     returns
-    after-requires
-    most-limit-requires
-    number-at-requires-2
-    enum-known-limit
-    after-requires-2
+    (λ c κs. search needs)
+    (λ c κs. search needs)
+    (λ c κs. search needs)
+    (λ c. search needs)
+    (λ c κs. search needs)
     cast-limits-after
     cast-limits-after-2
-    limits-after-requires
-    enum-known-wrong-2
+    (λ c κs. search needs)
+    (λ c. search needs)
     returns-2
     returns-3)

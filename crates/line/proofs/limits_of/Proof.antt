@@ -8,33 +8,9 @@ use borrow.Author.Needs.{needs}
 use Rattle.line.proofs.limits_of.Statement.{statement}
 use Rattle.line.proofs.limits_of.Tie as tie
 
-field-requires : tie.Need-field-requires
-field-requires c κs = search needs
-
-after-requires : tie.Need-after-requires
-after-requires c κs = search needs
-
-slice-aggregate-is : tie.Need-slice-aggregate-is
-slice-aggregate-is c = search needs
-
-is-requires : tie.Need-is-requires
-is-requires c κs = search needs
-
-limits-in-requires : tie.Need-limits-in-requires
-limits-in-requires c κs = search needs
-
 returns : tie.Need-returns
 unfolding limitsOf
 returns c = c .limits-in .ensures ∙ limits-in-rest _ _ (c .before .before .before .before .after .ensures) _ ∙ simp (ap (λ x. same x wOne) (sym (c .before .before .before .before .before .field .ensures)) ∙ sym (c .before .before .is .ensures) ∙ c .before .if1 .taken)
-
-slice-aggregate-is-2 : tie.Need-slice-aggregate-is-2
-slice-aggregate-is-2 c = search needs
-
-is-requires-2 : tie.Need-is-requires-2
-is-requires-2 c κs = search needs
-
-limits-in-requires-2 : tie.Need-limits-in-requires-2
-limits-in-requires-2 c κs = search needs
 
 returns-2 : tie.Need-returns-2
 unfolding limitsOf
@@ -48,14 +24,14 @@ pub limits-of-spec : {M : Type 1} → statement M
 limits-of-spec =
     tie.close
     (tie.spec
-    field-requires
-    after-requires
-    slice-aggregate-is
-    is-requires
-    limits-in-requires
+    (λ c κs. search needs)
+    (λ c κs. search needs)
+    (λ c. search needs)
+    (λ c κs. search needs)
+    (λ c κs. search needs)
     returns
-    slice-aggregate-is-2
-    is-requires-2
-    limits-in-requires-2
+    (λ c. search needs)
+    (λ c κs. search needs)
+    (λ c κs. search needs)
     returns-2
     returns-3)

@@ -9,36 +9,15 @@ use borrow.Author.Needs.{needs}
 use Rattle.line.proofs.mc_line.Statement.{statement}
 use Rattle.line.proofs.mc_line.Tie as tie
 
-number-at-requires : tie.Need-number-at-requires
-number-at-requires c κs = search needs
-
-enum-known-unit : tie.Need-enum-known-unit
-enum-known-unit c = search needs
-
 cast-unit : tie.Need-cast-unit
 cast-unit c = omega (arith, ranged-in _ _ _ _ (sym (c .before .before .before .number-at .ensures) ∙ c .before .unit .given .1))
-
-enum-known-wrong : tie.Need-enum-known-wrong
-enum-known-wrong c = search needs
 
 returns : tie.Need-returns
 unfolding mcLine
 returns c = simp (sym (c .before .before .before .number-at .ensures) ∙ c .before .wrong .given .1)
 
-after-requires : tie.Need-after-requires
-after-requires c κs = search needs
-
-number-at-requires-2 : tie.Need-number-at-requires-2
-number-at-requires-2 c κs = search needs
-
-enum-known-n : tie.Need-enum-known-n
-enum-known-n c = search needs
-
 cast-session : tie.Need-cast-session
 cast-session c = omega (arith, ranged-in _ _ _ _ (sym (c .before .before .before .number-at2 .ensures) ∙ c .before .n .given .1))
-
-enum-known-wrong-2 : tie.Need-enum-known-wrong-2
-enum-known-wrong-2 c = search needs
 
 returns-2 : tie.Need-returns-2
 unfolding mcLine
@@ -56,15 +35,15 @@ pub mc-line-spec : {M : Type 1} → statement M
 mc-line-spec =
     tie.close
     (tie.spec
-    number-at-requires
-    enum-known-unit
+    (λ c κs. search needs)
+    (λ c. search needs)
     cast-unit
-    enum-known-wrong
+    (λ c. search needs)
     returns
-    after-requires
-    number-at-requires-2
-    enum-known-n
+    (λ c κs. search needs)
+    (λ c κs. search needs)
+    (λ c. search needs)
     cast-session
-    enum-known-wrong-2
+    (λ c. search needs)
     returns-2
     returns-3)

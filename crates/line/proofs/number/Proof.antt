@@ -19,9 +19,6 @@ Inv-loop s f lo hi v₀ i₀ v i = (i ≤ length s) × (v ≤ hi) × (digits (dr
 abbrev μ-loop : tie.MeasureT-loop
 μ-loop s f lo hi v₀ i₀ v i = length s - i
 
-decimal-requires : tie.Need-decimal-requires Inv-loop μ-loop
-decimal-requires c κs = search needs
-
 returns : tie.Need-returns Inv-loop μ-loop
 returns c = no-number _ _ _ _ (sym (c .before .decimal .ensures) ∙ not-true _ (c .if1 .taken))
 
@@ -29,12 +26,6 @@ loop-holds : tie.Need-loop-holds Inv-loop μ-loop
 loop-holds c =
     let d = sym (c .before .decimal .ensures) ∙ not-false _ (c .if1 .left) in
     (omega arith, omega arith, has-digits _ d, d, refl)
-
-mul-v : tie.Need-mul-v Inv-loop μ-loop
-mul-v c = search needs
-
-shared-slice-read-v : tie.Need-shared-slice-read-v Inv-loop μ-loop
-shared-slice-read-v c = search needs
 
 sub-v : tie.Need-sub-v Inv-loop μ-loop
 sub-v c = omega (arith, at-least _ (digit-at _ _ (c .before .loop-test .taken) (c .before .before .loop .inv .2)))
@@ -49,12 +40,6 @@ returns-2 : tie.Need-returns-2 Inv-loop μ-loop
 returns-2 c =
     let l = c .before .before .before .loop in
     too-big _ _ _ _ (l .inv .3) (rw (l .inv .4, value-on _ _ (c .before .before .loop-test .taken)) (lt-of-lt-of-le (c .if2 .taken) (grows _ _)))
-
-add-i : tie.Need-add-i Inv-loop μ-loop
-add-i c = search needs
-
-loop-less : tie.Need-loop-less Inv-loop μ-loop
-loop-less c = search needs
 
 loop-again : tie.Need-loop-again Inv-loop μ-loop
 loop-again c =
@@ -72,9 +57,6 @@ returns-3 c =
     let l = c .before .before .loop in
     too-small _ _ _ _ (l .inv .3) (rw (l .inv .4, value-end _ _ _ (c .before .loop-test .left)) (c .if3 .taken))
 
-cast-t20 : tie.Need-cast-t20 Inv-loop μ-loop
-cast-t20 c = search needs
-
 returns-4 : tie.Need-returns-4 Inv-loop μ-loop
 returns-4 c =
     let l = c .before .before .loop in
@@ -86,18 +68,18 @@ number-spec =
     (tie.spec
     Inv-loop
     μ-loop
-    decimal-requires
+    (λ c κs. search needs)
     returns
     loop-holds
-    mul-v
-    shared-slice-read-v
+    (λ c. search needs)
+    (λ c. search needs)
     sub-v
     cast-v
     add-v
     returns-2
-    add-i
-    loop-less
+    (λ c. search needs)
+    (λ c. search needs)
     loop-again
     returns-3
-    cast-t20
+    (λ c. search needs)
     returns-4)

@@ -11,33 +11,12 @@ returns : tie.Need-returns
 unfolding readingOf
 returns c = simp (not-true (c .before .before .args .ended) (c .if1 .taken))
 
-field-requires : tie.Need-field-requires
-field-requires c κs = search needs
-
-word-of-requires : tie.Need-word-of-requires
-word-of-requires c κs = search needs
-
-enum-known-kind : tie.Need-enum-known-kind
-enum-known-kind c = search needs
-
-fields-in-requires : tie.Need-fields-in-requires
-fields-in-requires c κs = search needs
-
 returns-2 : tie.Need-returns-2
 unfolding readingOf spoken
 returns-2 c =
     let p1 = c .before .before .before in
     let p2 = p1 .before .before .before .before .before .before in
     simp (not-false (p2 .args .ended) (p1 .before .before .before .before .if1 .left), sym (p1 .before .before .word-of .ensures ∙ ap wordOf (p1 .before .before .before .field .ensures)) ∙ p1 .kind .given .1, ne-eqb _ _ (λ e. c .if2 .taken (p2 .pre ∙ e ∙ sym (c .before .fields-in .ensures))))
-
-after-requires : tie.Need-after-requires
-after-requires c κs = search needs
-
-line-of-requires : tie.Need-line-of-requires
-line-of-requires c κs = search needs
-
-enum-told : tie.Need-enum-told
-enum-told c = search needs
 
 returns-3 : tie.Need-returns-3
 unfolding readingOf spoken
@@ -57,13 +36,13 @@ read-spec =
     tie.close
     (tie.spec
     returns
-    field-requires
-    word-of-requires
-    enum-known-kind
-    fields-in-requires
+    (λ c κs. search needs)
+    (λ c κs. search needs)
+    (λ c. search needs)
+    (λ c κs. search needs)
     returns-2
-    after-requires
-    line-of-requires
-    enum-told
+    (λ c κs. search needs)
+    (λ c κs. search needs)
+    (λ c. search needs)
     returns-3
     returns-4)

@@ -11,52 +11,16 @@ use borrow.Author.Needs.{needs}
 use Rattle.line.proofs.settings_of.Statement.{statement}
 use Rattle.line.proofs.settings_of.Tie as tie
 
-number-at-requires : tie.Need-number-at-requires
-number-at-requires c κs = search needs
-
-enum-known-number : tie.Need-enum-known-number
-enum-known-number c = search needs
-
 cast-number : tie.Need-cast-number
 cast-number c = omega (arith, ranged-in _ _ _ _ (sym (c .before .before .before .number-at .ensures) ∙ c .before .number .given .1))
-
-enum-known-wrong : tie.Need-enum-known-wrong
-enum-known-wrong c = search needs
 
 returns : tie.Need-returns
 unfolding settingsOf
 returns c = simp (sym (c .before .before .before .number-at .ensures) ∙ c .before .wrong .given .1)
 
-after-requires : tie.Need-after-requires
-after-requires c κs = search needs
-
-field-requires : tie.Need-field-requires
-field-requires c κs = search needs
-
-after-requires-2 : tie.Need-after-requires-2
-after-requires-2 c κs = search needs
-
-slice-aggregate-is : tie.Need-slice-aggregate-is
-slice-aggregate-is c = search needs
-
-is-requires : tie.Need-is-requires
-is-requires c κs = search needs
-
-settings-on-requires : tie.Need-settings-on-requires
-settings-on-requires c κs = search needs
-
 returns-2 : tie.Need-returns-2
 unfolding settingsOf
 returns-2 c = c .settings-on .ensures ∙ settings-on-rest _ _ _ (c .before .before .before .before .after2 .ensures) (c .before .before .before .before .before .before .after .ensures) _ _ ∙ simp (sym (c .before .before .before .before .before .before .before .before .before .before .number-at .ensures) ∙ c .before .before .before .before .before .before .before .before .number .given .1, ap (λ x. same x wUni) (sym (c .before .before .before .before .before .field .ensures ∙ after-fields _ _ (c .before .before .before .before .before .before .after .ensures) 0)) ∙ sym (c .before .before .is .ensures) ∙ c .before .if1 .taken)
-
-slice-aggregate-is-2 : tie.Need-slice-aggregate-is-2
-slice-aggregate-is-2 c = search needs
-
-is-requires-2 : tie.Need-is-requires-2
-is-requires-2 c κs = search needs
-
-settings-on-requires-2 : tie.Need-settings-on-requires-2
-settings-on-requires-2 c κs = search needs
 
 returns-3 : tie.Need-returns-3
 unfolding settingsOf
@@ -70,20 +34,20 @@ pub settings-of-spec : {M : Type 1} → statement M
 settings-of-spec =
     tie.close
     (tie.spec
-    number-at-requires
-    enum-known-number
+    (λ c κs. search needs)
+    (λ c. search needs)
     cast-number
-    enum-known-wrong
+    (λ c. search needs)
     returns
-    after-requires
-    field-requires
-    after-requires-2
-    slice-aggregate-is
-    is-requires
-    settings-on-requires
+    (λ c κs. search needs)
+    (λ c κs. search needs)
+    (λ c κs. search needs)
+    (λ c. search needs)
+    (λ c κs. search needs)
+    (λ c κs. search needs)
     returns-2
-    slice-aggregate-is-2
-    is-requires-2
-    settings-on-requires-2
+    (λ c. search needs)
+    (λ c κs. search needs)
+    (λ c κs. search needs)
     returns-3
     returns-4)

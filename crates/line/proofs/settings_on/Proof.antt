@@ -9,38 +9,14 @@ use borrow.Author.Needs.{needs}
 use Rattle.line.proofs.settings_on.Statement.{statement}
 use Rattle.line.proofs.settings_on.Tie as tie
 
-highest-requires : tie.Need-highest-requires
-highest-requires c κs = search needs
-
-number-at-requires : tie.Need-number-at-requires
-number-at-requires c κs = search needs
-
-enum-known-top : tie.Need-enum-known-top
-enum-known-top c = search needs
-
-enum-known-wrong : tie.Need-enum-known-wrong
-enum-known-wrong c = search needs
-
 returns : tie.Need-returns
 unfolding settingsOn
 returns c =
     let p1 = c .before .before .before .before in
     simp (sym (rw (p1 .highest .ensures) at (c .before .before .before .number-at .ensures)) ∙ c .before .wrong .given .1)
 
-after-requires : tie.Need-after-requires
-after-requires c κs = search needs
-
-number-at-requires-2 : tie.Need-number-at-requires-2
-number-at-requires-2 c κs = search needs
-
-enum-known-n : tie.Need-enum-known-n
-enum-known-n c = search needs
-
 cast-priority : tie.Need-cast-priority
 cast-priority c = omega (arith, ranged-in _ _ _ _ (sym (c .before .before .before .number-at2 .ensures) ∙ c .before .n .given .1))
-
-enum-known-wrong-2 : tie.Need-enum-known-wrong-2
-enum-known-wrong-2 c = search needs
 
 returns-2 : tie.Need-returns-2
 unfolding settingsOn
@@ -58,15 +34,15 @@ pub settings-on-spec : {M : Type 1} → statement M
 settings-on-spec =
     tie.close
     (tie.spec
-    highest-requires
-    number-at-requires
-    enum-known-top
-    enum-known-wrong
+    (λ c κs. search needs)
+    (λ c κs. search needs)
+    (λ c. search needs)
+    (λ c. search needs)
     returns
-    after-requires
-    number-at-requires-2
-    enum-known-n
+    (λ c κs. search needs)
+    (λ c κs. search needs)
+    (λ c. search needs)
     cast-priority
-    enum-known-wrong-2
+    (λ c. search needs)
     returns-2
     returns-3)

@@ -6,17 +6,8 @@ use borrow.Author.Needs.{needs}
 use Rattle.line.proofs.to_unit.Statement.{statement}
 use Rattle.line.proofs.to_unit.Tie as tie
 
-number-requires : tie.Need-number-requires
-number-requires c κs = search needs
-
-enum-known-unit : tie.Need-enum-known-unit
-enum-known-unit c = search needs
-
 cast-t7 : tie.Need-cast-t7
 cast-t7 c = omega (arith, ranged-in _ _ _ _ (sym (c .before .before .before .number .ensures) ∙ c .before .unit .given .1))
-
-enum-known-wrong : tie.Need-enum-known-wrong
-enum-known-wrong c = search needs
 
 returns : tie.Need-returns
 returns c = simp (sym (c .before .before .before .number .ensures) ∙ c .before .unit .given .1)
@@ -26,4 +17,4 @@ returns-2 c = simp (sym (c .before .before .before .number .ensures) ∙ c .befo
 
 pub to-unit-spec : {M : Type 1} → statement M
 to-unit-spec =
-    tie.close (tie.spec number-requires enum-known-unit cast-t7 enum-known-wrong returns returns-2)
+    tie.close (tie.spec (λ c κs. search needs) (λ c. search needs) cast-t7 (λ c. search needs) returns returns-2)

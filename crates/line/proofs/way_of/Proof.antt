@@ -9,52 +9,16 @@ use borrow.Author.Needs.{needs}
 use Rattle.line.proofs.way_of.Statement.{statement}
 use Rattle.line.proofs.way_of.Tie as tie
 
-field-requires : tie.Need-field-requires
-field-requires c κs = search needs
-
-aimed-requires : tie.Need-aimed-requires
-aimed-requires c κs = search needs
-
-enum-known-target : tie.Need-enum-known-target
-enum-known-target c = search needs
-
-enum-known-wrong : tie.Need-enum-known-wrong
-enum-known-wrong c = search needs
-
 returns : tie.Need-returns
 returns c =
     let p1 = c .before .before .before .before in
     simp (sym (c .before .before .before .aimed .ensures ∙ ap (aimOf _) (p1 .field .ensures)) ∙ c .before .wrong .given .1)
 
-after-requires : tie.Need-after-requires
-after-requires c κs = search needs
-
-number-at-requires : tie.Need-number-at-requires
-number-at-requires c κs = search needs
-
-enum-known-class : tie.Need-enum-known-class
-enum-known-class c = search needs
-
 cast-class : tie.Need-cast-class
 cast-class c = omega (arith, ranged-in _ _ _ _ (sym (c .before .before .before .number-at .ensures) ∙ c .before .class .given .1))
 
-enum-known-wrong-2 : tie.Need-enum-known-wrong-2
-enum-known-wrong-2 c = search needs
-
 returns-2 : tie.Need-returns-2
 returns-2 c = simp (sym (c .before .before .before .before .before .before .before .before .aimed .ensures ∙ ap (aimOf _) (c .before .before .before .before .before .before .before .before .before .field .ensures)) ∙ c .before .before .before .before .before .before .target .given .1, sym (c .before .before .before .number-at .ensures ∙ ap (ranged _ _ _) (after-fields _ _ (c .before .before .before .before .after .ensures) 0)) ∙ c .before .wrong2 .given .1)
-
-after-requires-2 : tie.Need-after-requires-2
-after-requires-2 c κs = search needs
-
-number-at-requires-2 : tie.Need-number-at-requires-2
-number-at-requires-2 c κs = search needs
-
-enum-known-outvpi : tie.Need-enum-known-outvpi
-enum-known-outvpi c = search needs
-
-enum-known-wrong-3 : tie.Need-enum-known-wrong-3
-enum-known-wrong-3 c = search needs
 
 returns-3 : tie.Need-returns-3
 returns-3 c = simp (sym (c .before .before .before .before .before .before .before .before .before .before .before .before .before .aimed .ensures ∙ ap (aimOf _) (c .before .before .before .before .before .before .before .before .before .before .before .before .before .before .field .ensures)) ∙ c .before .before .before .before .before .before .before .before .before .before .before .target .given .1, sym (c .before .before .before .before .before .before .before .before .number-at .ensures ∙ ap (ranged _ _ _) (after-fields _ _ (c .before .before .before .before .before .before .before .before .before .after .ensures) 0)) ∙ c .before .before .before .before .before .before .class .given .1, sym (c .before .before .before .number-at2 .ensures ∙ ap (ranged _ _ _) (second-fields _ _ _ (c .before .before .before .before .after2 .ensures) (c .before .before .before .before .before .before .before .before .before .after .ensures) 0)) ∙ c .before .outvpi .given .1)
@@ -66,20 +30,20 @@ pub way-of-spec : {M : Type 1} → statement M
 way-of-spec =
     tie.close
     (tie.spec
-    field-requires
-    aimed-requires
-    enum-known-target
-    enum-known-wrong
+    (λ c κs. search needs)
+    (λ c κs. search needs)
+    (λ c. search needs)
+    (λ c. search needs)
     returns
-    after-requires
-    number-at-requires
-    enum-known-class
+    (λ c κs. search needs)
+    (λ c κs. search needs)
+    (λ c. search needs)
     cast-class
-    enum-known-wrong-2
+    (λ c. search needs)
     returns-2
-    after-requires-2
-    number-at-requires-2
-    enum-known-outvpi
-    enum-known-wrong-3
+    (λ c κs. search needs)
+    (λ c κs. search needs)
+    (λ c. search needs)
+    (λ c. search needs)
     returns-3
     returns-4)

@@ -5,30 +5,9 @@ use borrow.Author.Needs.{needs}
 use Rattle.lookup.proofs.by_vci.Statement.{statement}
 use Rattle.lookup.proofs.by_vci.Tie as tie
 
-enum-known-got : tie.Need-enum-known-got
-enum-known-got c = search needs
-
-enum-told : tie.Need-enum-told
-enum-told c = search needs
-
 returns : tie.Need-returns
 unfolding byVci
 returns c = rw (c .enum-told .given .1)
-
-enum-told-2 : tie.Need-enum-told-2
-enum-told-2 c = search needs
-
-enum-told-3 : tie.Need-enum-told-3
-enum-told-3 c = search needs
-
-enum-known-r : tie.Need-enum-known-r
-enum-known-r c = search needs
-
-goes-requires : tie.Need-goes-requires
-goes-requires c κs = search needs
-
-enum-told-4 : tie.Need-enum-told-4
-enum-told-4 c = search needs
 
 returns-2 : tie.Need-returns-2
 unfolding byVci
@@ -50,14 +29,14 @@ pub by-vci-spec : {M : Type 1} → statement M
 by-vci-spec =
     tie.close
     (tie.spec
-    enum-known-got
-    enum-told
+    (λ c. search needs)
+    (λ c. search needs)
     returns
-    enum-told-2
-    enum-told-3
-    enum-known-r
-    goes-requires
-    enum-told-4
+    (λ c. search needs)
+    (λ c. search needs)
+    (λ c. search needs)
+    (λ c κs. search needs)
+    (λ c. search needs)
     returns-2
     returns-3
     returns-4

@@ -6,44 +6,11 @@ use borrow.Author.Needs.{needs}
 use Rattle.lookup.proofs.by_vpi.Statement.{statement}
 use Rattle.lookup.proofs.by_vpi.Tie as tie
 
-enum-told : tie.Need-enum-told
-enum-told c = search needs
-
-enum-told-2 : tie.Need-enum-told-2
-enum-told-2 c = search needs
-
-enum-known-r : tie.Need-enum-known-r
-enum-known-r c = search needs
-
-goes-requires : tie.Need-goes-requires
-goes-requires c κs = search needs
-
-enum-known-r-2 : tie.Need-enum-known-r-2
-enum-known-r-2 c = search needs
-
 returns : tie.Need-returns
 unfolding byVpi
 returns c =
     let p = c .before .before .before .r2 .given in
     rw (p .1, lt-ltb (p .0 .0) (c .before .before .before .before .before .before .args .h .vci) (c .if1 .taken))
-
-cast-at : tie.Need-cast-at
-cast-at c = search needs
-
-cast-at-2 : tie.Need-cast-at-2
-cast-at-2 c = search needs
-
-mul-at : tie.Need-mul-at
-mul-at c = search needs
-
-add-at : tie.Need-add-at
-add-at c = search needs
-
-get-requires : tie.Need-get-requires
-get-requires c κs = search needs
-
-by-vci-requires : tie.Need-by-vci-requires
-by-vci-requires c κs = search needs
 
 returns-2 : tie.Need-returns-2
 unfolding byVpi
@@ -68,18 +35,18 @@ pub by-vpi-spec : {M : Type 1} → statement M
 by-vpi-spec =
     tie.close
     (tie.spec
-    enum-told
-    enum-told-2
-    enum-known-r
-    goes-requires
-    enum-known-r-2
+    (λ c. search needs)
+    (λ c. search needs)
+    (λ c. search needs)
+    (λ c κs. search needs)
+    (λ c. search needs)
     returns
-    cast-at
-    cast-at-2
-    mul-at
-    add-at
-    get-requires
-    by-vci-requires
+    (λ c. search needs)
+    (λ c. search needs)
+    (λ c. search needs)
+    (λ c. search needs)
+    (λ c κs. search needs)
+    (λ c κs. search needs)
     returns-2
     returns-3
     returns-4

@@ -5,24 +5,6 @@ use borrow.Author.Needs.{needs}
 use Rattle.lookup.proofs.bytes.Statement.{statement}
 use Rattle.lookup.proofs.bytes.Tie as tie
 
-enum-told : tie.Need-enum-told
-enum-told c = search needs
-
-enum-told-2 : tie.Need-enum-told-2
-enum-told-2 c = search needs
-
-enum-known-r : tie.Need-enum-known-r
-enum-known-r c = search needs
-
-route-requires : tie.Need-route-requires
-route-requires c κs = search needs
-
-enum-known-r-2 : tie.Need-enum-known-r-2
-enum-known-r-2 c = search needs
-
-page-requires : tie.Need-page-requires
-page-requires c κs = search needs
-
 returns : tie.Need-returns
 unfolding bytesOf
 returns c = rw (c .enum-told .given .1)
@@ -43,12 +25,12 @@ pub bytes-spec : {M : Type 1} → statement M
 bytes-spec =
     tie.close
     (tie.spec
-    enum-told
-    enum-told-2
-    enum-known-r
-    route-requires
-    enum-known-r-2
-    page-requires
+    (λ c. search needs)
+    (λ c. search needs)
+    (λ c. search needs)
+    (λ c κs. search needs)
+    (λ c. search needs)
+    (λ c κs. search needs)
     returns
     returns-2
     returns-3

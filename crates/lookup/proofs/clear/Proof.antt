@@ -30,15 +30,6 @@ returns c =
     let e : min (length m) most ≡ l .loop .i = omega arith in
     l .loop .inv .2 ∙ rw e
 
-slice-write-memory : tie.Need-slice-write-memory Inv-loop μ-loop
-slice-write-memory c = search needs
-
-add-i : tie.Need-add-i Inv-loop μ-loop
-add-i c = search needs
-
-loop-less : tie.Need-loop-less Inv-loop μ-loop
-loop-less c = search needs
-
 loop-again : tie.Need-loop-again Inv-loop μ-loop
 loop-again c =
     let l = c .before .before in
@@ -65,9 +56,9 @@ clear-spec =
     loop-holds
     same-length
     returns
-    slice-write-memory
-    add-i
-    loop-less
+    (λ c. search needs)
+    (λ c. search needs)
+    (λ c. search needs)
     loop-again
     same-length-2
     returns-2)

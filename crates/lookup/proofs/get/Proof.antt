@@ -15,29 +15,11 @@ returns c =
     let a = c .before .before .args in
     simp (lt-leb (a .at + size) (length (a .memory .now)) (omega arith))
 
-sub-if2 : tie.Need-sub-if2
-sub-if2 c = search needs
-
 returns-2 : tie.Need-returns-2
 unfolding recordAt
 returns-2 c =
     let a = c .before .before .before .args in
     simp (lt-leb (a .at + size) (length (a .memory .now)) (omega arith))
-
-add-read : tie.Need-add-read
-add-read c = search needs
-
-sub-read : tie.Need-sub-read
-sub-read c = search needs
-
-part-read-start : tie.Need-part-read-start
-part-read-start c = search needs
-
-part-read-end : tie.Need-part-read-end
-part-read-end c = search needs
-
-read-requires : tie.Need-read-requires
-read-requires c κs = search needs
 
 returns-3 : tie.Need-returns-3
 unfolding recordAt
@@ -51,11 +33,11 @@ get-spec =
     tie.close
     (tie.spec
     returns
-    sub-if2
+    (λ c. search needs)
     returns-2
-    add-read
-    sub-read
-    part-read-start
-    part-read-end
-    read-requires
+    (λ c. search needs)
+    (λ c. search needs)
+    (λ c. search needs)
+    (λ c. search needs)
+    (λ c κs. search needs)
     returns-3)

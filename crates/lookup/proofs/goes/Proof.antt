@@ -11,9 +11,6 @@ returns : tie.Need-returns
 unfolding goesBy
 returns c = rw (lt-ltb 4095 (c .before .args .vpi) (c .if1 .taken))
 
-write-requires : tie.Need-write-requires
-write-requires c κs = search needs
-
 returns-2 : tie.Need-returns-2
 unfolding goesBy
 returns-2 c =
@@ -21,4 +18,4 @@ returns-2 c =
     ap (Goes (a .routing)) (c .write .ensures) ∙ rw (le-ltb 4095 (a .vpi) (c .before .if1 .left))
 
 pub goes-spec : {M : Type 1} → statement M
-goes-spec = tie.close (tie.spec returns write-requires returns-2)
+goes-spec = tie.close (tie.spec returns (λ c κs. search needs) returns-2)

@@ -9,9 +9,6 @@ use borrow.Author.Needs.{needs}
 use Rattle.lookup.proofs.read.Statement.{statement}
 use Rattle.lookup.proofs.read.Tie as tie
 
-shared-slice-read-kind : tie.Need-shared-slice-read-kind
-shared-slice-read-kind c = search needs
-
 returns : tie.Need-returns
 unfolding recordIn
 returns c = simp (c .if1 .taken)
@@ -20,23 +17,8 @@ returns-2 : tie.Need-returns-2
 unfolding recordIn
 returns-2 c = simp (c .if2 .taken)
 
-two-requires : tie.Need-two-requires
-two-requires c κs = search needs
-
-vpi-in-requires : tie.Need-vpi-in-requires
-vpi-in-requires c κs = search needs
-
-two-requires-2 : tie.Need-two-requires-2
-two-requires-2 c κs = search needs
-
 returns-3 : tie.Need-returns-3
 returns-3 c = (λ i. Is (Route (c .before .before .two .ensures i) (c .before .vpi-in .ensures i) (c .two2 .ensures i))) ∙ sym (kind-route (c .before .before .before .before .before .before .before .before .args .card) (c .before .before .before .before .before .before .before .before .args .b .now) (c .before .before .before .if3 .taken))
-
-two-requires-3 : tie.Need-two-requires-3
-two-requires-3 c κs = search needs
-
-four-requires : tie.Need-four-requires
-four-requires c κs = search needs
 
 returns-4 : tie.Need-returns-4
 returns-4 c = (λ i. Is (Page (c .before .two3 .ensures i) (c .four .ensures i))) ∙ sym (kind-page (c .before .before .before .before .before .before .before .before .args .card) (c .before .before .before .before .before .before .before .before .args .b .now) (c .before .before .if4 .taken))
@@ -49,14 +31,14 @@ pub read-spec : {M : Type 1} → statement M
 read-spec =
     tie.close
     (tie.spec
-    shared-slice-read-kind
+    (λ c. search needs)
     returns
     returns-2
-    two-requires
-    vpi-in-requires
-    two-requires-2
+    (λ c κs. search needs)
+    (λ c κs. search needs)
+    (λ c κs. search needs)
     returns-3
-    two-requires-3
-    four-requires
+    (λ c κs. search needs)
+    (λ c κs. search needs)
     returns-4
     returns-5)

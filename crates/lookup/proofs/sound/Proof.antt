@@ -4,12 +4,9 @@ use borrow.Author.Needs.{needs}
 use Rattle.lookup.proofs.sound.Statement.{statement}
 use Rattle.lookup.proofs.sound.Tie as tie
 
-check-requires : tie.Need-check-requires
-check-requires c κs = search needs
-
 returns : tie.Need-returns
 unfolding soundHeader
 returns c = rw (c .check .ensures)
 
 pub sound-spec : {M : Type 1} → statement M
-sound-spec = tie.close (tie.spec check-requires returns)
+sound-spec = tie.close (tie.spec (λ c κs. search needs) returns)

@@ -7,9 +7,6 @@ use borrow.Author.Needs.{needs}
 use Rattle.lookup.proofs.translate.Statement.{statement}
 use Rattle.lookup.proofs.translate.Tie as tie
 
-read-requires : tie.Need-read-requires
-read-requires c κs = search needs
-
 returns : tie.Need-returns
 unfolding translated
 returns c =
@@ -28,24 +25,6 @@ returns-2 c =
     let e : translated s (a .link) (a .top) (a .place) (a .word) ≡ byFields s (a .top) (a .place) h = ap (byFields s (a .top) (a .place)) (sym (c .before .before .before .before .before .read .ensures)) in
     sym (e ∙ above-top s (a .top) (a .place) h (c .before .before .if1 .left) (c .if2 .taken))
 
-cast-at : tie.Need-cast-at
-cast-at c = search needs
-
-mul-at : tie.Need-mul-at
-mul-at c = search needs
-
-add-at : tie.Need-add-at
-add-at c = search needs
-
-get-requires : tie.Need-get-requires
-get-requires c κs = search needs
-
-enum-known-r : tie.Need-enum-known-r
-enum-known-r c = search needs
-
-enum-told : tie.Need-enum-told
-enum-told c = search needs
-
 returns-3 : tie.Need-returns-3
 unfolding translated byGot
 returns-3 c =
@@ -54,9 +33,6 @@ returns-3 c =
     let h = c .before .before .before .before .before .before .before .before .before .read .result in
     let e : translated s (a .link) (a .top) (a .place) (a .word) ≡ byFields s (a .top) (a .place) h = ap (byFields s (a .top) (a .place)) (sym (c .before .before .before .before .before .before .before .before .before .read .ensures)) in
     sym (e ∙ by-record s (a .top) (a .place) h (c .before .before .before .before .before .before .if1 .left) (c .before .before .before .before .if2 .left) ∙ ap (λ g. byGot s g h) (sym (c .before .before .get .ensures) ∙ c .enum-told .given .1))
-
-by-vpi-requires : tie.Need-by-vpi-requires
-by-vpi-requires c κs = search needs
 
 returns-4 : tie.Need-returns-4
 unfolding translated byGot
@@ -71,15 +47,15 @@ pub translate-spec : {M : Type 1} → statement M
 translate-spec =
     tie.close
     (tie.spec
-    read-requires
+    (λ c κs. search needs)
     returns
     returns-2
-    cast-at
-    mul-at
-    add-at
-    get-requires
-    enum-known-r
-    enum-told
+    (λ c. search needs)
+    (λ c. search needs)
+    (λ c. search needs)
+    (λ c κs. search needs)
+    (λ c. search needs)
+    (λ c. search needs)
     returns-3
-    by-vpi-requires
+    (λ c κs. search needs)
     returns-4)

@@ -5,20 +5,8 @@ use borrow.Author.Needs.{needs}
 use Rattle.lookup.proofs.vpi_in.Statement.{statement}
 use Rattle.lookup.proofs.vpi_in.Tie as tie
 
-enum-told : tie.Need-enum-told
-enum-told c = search needs
-
-shared-slice-read-result : tie.Need-shared-slice-read-result
-shared-slice-read-result c = search needs
-
 cast-result : tie.Need-cast-result
 cast-result c = omega (arith, c .shared-slice-known2 .given 3)
-
-enum-told-2 : tie.Need-enum-told-2
-enum-told-2 c = search needs
-
-two-requires : tie.Need-two-requires
-two-requires c κs = search needs
 
 returns : tie.Need-returns
 returns c = rw (c .before .enum-told .given .1)
@@ -30,10 +18,10 @@ pub vpi-in-spec : {M : Type 1} → statement M
 vpi-in-spec =
     tie.close
     (tie.spec
-    enum-told
-    shared-slice-read-result
+    (λ c. search needs)
+    (λ c. search needs)
     cast-result
-    enum-told-2
-    two-requires
+    (λ c. search needs)
+    (λ c κs. search needs)
     returns
     returns-2)

@@ -5,33 +5,6 @@ use borrow.Author.Needs.{needs}
 use Rattle.named.proofs.put_inlet.Statement.{statement}
 use Rattle.named.proofs.put_inlet.Tie as tie
 
-slice-aggregate-say : tie.Need-slice-aggregate-say
-slice-aggregate-say c = search needs
-
-place-at-requires : tie.Need-place-at-requires
-place-at-requires c κs = search needs
-
-cast-say : tie.Need-cast-say
-cast-say c = search needs
-
-say-requires : tie.Need-say-requires
-say-requires c κs = search needs
-
-slice-aggregate-put-column : tie.Need-slice-aggregate-put-column
-slice-aggregate-put-column c = search needs
-
-put-column-requires : tie.Need-put-column-requires
-put-column-requires c κs = search needs
-
-slice-aggregate-put-column-2 : tie.Need-slice-aggregate-put-column-2
-slice-aggregate-put-column-2 c = search needs
-
-put-column-requires-2 : tie.Need-put-column-requires-2
-put-column-requires-2 c κs = search needs
-
-same-length : tie.Need-same-length
-same-length c = search needs
-
 returns : tie.Need-returns
 returns c = (then _ _ _ _ _ _ _ _ (then _ _ _ _ _ _ _ _ (rw (c .before .before .before .before .before .before .before .before .before .before .before .before .before .place-at .ensures) at (c .before .before .before .before .before .before .before .before .before .before .before .before .say .ensures .0)) (c .before .before .before .before .before .before .before .put-column .ensures .0) (omega arith)) (c .before .before .put-column2 .ensures .0) (omega arith), omega arith)
 
@@ -39,13 +12,13 @@ pub put-inlet-spec : {M : Type 1} → statement M
 put-inlet-spec =
     tie.close
     (tie.spec
-    slice-aggregate-say
-    place-at-requires
-    cast-say
-    say-requires
-    slice-aggregate-put-column
-    put-column-requires
-    slice-aggregate-put-column-2
-    put-column-requires-2
-    same-length
+    (λ c. search needs)
+    (λ c κs. search needs)
+    (λ c. search needs)
+    (λ c κs. search needs)
+    (λ c. search needs)
+    (λ c κs. search needs)
+    (λ c. search needs)
+    (λ c κs. search needs)
+    (λ c. search needs)
     returns)

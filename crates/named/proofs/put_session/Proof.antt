@@ -7,15 +7,6 @@ use borrow.Author.Needs.{needs}
 use Rattle.named.proofs.put_session.Statement.{statement}
 use Rattle.named.proofs.put_session.Tie as tie
 
-hears-requires : tie.Need-hears-requires
-hears-requires c κs = search needs
-
-put-number-requires : tie.Need-put-number-requires
-put-number-requires c κs = search needs
-
-same-length : tie.Need-same-length
-same-length c = search needs
-
 returns : tie.Need-returns
 unfolding sessionText
 returns c = (rw (sym (c .before .before .before .before .before .hears .ensures) ∙ c .before .before .before .before .if1 .taken) (c .before .before .put-number .ensures .0), omega arith)
@@ -26,4 +17,4 @@ returns-2 c = (rw (sym (c .before .hears .ensures) ∙ c .if1 .left) (nothing _ 
 
 pub put-session-spec : {M : Type 1} → statement M
 put-session-spec =
-    tie.close (tie.spec hears-requires put-number-requires same-length returns returns-2)
+    tie.close (tie.spec (λ c κs. search needs) (λ c κs. search needs) (λ c. search needs) returns returns-2)

@@ -17,34 +17,13 @@ Inv-loop out₀ at sessions next₀ i₀ out next i = (i ≤ 256) × (next ≤ n
 abbrev μ-loop : tie.MeasureT-loop
 μ-loop out₀ at sessions next₀ i₀ out next i = 256 - i
 
-slice-aggregate-put : tie.Need-slice-aggregate-put Inv-loop μ-loop
-slice-aggregate-put c = search needs
-
-put-requires : tie.Need-put-requires Inv-loop μ-loop
-put-requires c κs = search needs
-
 loop-holds : tie.Need-loop-holds Inv-loop μ-loop
 loop-holds c = (omega arith, omega arith, refl, no-session _ _ _)
-
-cast-put-session : tie.Need-cast-put-session Inv-loop μ-loop
-cast-put-session c = search needs
-
-put-session-requires : tie.Need-put-session-requires Inv-loop μ-loop
-put-session-requires c κs = search needs
-
-add-i : tie.Need-add-i Inv-loop μ-loop
-add-i c = search needs
-
-loop-less : tie.Need-loop-less Inv-loop μ-loop
-loop-less c = search needs
 
 loop-again : tie.Need-loop-again Inv-loop μ-loop
 loop-again c =
     let l = c .before .before .before .before .before .loop in
     (omega arith, omega arith, search needs, next-session _ _ _ _ _ _ _ _ (l .inv .3) (c .before .before .put-session .ensures .0) (omega arith))
-
-same-length : tie.Need-same-length Inv-loop μ-loop
-same-length c = search needs
 
 returns : tie.Need-returns Inv-loop μ-loop
 returns c =
@@ -58,13 +37,13 @@ put-sessions-spec =
     (tie.spec
     Inv-loop
     μ-loop
-    slice-aggregate-put
-    put-requires
+    (λ c. search needs)
+    (λ c κs. search needs)
     loop-holds
-    cast-put-session
-    put-session-requires
-    add-i
-    loop-less
+    (λ c. search needs)
+    (λ c κs. search needs)
+    (λ c. search needs)
+    (λ c. search needs)
     loop-again
-    same-length
+    (λ c. search needs)
     returns)

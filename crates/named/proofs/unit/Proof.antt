@@ -6,35 +6,14 @@ use borrow.Author.Needs.{needs}
 use Rattle.named.proofs.unit.Statement.{statement}
 use Rattle.named.proofs.unit.Tie as tie
 
-find-requires : tie.Need-find-requires
-find-requires c κs = search needs
-
-enum-known-i : tie.Need-enum-known-i
-enum-known-i c = search needs
-
 put-unit-requires : tie.Need-put-unit-requires
 put-unit-requires c κs =
     let below = found-below (c .before .before .before .before .before .before .before .args .s .now) (c .before .before .before .before .before .before .before .args .number) _ (sym (c .before .before .before .before .find .ensures) ∙ c .before .before .i .given .1) in
     (search needs, below, search needs)
 
-enum-told : tie.Need-enum-told
-enum-told c = search needs
-
-slice-aggregate-put : tie.Need-slice-aggregate-put
-slice-aggregate-put c = search needs
-
-put-requires : tie.Need-put-requires
-put-requires c κs = search needs
-
-same-length : tie.Need-same-length
-same-length c = search needs
-
 returns : tie.Need-returns
 unfolding unitText
 returns c = rw (sym (c .before .before .before .before .before .before .before .find .ensures) ∙ c .before .before .before .before .before .i .given .1) (c .before .before .put-unit .ensures .0)
-
-same-length-2 : tie.Need-same-length-2
-same-length-2 c = search needs
 
 returns-2 : tie.Need-returns-2
 unfolding unitText
@@ -44,13 +23,13 @@ pub unit-spec : {M : Type 1} → statement M
 unit-spec =
     tie.close
     (tie.spec
-    find-requires
-    enum-known-i
+    (λ c κs. search needs)
+    (λ c. search needs)
     put-unit-requires
-    enum-told
-    slice-aggregate-put
-    put-requires
-    same-length
+    (λ c. search needs)
+    (λ c. search needs)
+    (λ c κs. search needs)
+    (λ c. search needs)
     returns
-    same-length-2
+    (λ c. search needs)
     returns-2)

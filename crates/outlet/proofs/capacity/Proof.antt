@@ -8,15 +8,6 @@ use borrow.Author.Needs.{needs}
 use Rattle.outlet.proofs.capacity.Statement.{statement}
 use Rattle.outlet.proofs.capacity.Tie as tie
 
-enum-told : tie.Need-enum-told
-enum-told c = search needs
-
-enum-told-2 : tie.Need-enum-told-2
-enum-told-2 c = search needs
-
-rest-requires : tie.Need-rest-requires
-rest-requires c κs = search needs
-
 returns : tie.Need-returns
 unfolding capacity
 returns c = rw (c .before .enum-told .given .1, c .match2 .keys1)
@@ -55,9 +46,9 @@ pub capacity-spec : {M : Type 1} → statement M
 capacity-spec =
     tie.close
     (tie.spec
-    enum-told
-    enum-told-2
-    rest-requires
+    (λ c. search needs)
+    (λ c. search needs)
+    (λ c κs. search needs)
     returns
     returns-2
     returns-3

@@ -5,11 +5,8 @@ use borrow.Author.Needs.{needs}
 use Rattle.outlet.proofs.held.Statement.{statement}
 use Rattle.outlet.proofs.held.Tie as tie
 
-queue-requires : tie.Need-queue-requires
-queue-requires c κs = search needs
-
 returns : tie.Need-returns
 returns c = ap (λ (r : Ring). r .count) (c .queue .ensures)
 
 pub held-spec : {M : Type 1} → statement M
-held-spec = tie.close (tie.spec queue-requires returns)
+held-spec = tie.close (tie.spec (λ c κs. search needs) returns)

@@ -8,17 +8,8 @@ use borrow.Author.Needs.{needs}
 use Rattle.outlet.proofs.leaving_of.Statement.{statement}
 use Rattle.outlet.proofs.leaving_of.Tie as tie
 
-held-requires : tie.Need-held-requires
-held-requires c κs = search needs
-
 returns : tie.Need-returns
 returns c = sym (leaving-first (c .before .before .before .args .outlet) (rw (c .before .held .ensures) at (c .if1 .taken)))
-
-enum-told : tie.Need-enum-told
-enum-told c = search needs
-
-enum-told-2 : tie.Need-enum-told-2
-enum-told-2 c = search needs
 
 returns-2 : tie.Need-returns-2
 unfolding lowest
@@ -26,26 +17,17 @@ returns-2 c =
     let o = c .before .before .before .before .before .args .outlet in
     sym (leaving-in o One (c .enum-told2 .given .1) ∙ rw (le-ltb _ _ (rw (c .before .before .before .held .ensures) at (c .before .before .if1 .left))))
 
-held-requires-2 : tie.Need-held-requires-2
-held-requires-2 c κs = search needs
-
 returns-3 : tie.Need-returns-3
 unfolding lowest
 returns-3 c =
     let o = c .before .before .before .before .before .before .before .args .outlet in
     sym (leaving-in o Four (c .before .before .enum-told .given .1) ∙ rw (le-ltb _ _ (rw (c .before .before .before .before .before .held .ensures) at (c .before .before .before .before .if1 .left)), lt-ltb _ _ (rw (c .before .held2 .ensures) at (c .if2 .taken))))
 
-held-requires-3 : tie.Need-held-requires-3
-held-requires-3 c κs = search needs
-
 returns-4 : tie.Need-returns-4
 unfolding lowest
 returns-4 c =
     let o = c .before .before .before .before .before .before .before .before .before .args .outlet in
     sym (leaving-in o Four (c .before .before .before .before .enum-told .given .1) ∙ rw (le-ltb _ _ (rw (c .before .before .before .before .before .before .before .held .ensures) at (c .before .before .before .before .before .before .if1 .left)), le-ltb _ _ (rw (c .before .before .before .held2 .ensures) at (c .before .before .if2 .left)), lt-ltb _ _ (rw (c .before .held3 .ensures) at (c .if3 .taken))))
-
-held-requires-4 : tie.Need-held-requires-4
-held-requires-4 c κs = search needs
 
 returns-5 : tie.Need-returns-5
 unfolding lowest
@@ -63,15 +45,15 @@ pub leaving-of-spec : {M : Type 1} → statement M
 leaving-of-spec =
     tie.close
     (tie.spec
-    held-requires
+    (λ c κs. search needs)
     returns
-    enum-told
-    enum-told-2
+    (λ c. search needs)
+    (λ c. search needs)
     returns-2
-    held-requires-2
+    (λ c κs. search needs)
     returns-3
-    held-requires-3
+    (λ c κs. search needs)
     returns-4
-    held-requires-4
+    (λ c κs. search needs)
     returns-5
     returns-6)

@@ -7,18 +7,6 @@ use borrow.Author.Needs.{needs}
 use Rattle.outlet.proofs.limit.Statement.{statement}
 use Rattle.outlet.proofs.limit.Tie as tie
 
-enum-told : tie.Need-enum-told
-enum-told c = search needs
-
-capacity-requires : tie.Need-capacity-requires
-capacity-requires c κs = search needs
-
-enum-told-2 : tie.Need-enum-told-2
-enum-told-2 c = search needs
-
-capacity-requires-2 : tie.Need-capacity-requires-2
-capacity-requires-2 c κs = search needs
-
 returns : tie.Need-returns
 returns c =
     let a = c .before .before .before .args in
@@ -48,10 +36,10 @@ pub limit-spec : {M : Type 1} → statement M
 limit-spec =
     tie.close
     (tie.spec
-    enum-told
-    capacity-requires
-    enum-told-2
-    capacity-requires-2
+    (λ c. search needs)
+    (λ c κs. search needs)
+    (λ c. search needs)
+    (λ c κs. search needs)
     returns
     returns-2
     returns-3

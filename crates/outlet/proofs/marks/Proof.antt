@@ -7,21 +7,6 @@ use borrow.Author.Needs.{needs}
 use Rattle.outlet.proofs.marks.Statement.{statement}
 use Rattle.outlet.proofs.marks.Tie as tie
 
-enum-told : tie.Need-enum-told
-enum-told c = search needs
-
-at-limit-requires : tie.Need-at-limit-requires
-at-limit-requires c κs = search needs
-
-enum-told-2 : tie.Need-enum-told-2
-enum-told-2 c = search needs
-
-at-limit-requires-2 : tie.Need-at-limit-requires-2
-at-limit-requires-2 c κs = search needs
-
-at-limit-requires-3 : tie.Need-at-limit-requires-3
-at-limit-requires-3 c κs = search needs
-
 returns : tie.Need-returns
 returns c =
     let o = c .before .before .before .before .before .args .outlet in
@@ -36,10 +21,10 @@ pub marks-spec : {M : Type 1} → statement M
 marks-spec =
     tie.close
     (tie.spec
-    enum-told
-    at-limit-requires
-    enum-told-2
-    at-limit-requires-2
-    at-limit-requires-3
+    (λ c. search needs)
+    (λ c κs. search needs)
+    (λ c. search needs)
+    (λ c κs. search needs)
+    (λ c κs. search needs)
     returns
     returns-2)

@@ -7,15 +7,6 @@ use borrow.Author.Needs.{needs}
 use Rattle.outlet.proofs.outgoing.Statement.{statement}
 use Rattle.outlet.proofs.outgoing.Tie as tie
 
-read-requires : tie.Need-read-requires
-read-requires c κs = search needs
-
-marked-requires : tie.Need-marked-requires
-marked-requires c κs = search needs
-
-write-requires : tie.Need-write-requires
-write-requires c κs = search needs
-
 returns : tie.Need-returns
 unfolding outgoing
 returns c =
@@ -24,4 +15,4 @@ returns c =
     ∙ (λ i. word (a .link) (record { gfc = 0; vpi = c .before .before .read .ensures i .vpi; vci = c .before .before .read .ensures i .vci; pt = (c .before .marked .ensures ∙ ap (λ (h : Header). marked (a .mark) (h .pt)) (c .before .before .read .ensures)) i; clp = c .before .before .read .ensures i .clp }))
 
 pub outgoing-spec : {M : Type 1} → statement M
-outgoing-spec = tie.close (tie.spec read-requires marked-requires write-requires returns)
+outgoing-spec = tie.close (tie.spec (λ c κs. search needs) (λ c κs. search needs) (λ c κs. search needs) returns)

@@ -8,21 +8,6 @@ use borrow.Author.Needs.{needs}
 use Rattle.outlet.proofs.queue.Statement.{statement}
 use Rattle.outlet.proofs.queue.Tie as tie
 
-array-copy-out-result : tie.Need-array-copy-out-result
-array-copy-out-result c = search needs
-
-array-copy-out-result-2 : tie.Need-array-copy-out-result-2
-array-copy-out-result-2 c = search needs
-
-array-copy-out-result-3 : tie.Need-array-copy-out-result-3
-array-copy-out-result-3 c = search needs
-
-array-copy-out-result-4 : tie.Need-array-copy-out-result-4
-array-copy-out-result-4 c = search needs
-
-empty-requires : tie.Need-empty-requires
-empty-requires c κs = search needs
-
 returns : tie.Need-returns
 returns c = rw (c .before .match .keys1)
 
@@ -46,11 +31,11 @@ pub queue-spec : {M : Type 1} → statement M
 queue-spec =
     tie.close
     (tie.spec
-    array-copy-out-result
-    array-copy-out-result-2
-    array-copy-out-result-3
-    array-copy-out-result-4
-    empty-requires
+    (λ c. search needs)
+    (λ c. search needs)
+    (λ c. search needs)
+    (λ c. search needs)
+    (λ c κs. search needs)
     returns
     returns-2
     returns-3

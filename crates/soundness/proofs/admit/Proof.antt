@@ -14,9 +14,6 @@ use Rattle.soundness.proofs.Noted.{note-bad, note-good, note-nobody, no
 use Rattle.soundness.proofs.admit.Statement.{statement}
 use Rattle.soundness.proofs.admit.Tie as tie
 
-look-requires : tie.Need-look-requires
-look-requires c κs = search needs
-
 returns : tie.Need-returns
 returns c =
     let a = c .before .before .before .args in
@@ -44,9 +41,6 @@ returns-3 c =
     let a = c .before .before .before .before .before .args in
     sym (misfit-in (a .card) (a .s .now) (a .store) (a .rows) (a .unit) (a .right) (good (c .before .before)) _ (there (c .before)) (not-true _ (c .if3 .taken)))
 
-place-of-requires : tie.Need-place-of-requires
-place-of-requires c κs = search needs
-
 returns-4 : tie.Need-returns-4
 returns-4 c =
     let found = c .before .before in
@@ -55,4 +49,4 @@ returns-4 c =
     ∙ sym (comes-in (a .card) (a .s .now) (a .store) (a .rows) (a .unit) (a .right) (good (found .before)) _ (there found) (not-false _ (c .before .if3 .left)))
 
 pub admit-spec : {M : Type 1} → statement M
-admit-spec = tie.close (tie.spec look-requires returns returns-2 returns-3 place-of-requires returns-4)
+admit-spec = tie.close (tie.spec (λ c κs. search needs) returns returns-2 returns-3 (λ c κs. search needs) returns-4)

@@ -4,8 +4,6 @@ use mathlib.Core.Bool.{cond}
 use borrow.Author.Tests.{eq-eqb, ne-eqb}
 use Rattle.soundness.proofs.by.Statement.{statement}
 use Rattle.soundness.proofs.by.Tie as tie
-use Rattle.soundness.proofs.by.Reads as reads
-use Rattle.soundness.proofs.by.Lts as lts
 
 returns : tie.Need-returns
 returns c = let a = c .before .args in sym (ap (λ t. cond t (a .zero) (a .other)) (eq-eqb (a .byte) 0 (c .if1 .taken)))

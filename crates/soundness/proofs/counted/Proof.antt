@@ -5,14 +5,8 @@ use Rattle.soundness.specs.Admission.{toldApart}
 use Rattle.soundness.proofs.counted.Statement.{statement}
 use Rattle.soundness.proofs.counted.Tie as tie
 
-admit-requires : tie.Need-admit-requires
-admit-requires c κs = search needs
-
-told-apart-requires : tie.Need-told-apart-requires
-told-apart-requires c κs = search needs
-
 returns : tie.Need-returns
 returns c = c .told-apart .ensures ∙ ap toldApart (c .before .admit .ensures)
 
 pub counted-spec : {M : Type 1} → statement M
-counted-spec = tie.close (tie.spec admit-requires told-apart-requires returns)
+counted-spec = tie.close (tie.spec (λ c κs. search needs) (λ c κs. search needs) returns)

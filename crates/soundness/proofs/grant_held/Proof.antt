@@ -8,15 +8,6 @@ use Rattle.soundness.proofs.Numbered.{grant-in, grant-out}
 use Rattle.soundness.proofs.grant_held.Statement.{statement}
 use Rattle.soundness.proofs.grant_held.Tie as tie
 
-array-read-note : tie.Need-array-read-note
-array-read-note c = search needs
-
-place-of-requires : tie.Need-place-of-requires
-place-of-requires c κs = search needs
-
-at-requires : tie.Need-at-requires
-at-requires c κs = search needs
-
 returns : tie.Need-returns
 returns c =
     let p = c .before in
@@ -28,4 +19,4 @@ returns-2 : tie.Need-returns-2
 returns-2 c = let a = c .before .before .args in grant-out (cellsIn (a .s .now)) (a .t2) (a .granted) (search needs) (c .if1 .left)
 
 pub grant-held-spec : {M : Type 1} → statement M
-grant-held-spec = tie.close (tie.spec array-read-note place-of-requires at-requires returns returns-2)
+grant-held-spec = tie.close (tie.spec (λ c. search needs) (λ c κs. search needs) (λ c κs. search needs) returns returns-2)

@@ -6,15 +6,6 @@ use Rattle.soundness.proofs.Sounding.{small, some-bus, unfit, places, b
 use Rattle.soundness.proofs.look.Statement.{statement}
 use Rattle.soundness.proofs.look.Tie as tie
 
-shared-slice-read-bus : tie.Need-shared-slice-read-bus
-shared-slice-read-bus c = search needs
-
-shared-slice-read-count : tie.Need-shared-slice-read-count
-shared-slice-read-count c = search needs
-
-roomy-requires : tie.Need-roomy-requires
-roomy-requires c κs = search needs
-
 returns : tie.Need-returns
 returns c =
     let a = c .before .before .before .before .before .args in
@@ -50,9 +41,9 @@ pub look-spec : {M : Type 1} → statement M
 look-spec =
     tie.close
     (tie.spec
-    shared-slice-read-bus
-    shared-slice-read-count
-    roomy-requires
+    (λ c. search needs)
+    (λ c. search needs)
+    (λ c κs. search needs)
     returns
     units-good-requires
     returns-2

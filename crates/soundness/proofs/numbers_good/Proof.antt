@@ -16,26 +16,11 @@ Inv-loop s unit granted each end once₀ held₀ i₀ once held i = (i ≤ end) 
 abbrev μ-loop : tie.MeasureT-loop
 μ-loop s unit granted each end once₀ held₀ i₀ once held i = end - i
 
-shared-slice-read-granted : tie.Need-shared-slice-read-granted Inv-loop μ-loop
-shared-slice-read-granted c = search needs
-
-notes-requires : tie.Need-notes-requires Inv-loop μ-loop
-notes-requires c κs = search needs
-
-shared-slice-read-end : tie.Need-shared-slice-read-end Inv-loop μ-loop
-shared-slice-read-end c = search needs
-
-cast-end : tie.Need-cast-end Inv-loop μ-loop
-cast-end c = search needs
-
 loop-holds : tie.Need-loop-holds Inv-loop μ-loop
 loop-holds c = (omega arith, refl, refl, refl)
 
 at-requires : tie.Need-at-requires Inv-loop μ-loop
 at-requires c κs = let p = c .before .before .before .before .before .before .pre in (p .0, omega arith, omega (arith, p .1 .0))
-
-cast-number : tie.Need-cast-number Inv-loop μ-loop
-cast-number c = search needs
 
 array-read-once : tie.Need-array-read-once Inv-loop μ-loop
 array-read-once c = let start = c .before .before in subst (λ n. n < 32) (sym (c .at .ensures)) (start .before .before .before .before .before .pre .1 .1 (start .loop .i) (omega arith))
@@ -66,33 +51,6 @@ loop-again c =
       l .inv .2 ∙ notes-on b most (l .held) (l .i) (omega arith) ∙ (λ t. notedLeft b (set (l .held) (n t) (note t)) (l .i + 1)),
       length-set (l .held) _ _ ∙ l .inv .3,
     )
-
-grant-held-requires : tie.Need-grant-held-requires Inv-loop μ-loop
-grant-held-requires c κs = search needs
-
-shared-slice-read-nobody-or : tie.Need-shared-slice-read-nobody-or Inv-loop μ-loop
-shared-slice-read-nobody-or c = search needs
-
-nobody-or-requires : tie.Need-nobody-or-requires Inv-loop μ-loop
-nobody-or-requires c κs = search needs
-
-shared-slice-read-nobody-or-2 : tie.Need-shared-slice-read-nobody-or-2 Inv-loop μ-loop
-shared-slice-read-nobody-or-2 c = search needs
-
-nobody-or-requires-2 : tie.Need-nobody-or-requires-2 Inv-loop μ-loop
-nobody-or-requires-2 c κs = search needs
-
-shared-slice-read-nobody-or-3 : tie.Need-shared-slice-read-nobody-or-3 Inv-loop μ-loop
-shared-slice-read-nobody-or-3 c = search needs
-
-nobody-or-requires-3 : tie.Need-nobody-or-requires-3 Inv-loop μ-loop
-nobody-or-requires-3 c κs = search needs
-
-asks-at-requires : tie.Need-asks-at-requires Inv-loop μ-loop
-asks-at-requires c κs = search needs
-
-asks-held-requires : tie.Need-asks-held-requires Inv-loop μ-loop
-asks-held-requires c κs = search needs
 
 -- the loop, behind which all tests are made; what is noted, and what they come to
 abbrev start : tie.After-asks-held Inv-loop μ-loop → tie.At-loop Inv-loop μ-loop
@@ -126,9 +84,6 @@ told c =
 returns : tie.Need-returns Inv-loop μ-loop
 returns c = unheld _ _ _ (told (c .before) .1) (c .if1 .taken)
 
-array-read-result : tie.Need-array-read-result Inv-loop μ-loop
-array-read-result c = search needs
-
 returns-2 : tie.Need-returns-2 Inv-loop μ-loop
 returns-2 c =
     let d = c .before .before in
@@ -147,29 +102,29 @@ numbers-good-spec =
     (tie.spec
     Inv-loop
     μ-loop
-    shared-slice-read-granted
-    notes-requires
-    shared-slice-read-end
-    cast-end
+    (λ c. search needs)
+    (λ c κs. search needs)
+    (λ c. search needs)
+    (λ c. search needs)
     loop-holds
     at-requires
-    cast-number
+    (λ c. search needs)
     array-read-once
     array-read-held
     array-write-held
     add-i
     loop-less
     loop-again
-    grant-held-requires
-    shared-slice-read-nobody-or
-    nobody-or-requires
-    shared-slice-read-nobody-or-2
-    nobody-or-requires-2
-    shared-slice-read-nobody-or-3
-    nobody-or-requires-3
-    asks-at-requires
-    asks-held-requires
+    (λ c κs. search needs)
+    (λ c. search needs)
+    (λ c κs. search needs)
+    (λ c. search needs)
+    (λ c κs. search needs)
+    (λ c. search needs)
+    (λ c κs. search needs)
+    (λ c κs. search needs)
+    (λ c κs. search needs)
     returns
-    array-read-result
+    (λ c. search needs)
     returns-2
     returns-3)

@@ -6,11 +6,6 @@ use Rattle.soundness.proofs.Judged.{over-zero}
 use borrow.Author.Needs.{needs}
 use Rattle.soundness.proofs.over.Statement.{statement}
 use Rattle.soundness.proofs.over.Tie as tie
-use Rattle.soundness.proofs.over.Reads as reads
-use Rattle.soundness.proofs.over.Lts as lts
-
-sub-result : tie.Need-sub-result
-sub-result c = search needs
 
 returns : tie.Need-returns
 returns c = let a = c .before .args in (refl, over-zero (a .n) (a .most))
@@ -19,4 +14,4 @@ returns-2 : tie.Need-returns-2
 returns-2 c = let a = c .before .args in (omega arith, sym (le-leb (a .n) (a .most) (c .if1 .left)))
 
 pub over-spec : {M : Type 1} → statement M
-over-spec = tie.close (tie.spec sub-result returns returns-2)
+over-spec = tie.close (tie.spec (λ c. search needs) returns returns-2)

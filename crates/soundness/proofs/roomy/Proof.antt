@@ -5,12 +5,9 @@ use borrow.Author.Needs.{needs}
 use Rattle.soundness.proofs.roomy.Statement.{statement}
 use Rattle.soundness.proofs.roomy.Tie as tie
 
-mul-result : tie.Need-mul-result
-mul-result c = search needs
-
 returns : tie.Need-returns
 unfolding roomy
 returns c = refl
 
 pub roomy-spec : {M : Type 1} → statement M
-roomy-spec = tie.close (tie.spec mul-result returns)
+roomy-spec = tie.close (tie.spec (λ c. search needs) returns)

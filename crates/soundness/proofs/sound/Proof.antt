@@ -7,11 +7,8 @@ use Rattle.soundness.proofs.Noted.{note-sound}
 use Rattle.soundness.proofs.sound.Statement.{statement}
 use Rattle.soundness.proofs.sound.Tie as tie
 
-look-requires : tie.Need-look-requires
-look-requires c κs = search needs
-
 returns : tie.Need-returns
 returns c = let a = c .before .before .args in ap (λ n. not (eqb n 255)) (c .look .ensures) ∙ note-sound (a .card) (a .s .now) (a .store) (a .rows) 0
 
 pub sound-spec : {M : Type 1} → statement M
-sound-spec = tie.close (tie.spec look-requires returns)
+sound-spec = tie.close (tie.spec (λ c κs. search needs) returns)

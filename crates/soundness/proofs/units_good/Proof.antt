@@ -17,38 +17,8 @@ Inv-loop s bus count links last end worst₀ k₀ i₀ worst k i =
 abbrev μ-loop : tie.MeasureT-loop
 μ-loop s bus count links last end worst₀ k₀ i₀ worst k i = end - i
 
-highest-link-requires : tie.Need-highest-link-requires Inv-loop μ-loop
-highest-link-requires c κs = search needs
-
-over-requires : tie.Need-over-requires Inv-loop μ-loop
-over-requires c κs = search needs
-
-reach-requires : tie.Need-reach-requires Inv-loop μ-loop
-reach-requires c κs = search needs
-
 loop-holds : tie.Need-loop-holds Inv-loop μ-loop
 loop-holds c = (c .reach .ensures, refl, refl)
-
-over-requires-2 : tie.Need-over-requires-2 Inv-loop μ-loop
-over-requires-2 c κs = search needs
-
-lane-requires : tie.Need-lane-requires Inv-loop μ-loop
-lane-requires c κs = search needs
-
-least-requires : tie.Need-least-requires Inv-loop μ-loop
-least-requires c κs = search needs
-
-worse-requires : tie.Need-worse-requires Inv-loop μ-loop
-worse-requires c κs = search needs
-
-add-k : tie.Need-add-k Inv-loop μ-loop
-add-k c = search needs
-
-add-i : tie.Need-add-i Inv-loop μ-loop
-add-i c = search needs
-
-loop-less : tie.Need-loop-less Inv-loop μ-loop
-loop-less c = search needs
 
 loop-again : tie.Need-loop-again Inv-loop μ-loop
 loop-again c =
@@ -79,16 +49,16 @@ units-good-spec =
     (tie.spec
     Inv-loop
     μ-loop
-    highest-link-requires
-    over-requires
-    reach-requires
+    (λ c κs. search needs)
+    (λ c κs. search needs)
+    (λ c κs. search needs)
     loop-holds
-    over-requires-2
-    lane-requires
-    least-requires
-    worse-requires
-    add-k
-    add-i
-    loop-less
+    (λ c κs. search needs)
+    (λ c κs. search needs)
+    (λ c κs. search needs)
+    (λ c κs. search needs)
+    (λ c. search needs)
+    (λ c. search needs)
+    (λ c. search needs)
     loop-again
     returns)

@@ -5,8 +5,6 @@ use mathlib.Core.Logic.{inl, inr}
 use Rattle.soundness.proofs.Judged.{greater-zero}
 use Rattle.soundness.proofs.worse.Statement.{statement}
 use Rattle.soundness.proofs.worse.Tie as tie
-use Rattle.soundness.proofs.worse.Reads as reads
-use Rattle.soundness.proofs.worse.Lts as lts
 
 returns : tie.Need-returns
 returns c = let a = c .before .args in greater-zero (a .a) (a .b) (a .b) (omega arith) (omega arith) (inr refl)

@@ -6,45 +6,6 @@ use borrow.Author.Needs.{needs}
 use Rattle.state.proofs.columns_of.Statement.{statement}
 use Rattle.state.proofs.columns_of.Tie as tie
 
-array-copy-out-q0 : tie.Need-array-copy-out-q0
-array-copy-out-q0 c = search needs
-
-array-copy-out-q1 : tie.Need-array-copy-out-q1
-array-copy-out-q1 c = search needs
-
-array-copy-out-q2 : tie.Need-array-copy-out-q2
-array-copy-out-q2 c = search needs
-
-array-copy-out-q3 : tie.Need-array-copy-out-q3
-array-copy-out-q3 c = search needs
-
-link-byte-requires : tie.Need-link-byte-requires
-link-byte-requires c κs = search needs
-
-cast-t26 : tie.Need-cast-t26
-cast-t26 c = search needs
-
-cast-t28 : tie.Need-cast-t28
-cast-t28 c = search needs
-
-mode-byte-requires : tie.Need-mode-byte-requires
-mode-byte-requires c κs = search needs
-
-mark-byte-requires : tie.Need-mark-byte-requires
-mark-byte-requires c κs = search needs
-
-cast-t32 : tie.Need-cast-t32
-cast-t32 c = search needs
-
-cast-t34 : tie.Need-cast-t34
-cast-t34 c = search needs
-
-cast-t36 : tie.Need-cast-t36
-cast-t36 c = search needs
-
-cast-t38 : tie.Need-cast-t38
-cast-t38 c = search needs
-
 returns : tie.Need-returns
 returns c =
     let a = c .before .before .before .before .before .before .before .before .before .args in
@@ -58,17 +19,17 @@ pub columns-of-spec : {M : Type 1} → statement M
 columns-of-spec =
     tie.close
     (tie.spec
-    array-copy-out-q0
-    array-copy-out-q1
-    array-copy-out-q2
-    array-copy-out-q3
-    link-byte-requires
-    cast-t26
-    cast-t28
-    mode-byte-requires
-    mark-byte-requires
-    cast-t32
-    cast-t34
-    cast-t36
-    cast-t38
+    (λ c. search needs)
+    (λ c. search needs)
+    (λ c. search needs)
+    (λ c. search needs)
+    (λ c κs. search needs)
+    (λ c. search needs)
+    (λ c. search needs)
+    (λ c κs. search needs)
+    (λ c κs. search needs)
+    (λ c. search needs)
+    (λ c. search needs)
+    (λ c. search needs)
+    (λ c. search needs)
     returns)

@@ -8,36 +8,6 @@ use borrow.Author.Needs.{needs}
 use Rattle.state.proofs.declare.Statement.{statement}
 use Rattle.state.proofs.declare.Tie as tie
 
-slice-read-count : tie.Need-slice-read-count
-slice-read-count c = search needs
-
-cast-i : tie.Need-cast-i
-cast-i c = search needs
-
-columns-of-requires : tie.Need-columns-of-requires
-columns-of-requires c κs = search needs
-
-put-columns-requires : tie.Need-put-columns-requires
-put-columns-requires c κs = search needs
-
-slice-aggregate-copy : tie.Need-slice-aggregate-copy
-slice-aggregate-copy c = search needs
-
-mul-copy : tie.Need-mul-copy
-mul-copy c = search needs
-
-add-copy : tie.Need-add-copy
-add-copy c = search needs
-
-copy-requires : tie.Need-copy-requires
-copy-requires c κs = search needs
-
-add-s : tie.Need-add-s
-add-s c = search needs
-
-slice-write-s : tie.Need-slice-write-s
-slice-write-s c = search needs
-
 same-length : tie.Need-same-length
 same-length c =
     let one : length (c .before .before .copy .last .1 .0) ≡ length (c .before .before .before .before .before .before .before .put-columns .last .0) = search needs in
@@ -55,15 +25,15 @@ pub declare-spec : {M : Type 1} → statement M
 declare-spec =
     tie.close
     (tie.spec
-    slice-read-count
-    cast-i
-    columns-of-requires
-    put-columns-requires
-    slice-aggregate-copy
-    mul-copy
-    add-copy
-    copy-requires
-    add-s
-    slice-write-s
+    (λ c. search needs)
+    (λ c. search needs)
+    (λ c κs. search needs)
+    (λ c κs. search needs)
+    (λ c. search needs)
+    (λ c. search needs)
+    (λ c. search needs)
+    (λ c κs. search needs)
+    (λ c. search needs)
+    (λ c. search needs)
     same-length
     returns)

@@ -18,18 +18,9 @@ Inv-loop s number end i₀ i =
 abbrev μ-loop : tie.MeasureT-loop
 μ-loop s number end i₀ i = end - i
 
-shared-slice-read-declared-count : tie.Need-shared-slice-read-declared-count Inv-loop μ-loop
-shared-slice-read-declared-count c = search needs
-
-declared-count-requires : tie.Need-declared-count-requires Inv-loop μ-loop
-declared-count-requires c κs = search needs
-
 loop-holds : tie.Need-loop-holds Inv-loop μ-loop
 unfolding findIn
 loop-holds c = (omega arith, c .declared-count .ensures, refl)
-
-at-requires : tie.Need-at-requires Inv-loop μ-loop
-at-requires c κs = search needs
 
 returns : tie.Need-returns Inv-loop μ-loop
 returns c =
@@ -37,12 +28,6 @@ returns c =
     let a = l .before .before .before .before .args in
     let b = a .s .now in
     sym (l .loop .inv .2 ∙ here (shelfIn b) (units-length b 0 32) (l .loop .i) (a .number) blank (omega arith) (number-at b (l .loop .i) blank (omega arith) ∙ sym (c .before .at .ensures) ∙ c .if1 .taken))
-
-add-i : tie.Need-add-i Inv-loop μ-loop
-add-i c = search needs
-
-loop-less : tie.Need-loop-less Inv-loop μ-loop
-loop-less c = search needs
 
 loop-again : tie.Need-loop-again Inv-loop μ-loop
 loop-again c =
@@ -67,12 +52,12 @@ find-spec =
     (tie.spec
     Inv-loop
     μ-loop
-    shared-slice-read-declared-count
-    declared-count-requires
+    (λ c. search needs)
+    (λ c κs. search needs)
     loop-holds
-    at-requires
+    (λ c κs. search needs)
     returns
-    add-i
-    loop-less
+    (λ c. search needs)
+    (λ c. search needs)
     loop-again
     returns-2)

@@ -8,30 +8,6 @@ use borrow.Author.Needs.{needs}
 use Rattle.state.proofs.join.Statement.{statement}
 use Rattle.state.proofs.join.Tie as tie
 
-mul-at : tie.Need-mul-at
-mul-at c = search needs
-
-add-at : tie.Need-add-at
-add-at c = search needs
-
-cast-at : tie.Need-cast-at
-cast-at c = search needs
-
-add-at-2 : tie.Need-add-at-2
-add-at-2 c = search needs
-
-slice-read-s : tie.Need-slice-read-s
-slice-read-s c = search needs
-
-shl-s : tie.Need-shl-s
-shl-s c = search needs
-
-slice-write-s : tie.Need-slice-write-s
-slice-write-s c = search needs
-
-same-length : tie.Need-same-length
-same-length c = search needs
-
 returns : tie.Need-returns
 unfolding sessionsSet
 returns c =
@@ -41,4 +17,4 @@ returns c =
 pub join-spec : {M : Type 1} → statement M
 join-spec =
     tie.close
-    (tie.spec mul-at add-at cast-at add-at-2 slice-read-s shl-s slice-write-s same-length returns)
+    (tie.spec (λ c. search needs) (λ c. search needs) (λ c. search needs) (λ c. search needs) (λ c. search needs) (λ c. search needs) (λ c. search needs) (λ c. search needs) returns)

@@ -4,12 +4,6 @@ use borrow.Author.Needs.{needs}
 use Rattle.state.proofs.link_byte.Statement.{statement}
 use Rattle.state.proofs.link_byte.Tie as tie
 
-enum-told : tie.Need-enum-told
-enum-told c = search needs
-
-enum-told-2 : tie.Need-enum-told-2
-enum-told-2 c = search needs
-
 returns : tie.Need-returns
 unfolding linkByte
 returns c = search needs
@@ -19,4 +13,4 @@ unfolding linkByte
 returns-2 c = search needs
 
 pub link-byte-spec : {M : Type 1} → statement M
-link-byte-spec = tie.close (tie.spec enum-told enum-told-2 returns returns-2)
+link-byte-spec = tie.close (tie.spec (λ c. search needs) (λ c. search needs) returns returns-2)

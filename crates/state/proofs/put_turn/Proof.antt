@@ -8,26 +8,11 @@ use borrow.Author.Needs.{needs}
 use Rattle.state.proofs.put_turn.Statement.{statement}
 use Rattle.state.proofs.put_turn.Tie as tie
 
-slice-aggregate-copy : tie.Need-slice-aggregate-copy
-slice-aggregate-copy c = search needs
-
 copy-requires : tie.Need-copy-requires
 copy-requires c κs = let a = c .before .before .before .before .before .args in let all : length (a .arbiter .asks) ≡ 32 = search needs in omega arith
 
-array-read-s : tie.Need-array-read-s
-array-read-s c = search needs
-
-slice-write-s : tie.Need-slice-write-s
-slice-write-s c = search needs
-
-array-read-s-2 : tie.Need-array-read-s-2
-array-read-s-2 c = search needs
-
 slice-write-s-2 : tie.Need-slice-write-s-2
 slice-write-s-2 c = simp length-set (omega arith)
-
-array-read-s-3 : tie.Need-array-read-s-3
-array-read-s-3 c = search needs
 
 slice-write-s-3 : tie.Need-slice-write-s-3
 slice-write-s-3 c = simp length-set (omega arith)
@@ -35,14 +20,8 @@ slice-write-s-3 c = simp length-set (omega arith)
 slice-write-s-4 : tie.Need-slice-write-s-4
 slice-write-s-4 c = simp length-set (omega arith)
 
-cast-s : tie.Need-cast-s
-cast-s c = search needs
-
 slice-write-s-5 : tie.Need-slice-write-s-5
 slice-write-s-5 c = simp length-set (omega arith)
-
-cast-s-2 : tie.Need-cast-s-2
-cast-s-2 c = search needs
 
 slice-write-s-6 : tie.Need-slice-write-s-6
 slice-write-s-6 c = simp length-set (omega arith)
@@ -61,18 +40,18 @@ pub put-turn-spec : {M : Type 1} → statement M
 put-turn-spec =
     tie.close
     (tie.spec
-    slice-aggregate-copy
+    (λ c. search needs)
     copy-requires
-    array-read-s
-    slice-write-s
-    array-read-s-2
+    (λ c. search needs)
+    (λ c. search needs)
+    (λ c. search needs)
     slice-write-s-2
-    array-read-s-3
+    (λ c. search needs)
     slice-write-s-3
     slice-write-s-4
-    cast-s
+    (λ c. search needs)
     slice-write-s-5
-    cast-s-2
+    (λ c. search needs)
     slice-write-s-6
     same-length
     returns)

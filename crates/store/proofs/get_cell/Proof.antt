@@ -7,22 +7,10 @@ use borrow.Author.Needs.{needs}
 use Rattle.store.proofs.get_cell.Statement.{statement}
 use Rattle.store.proofs.get_cell.Tie as tie
 
-add-end : tie.Need-add-end
-add-end c = search needs
-
-sub-result : tie.Need-sub-result
-sub-result c = search needs
-
-part-result-start : tie.Need-part-result-start
-part-result-start c = search needs
-
-part-result-end : tie.Need-part-result-end
-part-result-end c = search needs
-
 returns : tie.Need-returns
 returns c =
     let e : c .before .args .at + 56 - c .before .args .at ≡ 56 = omega arith in
     ap (λ n. take n (drop (c .before .args .at) (c .before .args .store .now))) e
 
 pub get-cell-spec : {M : Type 1} → statement M
-get-cell-spec = tie.close (tie.spec add-end sub-result part-result-start part-result-end returns)
+get-cell-spec = tie.close (tie.spec (λ c. search needs) (λ c. search needs) (λ c. search needs) (λ c. search needs) returns)

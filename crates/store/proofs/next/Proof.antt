@@ -5,12 +5,6 @@ use borrow.Author.Needs.{needs}
 use Rattle.store.proofs.next.Statement.{statement}
 use Rattle.store.proofs.next.Tie as tie
 
-add-after : tie.Need-add-after
-add-after c = search needs
-
-add-result : tie.Need-add-result
-add-result c = search needs
-
 returns : tie.Need-returns
 unfolding next
 returns c = rw (lt-ltb _ _ (c .if1 .taken))
@@ -20,4 +14,4 @@ unfolding next
 returns-2 c = rw (le-ltb _ _ (c .if1 .left))
 
 pub next-spec : {M : Type 1} → statement M
-next-spec = tie.close (tie.spec add-after add-result returns returns-2)
+next-spec = tie.close (tie.spec (λ c. search needs) (λ c. search needs) returns returns-2)

@@ -8,17 +8,11 @@ use borrow.Author.Needs.{needs}
 use Rattle.store.proofs.outlet_at.Statement.{statement}
 use Rattle.store.proofs.outlet_at.Tie as tie
 
-start-requires : tie.Need-start-requires
-start-requires c κs = search needs
-
 add-slot-at : tie.Need-add-slot-at
 add-slot-at c = omega (arith, c .start .ensures, start-le (c .before .args .limits) (c .before .args .queue))
-
-slot-at-requires : tie.Need-slot-at-requires
-slot-at-requires c κs = search needs
 
 returns : tie.Need-returns
 returns c = c .slot-at .ensures ∙ ap (λ s. slotAt (c .before .before .args .place) (s + c .before .before .args .p)) (c .before .start .ensures)
 
 pub outlet-at-spec : {M : Type 1} → statement M
-outlet-at-spec = tie.close (tie.spec start-requires add-slot-at slot-at-requires returns)
+outlet-at-spec = tie.close (tie.spec (λ c κs. search needs) add-slot-at (λ c κs. search needs) returns)

@@ -5,12 +5,9 @@ use borrow.Author.Needs.{needs}
 use Rattle.store.proofs.part_of.Statement.{statement}
 use Rattle.store.proofs.part_of.Tie as tie
 
-mul-result : tie.Need-mul-result
-mul-result c = search needs
-
 returns : tie.Need-returns
 unfolding partOf
 returns c = refl
 
 pub part-of-spec : {M : Type 1} → statement M
-part-of-spec = tie.close (tie.spec mul-result returns)
+part-of-spec = tie.close (tie.spec (λ c. search needs) returns)

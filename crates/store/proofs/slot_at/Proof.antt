@@ -5,12 +5,6 @@ use borrow.Author.Needs.{needs}
 use Rattle.store.proofs.slot_at.Statement.{statement}
 use Rattle.store.proofs.slot_at.Tie as tie
 
-part-of-requires : tie.Need-part-of-requires
-part-of-requires c κs = search needs
-
-mul-result : tie.Need-mul-result
-mul-result c = search needs
-
 add-result : tie.Need-add-result
 unfolding partOf
 add-result c = omega (arith, c .part-of .ensures)
@@ -20,4 +14,4 @@ unfolding slotAt
 returns c = rw (c .part-of .ensures)
 
 pub slot-at-spec : {M : Type 1} → statement M
-slot-at-spec = tie.close (tie.spec part-of-requires mul-result add-result returns)
+slot-at-spec = tie.close (tie.spec (λ c κs. search needs) (λ c. search needs) add-result returns)

@@ -4,12 +4,6 @@ use borrow.Author.Needs.{needs}
 use Rattle.table.proofs.answer_of.Statement.{statement}
 use Rattle.table.proofs.answer_of.Tie as tie
 
-enum-known-outcome : tie.Need-enum-known-outcome
-enum-known-outcome c = search needs
-
-enum-known-outcome-2 : tie.Need-enum-known-outcome-2
-enum-known-outcome-2 c = search needs
-
 returns : tie.Need-returns
 unfolding answerOf
 returns c = rw (c .before .outcome .given .1)
@@ -19,4 +13,4 @@ unfolding answerOf
 returns-2 c = rw (c .before .outcome2 .given .1)
 
 pub answer-of-spec : {M : Type 1} → statement M
-answer-of-spec = tie.close (tie.spec enum-known-outcome enum-known-outcome-2 returns returns-2)
+answer-of-spec = tie.close (tie.spec (λ c. search needs) (λ c. search needs) returns returns-2)

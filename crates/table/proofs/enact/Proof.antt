@@ -13,24 +13,6 @@ use borrow.Author.Needs.{needs}
 use Rattle.table.proofs.enact.Statement.{statement}
 use Rattle.table.proofs.enact.Tie as tie
 
-owner-of-requires : tie.Need-owner-of-requires
-owner-of-requires c κs = search needs
-
-judge-requires : tie.Need-judge-requires
-judge-requires c κs = search needs
-
-is-fine-requires : tie.Need-is-fine-requires
-is-fine-requires c κs = search needs
-
-add-t19 : tie.Need-add-t19
-add-t19 c = search needs
-
-same-length : tie.Need-same-length
-same-length c = search needs
-
-same-length-2 : tie.Need-same-length-2
-same-length-2 c = search needs
-
 returns : tie.Need-returns
 returns c =
     let a = c .before .before .before .before .before .before .before .before .before .args in
@@ -44,33 +26,12 @@ returns c =
       ),
     )
 
-write-requires : tie.Need-write-requires
-write-requires c κs = search needs
-
 enter-requires : tie.Need-enter-requires
 enter-requires c κs =
     let s = c .before .before .before .before .before .before .before .before .before .before .before .before .before .before in
     let a = s .args in
     let e = c .before .before .before .before .before .before .before .judge .ensures ∙ ap (λ o. judgeBy (a .card) (a .room) (eqb (a .p .lines) 0) (recordAt (a .card) (a .memory .now)) (shelfIn (a .s .now)) (a .p .used) o (a .line)) (c .before .before .before .before .before .before .before .before .before .before .owner-of .ensures .0) in
     (s .pre .0 .0, s .pre .1 (sym e ∙ fine-is _ (sym (c .before .before .before .before .before .before .is-fine .ensures) ∙ not-false _ (c .before .before .before .before .before .if1 .left))))
-
-takes-requires : tie.Need-takes-requires
-takes-requires c κs = search needs
-
-mul-t26 : tie.Need-mul-t26
-mul-t26 c = search needs
-
-add-t27 : tie.Need-add-t27
-add-t27 c = search needs
-
-add-t28 : tie.Need-add-t28
-add-t28 c = search needs
-
-same-length-3 : tie.Need-same-length-3
-same-length-3 c = search needs
-
-same-length-4 : tie.Need-same-length-4
-same-length-4 c = search needs
 
 returns-2 : tie.Need-returns-2
 returns-2 c =
@@ -90,19 +51,19 @@ pub enact-spec : {M : Type 1} → statement M
 enact-spec =
     tie.close
     (tie.spec
-    owner-of-requires
-    judge-requires
-    is-fine-requires
-    add-t19
-    same-length
-    same-length-2
+    (λ c κs. search needs)
+    (λ c κs. search needs)
+    (λ c κs. search needs)
+    (λ c. search needs)
+    (λ c. search needs)
+    (λ c. search needs)
     returns
-    write-requires
+    (λ c κs. search needs)
     enter-requires
-    takes-requires
-    mul-t26
-    add-t27
-    add-t28
-    same-length-3
-    same-length-4
+    (λ c κs. search needs)
+    (λ c. search needs)
+    (λ c. search needs)
+    (λ c. search needs)
+    (λ c. search needs)
+    (λ c. search needs)
     returns-2)

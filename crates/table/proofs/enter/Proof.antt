@@ -6,48 +6,15 @@ use borrow.Author.Needs.{needs}
 use Rattle.table.proofs.enter.Statement.{statement}
 use Rattle.table.proofs.enter.Tie as tie
 
-enum-known-line : tie.Need-enum-known-line
-enum-known-line c = search needs
-
-fresh-requires : tie.Need-fresh-requires
-fresh-requires c κs = search needs
-
-enum-known-line-2 : tie.Need-enum-known-line-2
-enum-known-line-2 c = search needs
-
 fresh-requires-2 : tie.Need-fresh-requires-2
 fresh-requires-2 c κs = (rw (c .before .before .line2 .given .1) at (c .before .before .before .before .before .pre .1)) .1
 
 declare-requires : tie.Need-declare-requires
 declare-requires c κs = (c .before .before .before .before .before .before .pre .0, (rw (c .before .before .before .line2 .given .1) at (c .before .before .before .before .before .before .pre .1)) .0)
 
-enum-told : tie.Need-enum-told
-enum-told c = search needs
-
-enum-told-2 : tie.Need-enum-told-2
-enum-told-2 c = search needs
-
-enum-told-3 : tie.Need-enum-told-3
-enum-told-3 c = search needs
-
-enum-told-4 : tie.Need-enum-told-4
-enum-told-4 c = search needs
-
-enum-known-line-3 : tie.Need-enum-known-line-3
-enum-known-line-3 c = search needs
-
-join-requires : tie.Need-join-requires
-join-requires c κs = search needs
-
-same-length : tie.Need-same-length
-same-length c = search needs
-
 returns : tie.Need-returns
 unfolding stateBy
 returns c = c .before .before .fresh .ensures ∙ rw (c .before .before .before .before .before .line .given .1)
-
-same-length-2 : tie.Need-same-length-2
-same-length-2 c = search needs
 
 returns-2 : tie.Need-returns-2
 unfolding stateBy
@@ -72,9 +39,6 @@ returns-6 : tie.Need-returns-6
 unfolding stateBy
 returns-6 c = rw (c .enum-told4 .given .1)
 
-same-length-3 : tie.Need-same-length-3
-same-length-3 c = search needs
-
 returns-7 : tie.Need-returns-7
 unfolding stateBy
 returns-7 c = c .before .before .join .ensures ∙ rw (c .before .before .before .before .before .line3 .given .1)
@@ -83,24 +47,24 @@ pub enter-spec : {M : Type 1} → statement M
 enter-spec =
     tie.close
     (tie.spec
-    enum-known-line
-    fresh-requires
-    enum-known-line-2
+    (λ c. search needs)
+    (λ c κs. search needs)
+    (λ c. search needs)
     fresh-requires-2
     declare-requires
-    enum-told
-    enum-told-2
-    enum-told-3
-    enum-told-4
-    enum-known-line-3
-    join-requires
-    same-length
+    (λ c. search needs)
+    (λ c. search needs)
+    (λ c. search needs)
+    (λ c. search needs)
+    (λ c. search needs)
+    (λ c κs. search needs)
+    (λ c. search needs)
     returns
-    same-length-2
+    (λ c. search needs)
     returns-2
     returns-3
     returns-4
     returns-5
     returns-6
-    same-length-3
+    (λ c. search needs)
     returns-7)

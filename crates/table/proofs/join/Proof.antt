@@ -8,18 +8,6 @@ use borrow.Author.Needs.{needs}
 use Rattle.table.proofs.join.Statement.{statement}
 use Rattle.table.proofs.join.Tie as tie
 
-find-requires : tie.Need-find-requires
-find-requires c κs = search needs
-
-enum-known-i : tie.Need-enum-known-i
-enum-known-i c = search needs
-
-enum-told : tie.Need-enum-told
-enum-told c = search needs
-
-same-length : tie.Need-same-length
-same-length c = search needs
-
 returns : tie.Need-returns
 unfolding joinedAt
 returns c =
@@ -32,9 +20,6 @@ join-requires c κs =
     let b = s .args .s .now in
     (s .pre, found-in (shelfIn b) (s .args .number) (c .before .before .i .given .0 .0) (units-length b 0 32) (sym (c .before .before .before .before .find .ensures) ∙ c .before .before .i .given .1))
 
-same-length-2 : tie.Need-same-length-2
-same-length-2 c = search needs
-
 returns-2 : tie.Need-returns-2
 unfolding joinedAt
 returns-2 c =
@@ -45,11 +30,11 @@ pub join-spec : {M : Type 1} → statement M
 join-spec =
     tie.close
     (tie.spec
-    find-requires
-    enum-known-i
-    enum-told
-    same-length
+    (λ c κs. search needs)
+    (λ c. search needs)
+    (λ c. search needs)
+    (λ c. search needs)
     returns
     join-requires
-    same-length-2
+    (λ c. search needs)
     returns-2)

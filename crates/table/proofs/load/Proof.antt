@@ -12,18 +12,6 @@ use borrow.Author.Needs.{needs}
 use Rattle.table.proofs.load.Statement.{statement}
 use Rattle.table.proofs.load.Tie as tie
 
-load-text-requires : tie.Need-load-text-requires
-load-text-requires c κs = search needs
-
-element-copy-out-outcome-of : tie.Need-element-copy-out-outcome-of
-element-copy-out-outcome-of c = search needs
-
-outcome-of-requires : tie.Need-outcome-of-requires
-outcome-of-requires c κs = search needs
-
-same-length : tie.Need-same-length
-same-length c = search needs
-
 returns : tie.Need-returns
 returns c =
     let a = c .before .before .before .before .before .before .before .before .before .before .args in
@@ -38,4 +26,4 @@ returns c =
 pub load-spec : {M : Type 1} → statement M
 load-spec =
     tie.close
-    (tie.spec load-text-requires element-copy-out-outcome-of outcome-of-requires same-length returns)
+    (tie.spec (λ c κs. search needs) (λ c. search needs) (λ c κs. search needs) (λ c. search needs) returns)

@@ -11,15 +11,6 @@ use borrow.Author.Needs.{needs}
 use Rattle.table.proofs.load_text.Statement.{statement}
 use Rattle.table.proofs.load_text.Tie as tie
 
-refused-requires : tie.Need-refused-requires
-refused-requires c κs = search needs
-
-same-length : tie.Need-same-length
-same-length c = search needs
-
-same-length-2 : tie.Need-same-length-2
-same-length-2 c = search needs
-
 returns : tie.Need-returns
 returns c =
     let a = c .before .before .before .before .before .before .before .before .before .before .before .args in
@@ -27,31 +18,10 @@ returns c =
     let o = after-long (a .card) (a .text .now) (a .memory .now) (a .store) (a .rows) (c .before .before .before .before .before .before .before .if1 .taken) in
     (e .0 ∙ o .0, (e .1 .0 ∙ o .1, e .1 .1 ∙ o .2))
 
-clear-requires : tie.Need-clear-requires
-clear-requires c κs = search needs
-
-fresh-requires : tie.Need-fresh-requires
-fresh-requires c κs = search needs
-
 read-lines-requires : tie.Need-read-lines-requires
 read-lines-requires c κs =
     let e = c .before .before .before .before .before .before .before .before .clear .ensures in
     (c .before .before .before .before .before .before .before .before .before .before .if1 .left, e ∙ sym (cleared-twice _) ∙ ap cleared (sym e), c .before .before .before .before .fresh .ensures)
-
-is-fine-requires : tie.Need-is-fine-requires
-is-fine-requires c κs = search needs
-
-number-requires : tie.Need-number-requires
-number-requires c κs = search needs
-
-refused-requires-2 : tie.Need-refused-requires-2
-refused-requires-2 c κs = search needs
-
-same-length-3 : tie.Need-same-length-3
-same-length-3 c = search needs
-
-same-length-4 : tie.Need-same-length-4
-same-length-4 c = search needs
 
 returns-2 : tie.Need-returns-2
 returns-2 c =
@@ -71,18 +41,6 @@ returns-2 c =
     let e = c .before .before .before .before .refused2 .ensures in
     (e .0 ∙ ap (λ n. Refused n (p .lines)) (c .before .before .before .before .before .number .ensures) ∙ o .0, (e .1 .0 ∙ o .1, e .1 .1 ∙ o .2))
 
-too-little-requires : tie.Need-too-little-requires
-too-little-requires c κs = search needs
-
-refused-requires-3 : tie.Need-refused-requires-3
-refused-requires-3 c κs = search needs
-
-same-length-5 : tie.Need-same-length-5
-same-length-5 c = search needs
-
-same-length-6 : tie.Need-same-length-6
-same-length-6 c = search needs
-
 returns-3 : tie.Need-returns-3
 returns-3 c =
     let a = c .before .before .before .before .before .before .before .before .before .before .before .before .before .before .before .before .before .before .before .before .before .before .before .before .before .before .before .before .before .before .before .args in
@@ -100,12 +58,6 @@ returns-3 c =
     let o = after-little (a .card) t m (a .store) (a .rows) short p come _ _ holding standing (f ∙ not-false _ (c .before .before .before .before .before .before .before .before .before .before .if2 .left)) (sym (c .before .before .before .before .before .before .before .before .too-little .ensures) ∙ c .before .before .before .before .before .before .before .if3 .taken) in
     let e = c .before .before .before .before .refused3 .ensures in
     (e .0 ∙ o .0, (e .1 .0 ∙ o .1, e .1 .1 ∙ o .2))
-
-same-length-7 : tie.Need-same-length-7
-same-length-7 c = search needs
-
-same-length-8 : tie.Need-same-length-8
-same-length-8 c = search needs
 
 returns-4 : tie.Need-returns-4
 returns-4 c =
@@ -128,24 +80,24 @@ pub load-text-spec : {M : Type 1} → statement M
 load-text-spec =
     tie.close
     (tie.spec
-    refused-requires
-    same-length
-    same-length-2
+    (λ c κs. search needs)
+    (λ c. search needs)
+    (λ c. search needs)
     returns
-    clear-requires
-    fresh-requires
+    (λ c κs. search needs)
+    (λ c κs. search needs)
     read-lines-requires
-    is-fine-requires
-    number-requires
-    refused-requires-2
-    same-length-3
-    same-length-4
+    (λ c κs. search needs)
+    (λ c κs. search needs)
+    (λ c κs. search needs)
+    (λ c. search needs)
+    (λ c. search needs)
     returns-2
-    too-little-requires
-    refused-requires-3
-    same-length-5
-    same-length-6
+    (λ c κs. search needs)
+    (λ c κs. search needs)
+    (λ c. search needs)
+    (λ c. search needs)
     returns-3
-    same-length-7
-    same-length-8
+    (λ c. search needs)
+    (λ c. search needs)
     returns-4)

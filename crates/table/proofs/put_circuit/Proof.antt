@@ -14,32 +14,11 @@ returns c =
     let a = c .before .before .before .args in
     circuit-none (a .card) (a .memory .now) (a .o) (a .vpi) (a .r) (a .vci) (c .if1 .taken)
 
-spot-requires : tie.Need-spot-requires
-spot-requires c κs = search needs
-
-get-requires : tie.Need-get-requires
-get-requires c κs = search needs
-
-page-in-requires : tie.Need-page-in-requires
-page-in-requires c κs = search needs
-
-same-length : tie.Need-same-length
-same-length c = search needs
-
 returns-2 : tie.Need-returns-2
 returns-2 c =
     let a = c .before .before .before .before .before .before .before .before .before .args in
     let e = c .before .before .page-in .ensures ∙ ap pageIn (c .before .before .before .get .ensures ∙ ap (recordAt (a .card) (a .memory .now)) (c .before .before .before .before .spot .ensures)) in
     circuit-no-page (a .card) (a .memory .now) (a .o) (a .vpi) (a .r) (a .vci) (c .before .before .before .before .before .before .if1 .left) (sym (ap (λ p. p .known) e) ∙ not-true _ (c .if2 .taken))
-
-vci-spot-requires : tie.Need-vci-spot-requires
-vci-spot-requires c κs = search needs
-
-put-requires : tie.Need-put-requires
-put-requires c κs = search needs
-
-same-length-2 : tie.Need-same-length-2
-same-length-2 c = search needs
 
 returns-3 : tie.Need-returns-3
 returns-3 c =
@@ -54,12 +33,12 @@ put-circuit-spec =
     tie.close
     (tie.spec
     returns
-    spot-requires
-    get-requires
-    page-in-requires
-    same-length
+    (λ c κs. search needs)
+    (λ c κs. search needs)
+    (λ c κs. search needs)
+    (λ c. search needs)
     returns-2
-    vci-spot-requires
-    put-requires
-    same-length-2
+    (λ c κs. search needs)
+    (λ c κs. search needs)
+    (λ c. search needs)
     returns-3)

@@ -11,15 +11,6 @@ returns c =
     let a = c .before .before .before .args in
     path-none (a .card) (a .memory .now) (a .o) (a .vpi) (a .r) (c .if1 .taken)
 
-spot-requires : tie.Need-spot-requires
-spot-requires c κs = search needs
-
-put-requires : tie.Need-put-requires
-put-requires c κs = search needs
-
-same-length : tie.Need-same-length
-same-length c = search needs
-
 returns-2 : tie.Need-returns-2
 returns-2 c =
     let a = c .before .before .before .before .before .before .before .before .args in
@@ -27,4 +18,4 @@ returns-2 c =
     ∙ path-put (a .card) (a .memory .now) (a .o) (a .vpi) (a .r) (c .before .before .before .before .before .if1 .left)
 
 pub put-path-spec : {M : Type 1} → statement M
-put-path-spec = tie.close (tie.spec returns spot-requires put-requires same-length returns-2)
+put-path-spec = tie.close (tie.spec returns (λ c κs. search needs) (λ c κs. search needs) (λ c. search needs) returns-2)

@@ -37,12 +37,6 @@ returns c =
     let p = c .before .before .before .before .pre in
     (rw z, (p .1 ∙ sym (memory-none (a .card) (a .memory .now)) ∙ rw z, p .2 ∙ rw z))
 
-usable-requires : tie.Need-usable-requires Inv-loop μ-loop
-usable-requires c κs = search needs
-
-begin-requires : tie.Need-begin-requires Inv-loop μ-loop
-begin-requires c κs = search needs
-
 loop-holds : tie.Need-loop-holds Inv-loop μ-loop
 loop-holds c =
     let a = c .before .before .before .before .before .before .args in
@@ -85,9 +79,6 @@ step-requires c κs =
       (state-long (a .card) m t told (l .from) (l .p) (l .memory) (l .s) b, used-most (a .card) m t told (l .from) (l .p) (l .memory) (l .s) b, lines-most (a .card) m t told (l .from) (l .p) (l .memory) (l .s) b (c .before .before .before .before .before .before .before .before .before .before .before .before .before .pre .0)),
       subst (λ n. verdictIn (a .card) n (l .memory) w (l .p) r ≡ Fine → Places w r) (sym room) (step-places (a .card) m t told (l .from) (l .p) (l .memory) (l .s) b e q h r k),
     )
-
-is-fine-requires : tie.Need-is-fine-requires Inv-loop μ-loop
-is-fine-requires c κs = search needs
 
 same-length : tie.Need-same-length Inv-loop μ-loop
 same-length c = c .before .before .before .before .before .before .step .kept .1 .1 .0 ∙ c .before .before .before .before .before .before .before .before .before .before .before .before .before .loop .inv .2
@@ -179,8 +170,8 @@ read-lines-spec =
     Inv-loop
     μ-loop
     returns
-    usable-requires
-    begin-requires
+    (λ c κs. search needs)
+    (λ c κs. search needs)
     loop-holds
     line-at-requires
     sub-read
@@ -188,7 +179,7 @@ read-lines-spec =
     part-read-end
     read-requires
     step-requires
-    is-fine-requires
+    (λ c κs. search needs)
     same-length
     same-length-2
     returns-2

@@ -9,26 +9,11 @@ use borrow.Author.Needs.{needs}
 use Rattle.table.proofs.step.Statement.{statement}
 use Rattle.table.proofs.step.Tie as tie
 
-enum-known-reading : tie.Need-enum-known-reading
-enum-known-reading c = search needs
-
 enact-requires : tie.Need-enact-requires
 enact-requires c κs =
     let s = c .before .before .before .before .before .before .before in
     let a = s .args in
     (s .pre .0, subst (λ r. verdictIn (a .card) (a .room) (a .memory .now) (shelfIn (a .s .now)) (a .p) r ≡ Fine → Places (shelfIn (a .s .now)) r) (c .before .before .before .reading .given .1) (s .pre .1))
-
-enum-known-reading-2 : tie.Need-enum-known-reading-2
-enum-known-reading-2 c = search needs
-
-add-t14 : tie.Need-add-t14
-add-t14 c = search needs
-
-same-length : tie.Need-same-length
-same-length c = search needs
-
-same-length-2 : tie.Need-same-length-2
-same-length-2 c = search needs
 
 returns : tie.Need-returns
 returns c =
@@ -62,11 +47,11 @@ pub step-spec : {M : Type 1} → statement M
 step-spec =
     tie.close
     (tie.spec
-    enum-known-reading
+    (λ c. search needs)
     enact-requires
-    enum-known-reading-2
-    add-t14
-    same-length
-    same-length-2
+    (λ c. search needs)
+    (λ c. search needs)
+    (λ c. search needs)
+    (λ c. search needs)
     returns
     returns-2)

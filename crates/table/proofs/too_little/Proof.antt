@@ -4,17 +4,11 @@ use borrow.Author.Needs.{needs}
 use Rattle.table.proofs.too_little.Statement.{statement}
 use Rattle.table.proofs.too_little.Tie as tie
 
-shared-slice-read-units : tie.Need-shared-slice-read-units
-shared-slice-read-units c = search needs
-
 cast-units : tie.Need-cast-units
 cast-units c = omega (arith, c .shared-slice-known .given 805)
 
 mul-result : tie.Need-mul-result
 mul-result c = omega (arith, c .shared-slice-known .given 805)
 
-returns : tie.Need-returns
-returns c = search needs
-
 pub too-little-spec : {M : Type 1} → statement M
-too-little-spec = tie.close (tie.spec shared-slice-read-units cast-units mul-result returns)
+too-little-spec = tie.close (tie.spec (λ c. search needs) cast-units mul-result (λ c. search needs))

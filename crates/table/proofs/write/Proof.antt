@@ -6,45 +6,6 @@ use borrow.Author.Needs.{needs}
 use Rattle.table.proofs.write.Statement.{statement}
 use Rattle.table.proofs.write.Tie as tie
 
-enum-told : tie.Need-enum-told
-enum-told c = search needs
-
-enum-told-2 : tie.Need-enum-told-2
-enum-told-2 c = search needs
-
-enum-known-line : tie.Need-enum-known-line
-enum-known-line c = search needs
-
-write-requires : tie.Need-write-requires
-write-requires c κs = search needs
-
-put-path-requires : tie.Need-put-path-requires
-put-path-requires c κs = search needs
-
-enum-known-line-2 : tie.Need-enum-known-line-2
-enum-known-line-2 c = search needs
-
-put-path-requires-2 : tie.Need-put-path-requires-2
-put-path-requires-2 c κs = search needs
-
-enum-known-line-3 : tie.Need-enum-known-line-3
-enum-known-line-3 c = search needs
-
-put-path-requires-3 : tie.Need-put-path-requires-3
-put-path-requires-3 c κs = search needs
-
-enum-known-line-4 : tie.Need-enum-known-line-4
-enum-known-line-4 c = search needs
-
-write-requires-2 : tie.Need-write-requires-2
-write-requires-2 c κs = search needs
-
-put-circuit-requires : tie.Need-put-circuit-requires
-put-circuit-requires c κs = search needs
-
-enum-told-3 : tie.Need-enum-told-3
-enum-told-3 c = search needs
-
 returns : tie.Need-returns
 unfolding memoryBy
 returns c = rw (c .enum-told .given .1)
@@ -52,9 +13,6 @@ returns c = rw (c .enum-told .given .1)
 returns-2 : tie.Need-returns-2
 unfolding memoryBy
 returns-2 c = rw (c .enum-told2 .given .1)
-
-same-length : tie.Need-same-length
-same-length c = search needs
 
 returns-3 : tie.Need-returns-3
 unfolding memoryBy
@@ -64,22 +22,13 @@ returns-3 c =
     c .before .before .put-path .ensures
     ∙ ap (λ h. putBy (a .card) (a .memory .now) (a .o) (l .0 .1 .0) (Route h (l .0 .1 .1 .1 .1 .0) 0)) (c .before .before .before .before .write .ensures) ∙ rw (l .1)
 
-same-length-2 : tie.Need-same-length-2
-same-length-2 c = search needs
-
 returns-4 : tie.Need-returns-4
 unfolding memoryBy
 returns-4 c = c .before .before .put-path2 .ensures ∙ rw (c .before .before .before .before .before .line2 .given .1)
 
-same-length-3 : tie.Need-same-length-3
-same-length-3 c = search needs
-
 returns-5 : tie.Need-returns-5
 unfolding memoryBy
 returns-5 c = c .before .before .put-path3 .ensures ∙ rw (c .before .before .before .before .before .line3 .given .1)
-
-same-length-4 : tie.Need-same-length-4
-same-length-4 c = search needs
 
 returns-6 : tie.Need-returns-6
 unfolding memoryBy
@@ -97,27 +46,27 @@ pub write-spec : {M : Type 1} → statement M
 write-spec =
     tie.close
     (tie.spec
-    enum-told
-    enum-told-2
-    enum-known-line
-    write-requires
-    put-path-requires
-    enum-known-line-2
-    put-path-requires-2
-    enum-known-line-3
-    put-path-requires-3
-    enum-known-line-4
-    write-requires-2
-    put-circuit-requires
-    enum-told-3
+    (λ c. search needs)
+    (λ c. search needs)
+    (λ c. search needs)
+    (λ c κs. search needs)
+    (λ c κs. search needs)
+    (λ c. search needs)
+    (λ c κs. search needs)
+    (λ c. search needs)
+    (λ c κs. search needs)
+    (λ c. search needs)
+    (λ c κs. search needs)
+    (λ c κs. search needs)
+    (λ c. search needs)
     returns
     returns-2
-    same-length
+    (λ c. search needs)
     returns-3
-    same-length-2
+    (λ c. search needs)
     returns-4
-    same-length-3
+    (λ c. search needs)
     returns-5
-    same-length-4
+    (λ c. search needs)
     returns-6
     returns-7)

@@ -7,30 +7,6 @@ use borrow.Author.Needs.{needs}
 use Rattle.taking.proofs.hand_out.Statement.{statement}
 use Rattle.taking.proofs.hand_out.Tie as tie
 
-marks-requires : tie.Need-marks-requires
-marks-requires c κs = search needs
-
-four-requires : tie.Need-four-requires
-four-requires c κs = search needs
-
-outgoing-requires : tie.Need-outgoing-requires
-outgoing-requires c κs = search needs
-
-sub-write-cell : tie.Need-sub-write-cell
-sub-write-cell c = search needs
-
-part-write-cell-start : tie.Need-part-write-cell-start
-part-write-cell-start c = search needs
-
-part-write-cell-end : tie.Need-part-write-cell-end
-part-write-cell-end c = search needs
-
-write-cell-requires : tie.Need-write-cell-requires
-write-cell-requires c κs = search needs
-
-same-length : tie.Need-same-length
-same-length c = search needs
-
 returns : tie.Need-returns
 returns c =
     let a = c .before .before .before .before .before .before .before .before .before .before .args in
@@ -41,12 +17,12 @@ pub hand-out-spec : {M : Type 1} → statement M
 hand-out-spec =
     tie.close
     (tie.spec
-    marks-requires
-    four-requires
-    outgoing-requires
-    sub-write-cell
-    part-write-cell-start
-    part-write-cell-end
-    write-cell-requires
-    same-length
+    (λ c κs. search needs)
+    (λ c κs. search needs)
+    (λ c κs. search needs)
+    (λ c. search needs)
+    (λ c. search needs)
+    (λ c. search needs)
+    (λ c κs. search needs)
+    (λ c. search needs)
     returns)

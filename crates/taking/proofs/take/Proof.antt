@@ -19,12 +19,6 @@ use borrow.Author.Needs.{needs}
 use Rattle.taking.proofs.take.Statement.{statement}
 use Rattle.taking.proofs.take.Tie as tie
 
-admit-requires : tie.Need-admit-requires
-admit-requires c κs = search needs
-
-enum-known-place : tie.Need-enum-known-place
-enum-known-place c = search needs
-
 take-at-requires : tie.Need-take-at-requires
 take-at-requires c κs =
     let a = c .before .before .before .before .before .before .before .before .before .before .args in
@@ -33,15 +27,6 @@ take-at-requires c κs =
     let e = sym (c .before .before .before .before .before .admit .ensures) ∙ c .before .before .before .place .given .1 in
     let w = in-place (a .card) b (length (a .store .now)) (a .rows) (a .unit) (eqb (length (a .buffer .now)) 53) _ e in
     (long, eqb-true (length (a .buffer .now)) 53 (w .let-in .fits), w .housed)
-
-enum-known-number : tie.Need-enum-known-number
-enum-known-number c = search needs
-
-uncounted-requires : tie.Need-uncounted-requires
-uncounted-requires c κs = search needs
-
-same-length : tie.Need-same-length
-same-length c = search needs
 
 returns : tie.Need-returns
 returns c =
@@ -86,11 +71,11 @@ pub take-spec : {M : Type 1} → statement M
 take-spec =
     tie.close
     (tie.spec
-    admit-requires
-    enum-known-place
+    (λ c κs. search needs)
+    (λ c. search needs)
     take-at-requires
-    enum-known-number
-    uncounted-requires
-    same-length
+    (λ c. search needs)
+    (λ c κs. search needs)
+    (λ c. search needs)
     returns
     returns-2)

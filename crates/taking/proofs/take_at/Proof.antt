@@ -15,24 +15,6 @@ use borrow.Author.Needs.{needs}
 use Rattle.taking.proofs.take_at.Statement.{statement}
 use Rattle.taking.proofs.take_at.Tie as tie
 
-outlet-at-requires : tie.Need-outlet-at-requires
-outlet-at-requires c κs = search needs
-
-leaving-of-requires : tie.Need-leaving-of-requires
-leaving-of-requires c κs = search needs
-
-enum-known-queue : tie.Need-enum-known-queue
-enum-known-queue c = search needs
-
-enum-told : tie.Need-enum-told
-enum-told c = search needs
-
-uncounted-requires : tie.Need-uncounted-requires
-uncounted-requires c κs = search needs
-
-same-length : tie.Need-same-length
-same-length c = search needs
-
 returns : tie.Need-returns
 unfolding spread
 returns c =
@@ -44,18 +26,6 @@ returns c =
       ap outcomeBy (c .uncounted .ensures) ∙ empty-out (a .s .now) (a .place) below (o .result) (o .ensures) (l .result) (l .ensures) e,
       (empty-state (a .s .now) (a .place) below (o .result) (o .ensures) (l .result) (l .ensures) e, empty-buffer (a .s .now) (a .place) below (o .result) (o .ensures) (l .result) (l .ensures) e (a .store .now) (a .buffer .now)),
     )
-
-queue-requires : tie.Need-queue-requires
-queue-requires c κs = search needs
-
-outlet-at-requires-2 : tie.Need-outlet-at-requires-2
-outlet-at-requires-2 c κs = search needs
-
-at-requires : tie.Need-at-requires
-at-requires c κs = search needs
-
-link-of-requires : tie.Need-link-of-requires
-link-of-requires c κs = search needs
 
 get-cell-requires : tie.Need-get-cell-requires
 get-cell-requires c κs =
@@ -80,21 +50,6 @@ hand-out-requires c κs =
     let i = subst (λ n. n + 56 ≤ length (a .store .now)) (sym w) (inside (a .s .now) (a .place) below (o .result) (o .ensures) (l .result) (l .ensures) q e (length (a .store .now)) (c .before .before .before .before .before .before .before .before .before .before .before .before .before .before .before .before .before .pre .2)) in
     (cell-length (a .store .now) (c .before .before .before .before .before .outlet-at2 .result) (c .before .get-cell .result .now) i (c .before .get-cell .ensures), c .before .before .before .before .before .before .before .before .before .before .before .before .before .before .before .before .before .pre .1)
 
-capacity-requires : tie.Need-capacity-requires
-capacity-requires c κs = search needs
-
-popped-requires : tie.Need-popped-requires
-popped-requires c κs = search needs
-
-cast-q : tie.Need-cast-q
-cast-q c = search needs
-
-add-put-ring : tie.Need-add-put-ring
-add-put-ring c = search needs
-
-add-put-ring-2 : tie.Need-add-put-ring-2
-add-put-ring-2 c = search needs
-
 put-ring-requires : tie.Need-put-ring-requires
 put-ring-requires c κs =
     let a = c .before .before .before .before .before .before .before .before .before .before .before .before .before .before .before .before .before .before .before .before .before .before .before .args in
@@ -105,15 +60,6 @@ put-ring-requires c κs =
     let e = c .before .before .before .before .before .before .before .before .before .before .before .before .before .before .before .queue .given .1 in
     let f = few (a .s .now) (a .place) below (o .result) (o .ensures) (l .result) (l .ensures) q e in
     (c .before .before .before .before .before .before .before .before .before .before .before .before .before .before .before .before .before .before .before .before .before .before .before .pre .0, omega arith, omega arith, below)
-
-counted-requires : tie.Need-counted-requires
-counted-requires c κs = search needs
-
-same-length-2 : tie.Need-same-length-2
-same-length-2 c = search needs
-
-same-length-3 : tie.Need-same-length-3
-same-length-3 c = search needs
 
 returns-2 : tie.Need-returns-2
 unfolding cellAt spread
@@ -142,26 +88,26 @@ pub take-at-spec : {M : Type 1} → statement M
 take-at-spec =
     tie.close
     (tie.spec
-    outlet-at-requires
-    leaving-of-requires
-    enum-known-queue
-    enum-told
-    uncounted-requires
-    same-length
+    (λ c κs. search needs)
+    (λ c κs. search needs)
+    (λ c. search needs)
+    (λ c. search needs)
+    (λ c κs. search needs)
+    (λ c. search needs)
     returns
-    queue-requires
-    outlet-at-requires-2
-    at-requires
-    link-of-requires
+    (λ c κs. search needs)
+    (λ c κs. search needs)
+    (λ c κs. search needs)
+    (λ c κs. search needs)
     get-cell-requires
     hand-out-requires
-    capacity-requires
-    popped-requires
-    cast-q
-    add-put-ring
-    add-put-ring-2
+    (λ c κs. search needs)
+    (λ c κs. search needs)
+    (λ c. search needs)
+    (λ c. search needs)
+    (λ c. search needs)
     put-ring-requires
-    counted-requires
-    same-length-2
-    same-length-3
+    (λ c κs. search needs)
+    (λ c. search needs)
+    (λ c. search needs)
     returns-2)

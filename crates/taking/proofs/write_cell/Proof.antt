@@ -10,26 +10,11 @@ use borrow.Author.Needs.{needs}
 use Rattle.taking.proofs.write_cell.Statement.{statement}
 use Rattle.taking.proofs.write_cell.Tie as tie
 
-put-four-requires : tie.Need-put-four-requires
-put-four-requires c κs = search needs
-
-check-requires : tie.Need-check-requires
-check-requires c κs = search needs
-
-slice-write-buffer : tie.Need-slice-write-buffer
-slice-write-buffer c = search needs
-
 slice-aggregate-copy : tie.Need-slice-aggregate-copy
 slice-aggregate-copy c = let s = c .before .before .before .before .before .before .before .before in sym (length-take-le 48 (s .args .payload .now) (omega (arith, s .pre .0)))
 
-slice-aggregate-copy-2 : tie.Need-slice-aggregate-copy-2
-slice-aggregate-copy-2 c = search needs
-
 copy-requires : tie.Need-copy-requires
 copy-requires c κs = let s = c .before .before .before .before .before .before .before .before .before in let e = length-take-le 48 (s .args .payload .now) (omega (arith, s .pre .0)) in omega (arith, e)
-
-slice-aggregate-copy-3 : tie.Need-slice-aggregate-copy-3
-slice-aggregate-copy-3 c = search needs
 
 -- the local array holds the payload
 payload : (c : tie.After-copy) → c .copy .last .1 .0 ≡ c .before .before .before .before .before .before .before .before .before .before .args .payload .now
@@ -58,13 +43,13 @@ pub write-cell-spec : {M : Type 1} → statement M
 write-cell-spec =
     tie.close
     (tie.spec
-    put-four-requires
-    check-requires
-    slice-write-buffer
+    (λ c κs. search needs)
+    (λ c κs. search needs)
+    (λ c. search needs)
     slice-aggregate-copy
-    slice-aggregate-copy-2
+    (λ c. search needs)
     copy-requires
-    slice-aggregate-copy-3
+    (λ c. search needs)
     copy-requires-2
     same-length
     returns)

@@ -5,12 +5,6 @@ use borrow.Author.Needs.{needs}
 use Rattle.text.proofs.capital.Statement.{statement}
 use Rattle.text.proofs.capital.Tie as tie
 
-add-result : tie.Need-add-result
-add-result c = search needs
-
-add-result-2 : tie.Need-add-result-2
-add-result-2 c = search needs
-
 returns : tie.Need-returns
 unfolding capitalOf
 returns c = simp (lt-ltb _ _ (c .if1 .taken))
@@ -20,4 +14,4 @@ unfolding capitalOf
 returns-2 c = simp (le-ltb _ _ (c .if1 .left))
 
 pub capital-spec : {M : Type 1} → statement M
-capital-spec = tie.close (tie.spec add-result add-result-2 returns returns-2)
+capital-spec = tie.close (tie.spec (λ c. search needs) (λ c. search needs) returns returns-2)

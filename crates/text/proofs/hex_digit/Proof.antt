@@ -13,17 +13,11 @@ returns-2 c = decimal-digit _ (c .before .if1 .left) (c .if2 .taken)
 returns-3 : tie.Need-returns-3
 returns-3 c = before-A _ (c .before .if2 .left) (c .if3 .taken)
 
-sub-result : tie.Need-sub-result
-sub-result c = search needs
-
 returns-4 : tie.Need-returns-4
 returns-4 c = capital-digit _ (c .before .if3 .left) (c .if4 .taken)
 
 returns-5 : tie.Need-returns-5
 returns-5 c = before-a _ (c .before .if4 .left) (c .if5 .taken)
-
-sub-result-2 : tie.Need-sub-result-2
-sub-result-2 c = search needs
 
 returns-6 : tie.Need-returns-6
 returns-6 c = small-digit _ (c .before .if5 .left) (c .if6 .taken)
@@ -38,9 +32,9 @@ hex-digit-spec =
     returns
     returns-2
     returns-3
-    sub-result
+    (λ c. search needs)
     returns-4
     returns-5
-    sub-result-2
+    (λ c. search needs)
     returns-6
     returns-7)

@@ -18,9 +18,6 @@ Inv-loop s most v₀ i₀ v i = (i ≤ length s) × (v ≤ most) × (digits (dro
 abbrev μ-loop : tie.MeasureT-loop
 μ-loop s most v₀ i₀ v i = length s - i
 
-decimal-requires : tie.Need-decimal-requires Inv-loop μ-loop
-decimal-requires c κs = search needs
-
 returns : tie.Need-returns Inv-loop μ-loop
 returns c = no-numeral _ _ (sym (c .before .decimal .ensures) ∙ not-true _ (c .if1 .taken))
 
@@ -28,9 +25,6 @@ loop-holds : tie.Need-loop-holds Inv-loop μ-loop
 loop-holds c =
     let d = sym (c .before .decimal .ensures) ∙ not-false _ (c .if1 .left) in
     (omega arith, omega arith, has-digits _ d, d, refl)
-
-shared-slice-read-digit : tie.Need-shared-slice-read-digit Inv-loop μ-loop
-shared-slice-read-digit c = search needs
 
 sub-digit : tie.Need-sub-digit Inv-loop μ-loop
 sub-digit c = omega (arith, at-least _ (digit-at _ _ (c .before .loop-test .taken) (c .before .before .loop .inv .2)))
@@ -47,18 +41,6 @@ returns-3 : tie.Need-returns-3 Inv-loop μ-loop
 returns-3 c =
     let l = c .before .before .before .before .loop in
     numeral-above _ _ (l .inv .3) (past _ (l .i) (l .v) _ (c .before .before .before .loop-test .taken) (l .inv .4) (omega arith))
-
-mul-v : tie.Need-mul-v Inv-loop μ-loop
-mul-v c = search needs
-
-add-v : tie.Need-add-v Inv-loop μ-loop
-add-v c = search needs
-
-add-i : tie.Need-add-i Inv-loop μ-loop
-add-i c = search needs
-
-loop-less : tie.Need-loop-less Inv-loop μ-loop
-loop-less c = search needs
 
 loop-again : tie.Need-loop-again Inv-loop μ-loop
 loop-again c =
@@ -82,17 +64,17 @@ number-spec =
     (tie.spec
     Inv-loop
     μ-loop
-    decimal-requires
+    (λ c κs. search needs)
     returns
     loop-holds
-    shared-slice-read-digit
+    (λ c. search needs)
     sub-digit
     cast-digit
     returns-2
     returns-3
-    mul-v
-    add-v
-    add-i
-    loop-less
+    (λ c. search needs)
+    (λ c. search needs)
+    (λ c. search needs)
+    (λ c. search needs)
     loop-again
     returns-4)

@@ -20,29 +20,8 @@ abbrev μ-loop : tie.MeasureT-loop
 loop-holds : tie.Need-loop-holds Inv-loop μ-loop
 loop-holds c = (omega arith, paste-zero _ (c .before .before .args .at) (unhexed (c .before .before .args .s .now)), refl)
 
-mul-hex-digit : tie.Need-mul-hex-digit Inv-loop μ-loop
-mul-hex-digit c = search needs
-
-shared-slice-read-hex-digit : tie.Need-shared-slice-read-hex-digit Inv-loop μ-loop
-shared-slice-read-hex-digit c = search needs
-
-hex-digit-requires : tie.Need-hex-digit-requires Inv-loop μ-loop
-hex-digit-requires c κs = search needs
-
 mul-out : tie.Need-mul-out Inv-loop μ-loop
 mul-out c = omega (arith, digit-below _ (2 * c .before .before .before .loop .i) (omega arith) (has-hex _ (c .before .before .before .before .before .before .pre .0)))
-
-mul-hex-digit-2 : tie.Need-mul-hex-digit-2 Inv-loop μ-loop
-mul-hex-digit-2 c = search needs
-
-add-hex-digit : tie.Need-add-hex-digit Inv-loop μ-loop
-add-hex-digit c = search needs
-
-shared-slice-read-hex-digit-2 : tie.Need-shared-slice-read-hex-digit-2 Inv-loop μ-loop
-shared-slice-read-hex-digit-2 c = search needs
-
-hex-digit-requires-2 : tie.Need-hex-digit-requires-2 Inv-loop μ-loop
-hex-digit-requires-2 c κs = search needs
 
 add-out : tie.Need-add-out Inv-loop μ-loop
 add-out c =
@@ -52,18 +31,6 @@ add-out c =
     let y = digit-below _ (2 * l .loop .i + 1) (omega arith) d in
     omega arith
 
-add-out-2 : tie.Need-add-out-2 Inv-loop μ-loop
-add-out-2 c = search needs
-
-slice-write-out : tie.Need-slice-write-out Inv-loop μ-loop
-slice-write-out c = search needs
-
-add-i : tie.Need-add-i Inv-loop μ-loop
-add-i c = search needs
-
-loop-less : tie.Need-loop-less Inv-loop μ-loop
-loop-less c = search needs
-
 loop-again : tie.Need-loop-again Inv-loop μ-loop
 loop-again c =
     let l = c .before .before .before .before .before in
@@ -72,9 +39,6 @@ loop-again c =
       byte-turn (a .out .now) (a .at) (a .s .now) (l .loop .i) (l .loop .out) _ _ (omega arith) (omega arith) (l .loop .inv .1) (c .before .before .hex-digit .ensures) (c .hex-digit2 .ensures),
       simp length-set (l .loop .inv .2),
     )
-
-same-length : tie.Need-same-length Inv-loop μ-loop
-same-length c = search needs
 
 returns : tie.Need-returns Inv-loop μ-loop
 returns c =
@@ -90,19 +54,19 @@ unhex-spec =
     Inv-loop
     μ-loop
     loop-holds
-    mul-hex-digit
-    shared-slice-read-hex-digit
-    hex-digit-requires
+    (λ c. search needs)
+    (λ c. search needs)
+    (λ c κs. search needs)
     mul-out
-    mul-hex-digit-2
-    add-hex-digit
-    shared-slice-read-hex-digit-2
-    hex-digit-requires-2
+    (λ c. search needs)
+    (λ c. search needs)
+    (λ c. search needs)
+    (λ c κs. search needs)
     add-out
-    add-out-2
-    slice-write-out
-    add-i
-    loop-less
+    (λ c. search needs)
+    (λ c. search needs)
+    (λ c. search needs)
+    (λ c. search needs)
     loop-again
-    same-length
+    (λ c. search needs)
     returns)

@@ -9,24 +9,6 @@ use Rattle.written.proofs.event_line.Tie as tie
 returns : tie.Need-returns
 returns c = no-line _ _ (c .if1 .taken)
 
-put-word-requires : tie.Need-put-word-requires
-put-word-requires c κs = search needs
-
-unit-of-requires : tie.Need-unit-of-requires
-unit-of-requires c κs = search needs
-
-put-outcome-requires : tie.Need-put-outcome-requires
-put-outcome-requires c κs = search needs
-
-slice-aggregate-put : tie.Need-slice-aggregate-put
-slice-aggregate-put c = search needs
-
-put-requires : tie.Need-put-requires
-put-requires c κs = search needs
-
-same-length : tie.Need-same-length
-same-length c = search needs
-
 returns-2 : tie.Need-returns-2
 returns-2 c =
     rw (fits _ _ (c .before .before .before .before .before .before .before .before .before .before .before .before .before .before .if1 .left), ← c .before .before .before .before .before .before .before .before .unit-of .ensures)
@@ -37,10 +19,10 @@ event-line-spec =
     tie.close
     (tie.spec
     returns
-    put-word-requires
-    unit-of-requires
-    put-outcome-requires
-    slice-aggregate-put
-    put-requires
-    same-length
+    (λ c κs. search needs)
+    (λ c κs. search needs)
+    (λ c κs. search needs)
+    (λ c. search needs)
+    (λ c κs. search needs)
+    (λ c. search needs)
     returns-2)

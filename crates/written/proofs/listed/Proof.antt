@@ -43,9 +43,6 @@ cast-t13 c = omega (arith, c .struct-known12 .given)
 cast-t14 : tie.Need-cast-t14
 cast-t14 c = omega (arith, c .struct-known13 .given)
 
-returns : tie.Need-returns
-returns c = search needs
-
 pub listed-spec : {M : Type 1} → statement M
 listed-spec =
     tie.close
@@ -63,4 +60,4 @@ listed-spec =
     cast-t12
     cast-t13
     cast-t14
-    returns)
+    (λ c. search needs))

@@ -6,18 +6,9 @@ use borrow.Author.Needs.{needs}
 use Rattle.written.proofs.put_arrived.Statement.{statement}
 use Rattle.written.proofs.put_arrived.Tie as tie
 
-put-number-requires : tie.Need-put-number-requires
-put-number-requires c κs = search needs
-
-put-arrival-requires : tie.Need-put-arrival-requires
-put-arrival-requires c κs = search needs
-
-same-length : tie.Need-same-length
-same-length c = search needs
-
 returns : tie.Need-returns
 returns c = (more _ _ _ _ _ _ (_ ∷ []) _ (one _ _ _ _ _ (c .before .before .before .before .before .before .put-number .ensures .0)) (c .before .before .put-arrival .ensures .0) (omega arith), omega arith)
 
 pub put-arrived-spec : {M : Type 1} → statement M
 put-arrived-spec =
-    tie.close (tie.spec put-number-requires put-arrival-requires same-length returns)
+    tie.close (tie.spec (λ c κs. search needs) (λ c κs. search needs) (λ c. search needs) returns)

@@ -6,22 +6,10 @@ use borrow.Author.Needs.{needs}
 use Rattle.written.proofs.put_empty.Statement.{statement}
 use Rattle.written.proofs.put_empty.Tie as tie
 
-put-number-requires : tie.Need-put-number-requires
-put-number-requires c κs = search needs
-
-slice-aggregate-put-field : tie.Need-slice-aggregate-put-field
-slice-aggregate-put-field c = search needs
-
-put-field-requires : tie.Need-put-field-requires
-put-field-requires c κs = search needs
-
-same-length : tie.Need-same-length
-same-length c = search needs
-
 returns : tie.Need-returns
 returns c = (more _ _ _ _ _ _ (_ ∷ []) _ (one _ _ _ _ _ (c .before .before .before .before .before .before .before .put-number .ensures .0)) (c .before .before .put-field .ensures) (omega arith), omega arith)
 
 pub put-empty-spec : {M : Type 1} → statement M
 put-empty-spec =
     tie.close
-    (tie.spec put-number-requires slice-aggregate-put-field put-field-requires same-length returns)
+    (tie.spec (λ c κs. search needs) (λ c. search needs) (λ c κs. search needs) (λ c. search needs) returns)

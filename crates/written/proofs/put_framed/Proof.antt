@@ -6,21 +6,6 @@ use borrow.Author.Needs.{needs}
 use Rattle.written.proofs.put_framed.Statement.{statement}
 use Rattle.written.proofs.put_framed.Tie as tie
 
-put-number-requires : tie.Need-put-number-requires
-put-number-requires c κs = search needs
-
-put-who-requires : tie.Need-put-who-requires
-put-who-requires c κs = search needs
-
-put-who-requires-2 : tie.Need-put-who-requires-2
-put-who-requires-2 c κs = search needs
-
-put-number-requires-2 : tie.Need-put-number-requires-2
-put-number-requires-2 c κs = search needs
-
-same-length : tie.Need-same-length
-same-length c = search needs
-
 returns : tie.Need-returns
 returns c =
     let w1 = more _ _ _ _ _ _ (_ ∷ []) _ (one _ _ _ _ _ (c .before .before .before .before .before .before .before .before .before .before .before .before .before .before .put-number .ensures .0)) (c .before .before .before .before .before .before .before .before .before .before .put-who .ensures .0) (omega arith) in
@@ -31,9 +16,9 @@ pub put-framed-spec : {M : Type 1} → statement M
 put-framed-spec =
     tie.close
     (tie.spec
-    put-number-requires
-    put-who-requires
-    put-who-requires-2
-    put-number-requires-2
-    same-length
+    (λ c κs. search needs)
+    (λ c κs. search needs)
+    (λ c κs. search needs)
+    (λ c κs. search needs)
+    (λ c. search needs)
     returns)

@@ -6,17 +6,8 @@ use borrow.Author.Needs.{needs}
 use Rattle.written.proofs.put_heard.Statement.{statement}
 use Rattle.written.proofs.put_heard.Tie as tie
 
-put-number-requires : tie.Need-put-number-requires
-put-number-requires c κs = search needs
-
-put-hearing-requires : tie.Need-put-hearing-requires
-put-hearing-requires c κs = search needs
-
-same-length : tie.Need-same-length
-same-length c = search needs
-
 returns : tie.Need-returns
 returns c = (more _ _ _ _ _ _ (_ ∷ []) _ (one _ _ _ _ _ (c .before .before .before .before .before .before .put-number .ensures .0)) (c .before .before .put-hearing .ensures .0) (omega arith), omega arith)
 
 pub put-heard-spec : {M : Type 1} → statement M
-put-heard-spec = tie.close (tie.spec put-number-requires put-hearing-requires same-length returns)
+put-heard-spec = tie.close (tie.spec (λ c κs. search needs) (λ c κs. search needs) (λ c. search needs) returns)

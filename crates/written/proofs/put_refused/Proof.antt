@@ -6,22 +6,10 @@ use borrow.Author.Needs.{needs}
 use Rattle.written.proofs.put_refused.Statement.{statement}
 use Rattle.written.proofs.put_refused.Tie as tie
 
-slice-aggregate-put-field : tie.Need-slice-aggregate-put-field
-slice-aggregate-put-field c = search needs
-
-put-field-requires : tie.Need-put-field-requires
-put-field-requires c κs = search needs
-
-put-number-requires : tie.Need-put-number-requires
-put-number-requires c κs = search needs
-
-same-length : tie.Need-same-length
-same-length c = search needs
-
 returns : tie.Need-returns
 returns c = (more _ _ _ _ _ _ (_ ∷ []) _ (one _ _ _ _ _ (c .before .before .before .before .before .before .put-field .ensures)) (c .before .before .put-number .ensures .0) (omega arith), omega arith)
 
 pub put-refused-spec : {M : Type 1} → statement M
 put-refused-spec =
     tie.close
-    (tie.spec slice-aggregate-put-field put-field-requires put-number-requires same-length returns)
+    (tie.spec (λ c. search needs) (λ c κs. search needs) (λ c κs. search needs) (λ c. search needs) returns)

@@ -9,27 +9,6 @@ use Rattle.written.proofs.table_line.Tie as tie
 returns : tie.Need-returns
 returns c = no-line _ _ (c .if1 .taken)
 
-slice-aggregate-put : tie.Need-slice-aggregate-put
-slice-aggregate-put c = search needs
-
-put-requires : tie.Need-put-requires
-put-requires c κs = search needs
-
-slice-aggregate-put-answer : tie.Need-slice-aggregate-put-answer
-slice-aggregate-put-answer c = search needs
-
-put-answer-requires : tie.Need-put-answer-requires
-put-answer-requires c κs = search needs
-
-slice-aggregate-put-2 : tie.Need-slice-aggregate-put-2
-slice-aggregate-put-2 c = search needs
-
-put-requires-2 : tie.Need-put-requires-2
-put-requires-2 c κs = search needs
-
-same-length : tie.Need-same-length
-same-length c = search needs
-
 returns-2 : tie.Need-returns-2
 returns-2 c =
     rw (fits _ _ (c .before .before .before .before .before .before .before .before .before .before .before .before .before .before .before .if1 .left))
@@ -40,11 +19,11 @@ table-line-spec =
     tie.close
     (tie.spec
     returns
-    slice-aggregate-put
-    put-requires
-    slice-aggregate-put-answer
-    put-answer-requires
-    slice-aggregate-put-2
-    put-requires-2
-    same-length
+    (λ c. search needs)
+    (λ c κs. search needs)
+    (λ c. search needs)
+    (λ c κs. search needs)
+    (λ c. search needs)
+    (λ c κs. search needs)
+    (λ c. search needs)
     returns-2)

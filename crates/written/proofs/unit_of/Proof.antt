@@ -4,21 +4,6 @@ use borrow.Author.Needs.{needs}
 use Rattle.written.proofs.unit_of.Statement.{statement}
 use Rattle.written.proofs.unit_of.Tie as tie
 
-enum-known-event : tie.Need-enum-known-event
-enum-known-event c = search needs
-
-enum-told : tie.Need-enum-told
-enum-told c = search needs
-
-enum-known-event-2 : tie.Need-enum-known-event-2
-enum-known-event-2 c = search needs
-
-enum-known-event-3 : tie.Need-enum-known-event-3
-enum-known-event-3 c = search needs
-
-enum-told-2 : tie.Need-enum-told-2
-enum-told-2 c = search needs
-
 returns : tie.Need-returns
 unfolding unitOf
 returns c = rw (c .before .event .given .1)
@@ -43,11 +28,11 @@ pub unit-of-spec : {M : Type 1} → statement M
 unit-of-spec =
     tie.close
     (tie.spec
-    enum-known-event
-    enum-told
-    enum-known-event-2
-    enum-known-event-3
-    enum-told-2
+    (λ c. search needs)
+    (λ c. search needs)
+    (λ c. search needs)
+    (λ c. search needs)
+    (λ c. search needs)
     returns
     returns-2
     returns-3

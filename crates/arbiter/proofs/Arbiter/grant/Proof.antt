@@ -4,13 +4,10 @@ use borrow.Author.Needs.{needs}
 use Rattle.arbiter.proofs.Arbiter.grant.Statement.{statement}
 use Rattle.arbiter.proofs.Arbiter.grant.Tie as tie
 
-grant-rule-requires : tie.Need-grant-rule-requires
-grant-rule-requires c κs = search needs
-
 returns : tie.Need-returns
 returns c =
     let g = c .before .before .grant-rule .ensures in
     λ i. record { arbiter = arbiterOf (g i); unit = g i .unit }
 
 pub grant-spec : {M : Type 1} → statement M
-grant-spec = tie.close (tie.spec grant-rule-requires returns)
+grant-spec = tie.close (tie.spec (λ c κs. search needs) returns)

@@ -21,24 +21,6 @@ abbrev μ-loop : tie.MeasureT-loop
 loop-holds : tie.Need-loop-holds Inv-loop μ-loop
 loop-holds c = (omega arith, (search needs, refl))
 
-cast-n : tie.Need-cast-n Inv-loop μ-loop
-cast-n c = search needs
-
-due-requires : tie.Need-due-requires Inv-loop μ-loop
-due-requires c κs = search needs
-
-array-read-ask-after : tie.Need-array-read-ask-after Inv-loop μ-loop
-array-read-ask-after c = search needs
-
-array-read-ask-after-2 : tie.Need-array-read-ask-after-2 Inv-loop μ-loop
-array-read-ask-after-2 c = search needs
-
-ask-after-requires : tie.Need-ask-after-requires Inv-loop μ-loop
-ask-after-requires c κs = search needs
-
-array-write-asks : tie.Need-array-write-asks Inv-loop μ-loop
-array-write-asks c = search needs
-
 add-number : tie.Need-add-number Inv-loop μ-loop
 add-number c = omega arith
 
@@ -73,12 +55,12 @@ renew-spec =
     Inv-loop
     μ-loop
     loop-holds
-    cast-n
-    due-requires
-    array-read-ask-after
-    array-read-ask-after-2
-    ask-after-requires
-    array-write-asks
+    (λ c. search needs)
+    (λ c κs. search needs)
+    (λ c. search needs)
+    (λ c. search needs)
+    (λ c κs. search needs)
+    (λ c. search needs)
     add-number
     loop-less
     loop-again

@@ -3,11 +3,8 @@ use borrow.Author.Needs.{needs}
 use Rattle.outlet.proofs.Outlet.emptied.Statement.{statement}
 use Rattle.outlet.proofs.Outlet.emptied.Tie as tie
 
-empty-requires : tie.Need-empty-requires
-empty-requires c κs = search needs
-
 returns : tie.Need-returns
 returns c = simp (c .empty .ensures)
 
 pub emptied-spec : {M : Type 1} → statement M
-emptied-spec = tie.close (tie.spec empty-requires returns)
+emptied-spec = tie.close (tie.spec (λ c κs. search needs) returns)

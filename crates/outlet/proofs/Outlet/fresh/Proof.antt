@@ -5,18 +5,6 @@ use borrow.Author.Needs.{needs}
 use Rattle.outlet.proofs.Outlet.fresh.Statement.{statement}
 use Rattle.outlet.proofs.Outlet.fresh.Tie as tie
 
-enum-told : tie.Need-enum-told
-enum-told c = search needs
-
-one-requires : tie.Need-one-requires
-one-requires c κs = search needs
-
-enum-told-2 : tie.Need-enum-told-2
-enum-told-2 c = search needs
-
-four-requires : tie.Need-four-requires
-four-requires c κs = search needs
-
 returns : tie.Need-returns
 returns c =
     let s = c .before .before .before in
@@ -28,4 +16,4 @@ returns-2 c =
     c .four .ensures ∙ fresh-four (s .args .limits) (c .before .enum-told2 .given .1)
 
 pub fresh-spec : {M : Type 1} → statement M
-fresh-spec = tie.close (tie.spec enum-told one-requires enum-told-2 four-requires returns returns-2)
+fresh-spec = tie.close (tie.spec (λ c. search needs) (λ c κs. search needs) (λ c. search needs) (λ c κs. search needs) returns returns-2)
