@@ -106,56 +106,33 @@ fn write_out(out: &[u8; 200000], at: usize) {
     io::write_all(1, answers);
 }
 
-// The world before an answer: what there is is written out if the room is short.
-fn cleared(mut w: World, out: &[u8; 200000]) -> World
-    ensures { λ r. ⌜ r .at ≤ 180000 ⌝ }
+// Where an answer starts: what there is is written out if the room is short.
+fn cleared(at: usize, out: &[u8; 200000]) -> usize
+    ensures { λ r. ⌜ r ≤ 180000 ⌝ }
 {
-    if FULL < w.at {
-        write_out(out, w.at);
-        w.at = 0;
+    if FULL < at {
+        write_out(out, at);
+        return 0;
     }
-    w
+    at
 }
 
-// The world after an answer that ends at a place.
-fn said(mut w: World, at: usize) -> World
-    ensures { λ r. ⌜ r .at ≡ at ⌝ }
-{
-    w.at = at;
-    w
+// The first n bytes of b, as far as there are any, each with this value; how many they are.
+fn fill(b: &mut [u8], n: usize, byte: u8) -> usize {
+    let e = least(n, b.len());
+    let mut i: usize = 0;
+    while i < e {
+        b[i] = byte;
+        i += 1;
+    }
+    e
 }
 
-fn say(w: World, text: &[u8], out: &mut [u8; 200000]) -> World
-    requires { ⌜ (w .at ≤ 180000) × (length (now text) ≤ 20) ⌝ }
-{
-    said(w, text::put(out, w.at, text))
-}
-
-// The world after an event, and its answer but for its buffer.
-fn answered(mut w: World, after: After, word: &[u8], unit: u8, out: &mut [u8; 200000]) -> World
-    requires { ⌜ (w .at ≤ 180000) × (length (now word) ≤ 20) ⌝ }
-    ensures { λ r. ⌜ r .at ≤ w .at + 100 ⌝ }
-{
-    let answer = after.answer;
-    let rows = after.rows;
-    let end = written::said(out, w.at, word, unit, answer);
-    w.rows = rows;
-    said(w, end)
-}
-
-// The first so many bytes of a buffer.
-fn put_front(w: World, buffer: &[u8], wanted: usize, out: &mut [u8; 200000]) -> World
-    requires { ⌜ (w .at ≤ 180100) × (length (now buffer) ≤ 1000) ⌝ }
-{
-    let n = within(wanted, buffer);
-    said(w, written::put_bytes(out, w.at, &buffer[..n]))
-}
-
-fn set_card(w: World, card: Card, out: &mut [u8; 200000]) -> World
-    requires { ⌜ w .at ≤ 180000 ⌝ }
+fn set_card(w: World, card: Card) -> World
+    ensures { λ r. ⌜ r .at ≡ w .at ⌝ }
 {
     let rows = w.rows;
-    let world = World {
+    World {
         card,
         rows,
         lent: w.lent,
@@ -166,17 +143,6 @@ fn set_card(w: World, card: Card, out: &mut [u8; 200000]) -> World
         at: w.at,
         long: w.long,
         open: w.open,
-    };
-    say(world, b"card\tok", out)
-}
-
-// The first n bytes of b, each with this value.
-fn fill(b: &mut [u8], n: usize, byte: u8) {
-    let e = least(n, b.len());
-    let mut i: usize = 0;
-    while i < e {
-        b[i] = byte;
-        i += 1;
     }
 }
 
@@ -191,35 +157,14 @@ fn lend_bank(
     ensures { λ r. ⌜ r .at ≡ w .at ⌝ }
 {
     match bank {
-        Bank::Memory => {
-            fill(memory, n, byte);
-            w.memory = n;
-        }
-        Bank::Store => {
-            fill(store, n, byte);
-            w.store = n;
-        }
+        Bank::Memory => w.memory = fill(memory, n, byte),
+        Bank::Store => w.store = fill(store, n, byte),
     }
     w
 }
 
-fn say_lend(
-    w: World,
-    memory: &mut [u8; 300000],
-    store: &mut [u8; 300000],
-    bank: Bank,
-    n: usize,
-    byte: u8,
-    out: &mut [u8; 200000],
-) -> World
-    requires { ⌜ w .at ≤ 180000 ⌝ }
-{
-    let lent = lend_bank(w, memory, store, bank, n, byte);
-    say(lent, b"lend\tok", out)
-}
-
-fn lend_rows(mut w: World, n: usize, value: u32, out: &mut [u8; 200000]) -> World
-    requires { ⌜ w .at ≤ 180000 ⌝ }
+fn lend_rows(mut w: World, n: usize, value: u32) -> World
+    ensures { λ r. ⌜ r .at ≡ w .at ⌝ }
 {
     let row = Counters {
         arrived: value,
@@ -238,177 +183,144 @@ fn lend_rows(mut w: World, n: usize, value: u32, out: &mut [u8; 200000]) -> Worl
     };
     w.rows = [row; 40];
     w.lent = n;
-    say(w, b"lend\tok", out)
+    w
 }
 
-// The events see of the memory and the store what is lent.
-fn load(
-    w: World,
-    state: &mut [u8; 2048],
-    memory: &mut [u8],
-    store: &[u8],
-    text: &[u8],
-    out: &mut [u8; 200000],
-) -> World
-    requires { ⌜ w .at ≤ 180000 ⌝ }
+// The world as a command sets it up: the card, and what is lent.
+fn set_up(w: World, memory: &mut [u8; 300000], store: &mut [u8; 300000], command: Command) -> World
+    ensures { λ r. ⌜ r .at ≡ w .at ⌝ }
 {
-    let card = w.card;
-    let rows = w.rows;
-    let m = within(w.memory, memory);
-    let s = part_of(store, 0, w.store);
-    let after = owned::load(card, text, &mut memory[..m], state, s, rows, w.lent);
-    answered(w, after, b"load", 0, out)
+    match command {
+        Command::Card(card) => set_card(w, card),
+        Command::Lend { bank, length, byte } => {
+            lend_bank(w, memory, store, bank, length as usize, byte)
+        }
+        Command::LendRows { count, value } => lend_rows(w, count as usize, value),
+        _ => w,
+    }
 }
 
-fn arrive(
-    w: World,
-    state: &mut [u8; 2048],
-    memory: &[u8],
-    store: &mut [u8],
-    unit: u8,
-    cell: &[u8],
-    out: &mut [u8; 200000],
-) -> World
-    requires { ⌜ w .at ≤ 180000 ⌝ }
-{
-    let card = w.card;
-    let rows = w.rows;
-    let m = part_of(memory, 0, w.memory);
-    let s = within(w.store, store);
-    let after = owned::arrive(card, state, m, &mut store[..s], rows, w.lent, unit, cell);
-    answered(w, after, b"arrive", unit, out)
-}
-
-fn hear(
-    w: World,
-    state: &mut [u8; 2048],
-    store: &mut [u8],
-    unit: u8,
-    frame: &[u8],
-    out: &mut [u8; 200000],
-) -> World
-    requires { ⌜ w .at ≤ 180000 ⌝ }
-{
-    let card = w.card;
-    let rows = w.rows;
-    let s = within(w.store, store);
-    let after = owned::hear(card, state, &mut store[..s], rows, w.lent, unit, frame);
-    answered(w, after, b"hear", unit, out)
-}
-
-fn frame_into(
-    w: World,
-    state: &mut [u8; 2048],
-    store: &mut [u8],
-    buffer: &mut [u8],
-    wanted: usize,
-) -> After {
-    let card = w.card;
-    let rows = w.rows;
-    let s = within(w.store, store);
-    let n = within(wanted, buffer);
-    owned::frame(card, state, &mut store[..s], rows, w.lent, &mut buffer[..n])
-}
-
-fn take_into(
-    w: World,
-    state: &mut [u8; 2048],
-    store: &[u8],
-    unit: u8,
-    buffer: &mut [u8],
-    wanted: usize,
-) -> After {
-    let card = w.card;
-    let rows = w.rows;
-    let s = part_of(store, 0, w.store);
-    let n = within(wanted, buffer);
-    owned::take(card, state, s, rows, w.lent, unit, &mut buffer[..n])
-}
-
-// A frame into the first so many bytes of a buffer.
-fn frame(
-    w: World,
-    state: &mut [u8; 2048],
-    store: &mut [u8; 300000],
-    wanted: usize,
-    out: &mut [u8; 200000],
-) -> World
-    requires { ⌜ w .at ≤ 180000 ⌝ }
-{
-    let mut buffer = [238u8; 1000];
-    let after = frame_into(w, state, store, &mut buffer, wanted);
-    let done = answered(w, after, b"frame", 0, out);
-    put_front(done, &buffer, wanted, out)
-}
-
-// A take into the first so many bytes of a buffer.
-fn take(
-    w: World,
-    state: &mut [u8; 2048],
-    store: &[u8; 300000],
-    unit: u8,
-    wanted: usize,
-    out: &mut [u8; 200000],
-) -> World
-    requires { ⌜ w .at ≤ 180000 ⌝ }
-{
-    let mut buffer = [238u8; 1000];
-    let after = take_into(w, state, store, unit, &mut buffer, wanted);
-    let done = answered(w, after, b"take", unit, out);
-    put_front(done, &buffer, wanted, out)
-}
-
-// Writes bytes from a place on, if they all lie inside.
-fn poked(b: &mut [u8], to: usize, bytes: &[u8]) -> bool {
+// Writes bytes from a place on, if they all lie inside: else it is refused.
+fn poke(b: &mut [u8], to: usize, bytes: &[u8]) -> Answer {
     if to <= b.len() {
         if bytes.len() <= b.len() - to {
             octets::copy(bytes, b, to);
-            return true;
+            return Answer::Empty;
         }
     }
-    false
+    Answer::Refused(0)
 }
 
-// The same, in what is lent.
-fn poke(
-    w: World,
-    b: &mut [u8],
-    lent: usize,
-    to: usize,
-    bytes: &[u8],
-    out: &mut [u8; 200000],
-) -> World
-    requires { ⌜ w .at ≤ 180000 ⌝ }
-{
-    let n = within(lent, b);
-    if poked(&mut b[..n], to, bytes) {
-        return say(w, b"poke\tok", out);
-    }
-    say(w, b"bad", out)
-}
-
-fn poke_bank(
-    w: World,
-    memory: &mut [u8; 300000],
-    store: &mut [u8; 300000],
-    bank: Bank,
-    to: usize,
-    bytes: &[u8],
-    out: &mut [u8; 200000],
-) -> World
-    requires { ⌜ w .at ≤ 180000 ⌝ }
-{
+fn poke_bank(memory: &mut [u8], store: &mut [u8], bank: Bank, to: usize, bytes: &[u8]) -> Answer {
     match bank {
-        Bank::Memory => poke(w, memory, w.memory, to, bytes, out),
-        Bank::Store => poke(w, store, w.store, to, bytes, out),
+        Bank::Memory => poke(memory, to, bytes),
+        Bank::Store => poke(store, to, bytes),
     }
 }
 
-fn count(w: World, state: &[u8; 2048], store: &[u8], unit: u8) -> Counted {
-    let card = w.card;
-    let rows = w.rows;
-    let s = part_of(store, 0, w.store);
-    owned::count(card, state, s, rows, w.lent, unit)
+// What a command does to the state, the rows, the memory and the store, of which it sees what is lent, and its answer.
+fn act(
+    card: Card,
+    state: &mut [u8; 2048],
+    memory: &mut [u8],
+    store: &mut [u8],
+    rows: [Counters; 40],
+    lent: usize,
+    bytes: &mut [u8],
+    command: Command,
+) -> After {
+    match command {
+        Command::Load(_) => owned::load(card, bytes, memory, state, store, rows, lent),
+        Command::Arrive { unit, from: _ } => {
+            owned::arrive(card, state, memory, store, rows, lent, unit, bytes)
+        }
+        Command::Poke { bank, at, from: _ } => {
+            owned::joined(poke_bank(memory, store, bank, at as usize, bytes), rows)
+        }
+        _ => call(card, state, store, rows, lent, bytes, command),
+    }
+}
+
+// The same, of a command that needs no memory.
+fn call(
+    card: Card,
+    state: &mut [u8; 2048],
+    store: &mut [u8],
+    rows: [Counters; 40],
+    lent: usize,
+    bytes: &mut [u8],
+    command: Command,
+) -> After {
+    match command {
+        Command::Hear { unit, from: _ } => owned::hear(card, state, store, rows, lent, unit, bytes),
+        Command::Frame(_) => owned::frame(card, state, store, rows, lent, bytes),
+        Command::Take { unit, length: _ } => {
+            owned::take(card, state, store, rows, lent, unit, bytes)
+        }
+        Command::PokeState { at, from: _ } => {
+            owned::joined(poke(state, at as usize, bytes), rows)
+        }
+        _ => owned::joined(Answer::Empty, rows),
+    }
+}
+
+// The word that a line starts with, which its answer starts with too.
+fn word_of(line: &[u8]) -> &[u8]
+    ensures { λ r. ⌜ length (now r) ≤ 20 ⌝ }
+{
+    let word = text::field(line, 1);
+    let n = within(20, word);
+    &word[..n]
+}
+
+// The answer of an event with its buffer.
+fn say_buffer(
+    out: &mut [u8; 200000],
+    at: usize,
+    line: &[u8],
+    unit: u8,
+    answer: Answer,
+    buffer: &[u8],
+) -> usize
+    requires { ⌜ at ≤ 180000 ⌝ }
+{
+    let end = written::said(out, at, word_of(line), unit, answer);
+    let n = within(1000, buffer);
+    written::put_bytes(out, end, &buffer[..n])
+}
+
+// A command that is no event is done or refused.
+fn say_done(out: &mut [u8; 200000], at: usize, line: &[u8], answer: Answer) -> usize
+    requires { ⌜ at ≤ 180000 ⌝ }
+{
+    match answer {
+        Answer::Refused(_) => text::put(out, at, b"bad"),
+        _ => {
+            let end = text::put(out, at, word_of(line));
+            text::put(out, end, b"\tok")
+        }
+    }
+}
+
+// What a command that did something answers.
+fn say_after(
+    out: &mut [u8; 200000],
+    at: usize,
+    line: &[u8],
+    command: Command,
+    answer: Answer,
+    bytes: &[u8],
+) -> usize
+    requires { ⌜ at ≤ 180000 ⌝ }
+{
+    match command {
+        Command::Load(_) => written::said(out, at, word_of(line), 0, answer),
+        Command::Arrive { unit, from: _ } => written::said(out, at, word_of(line), unit, answer),
+        Command::Hear { unit, from: _ } => written::said(out, at, word_of(line), unit, answer),
+        Command::Frame(_) => say_buffer(out, at, line, 0, answer, bytes),
+        Command::Take { unit, length: _ } => say_buffer(out, at, line, unit, answer, bytes),
+        _ => say_done(out, at, line, answer),
+    }
 }
 
 fn say_count(
@@ -416,138 +328,157 @@ fn say_count(
     state: &[u8; 2048],
     store: &[u8],
     unit: u8,
+    line: &[u8],
     out: &mut [u8; 200000],
-    at: usize,
 ) -> usize
+    requires { ⌜ w .at ≤ 180000 ⌝ }
+{
+    let card = w.card;
+    let rows = w.rows;
+    match owned::count(card, state, store, rows, w.lent, unit) {
+        Counted::Counters(c) => written::counted(out, w.at, unit, c),
+        Counted::Refused(number) => {
+            let answer = Answer::Refused((number % 256) as u8);
+            written::said(out, w.at, word_of(line), unit, answer)
+        }
+    }
+}
+
+// How many bytes are lent, and their sum.
+fn say_sum(memory: &[u8], store: &[u8], bank: Bank, out: &mut [u8; 200000], at: usize) -> usize
     requires { ⌜ at ≤ 180000 ⌝ }
 {
-    match count(w, state, store, unit) {
-        Counted::Counters(c) => written::counted(out, at, unit, c),
-        Counted::Refused(number) => {
-            written::said(
+    match bank {
+        Bank::Memory => {
+            written::summed(
                 out,
                 at,
-                b"count",
-                unit,
-                Answer::Refused((number % 256) as u8),
+                b"show\tmemory",
+                memory.len() as u64,
+                text::fnv(memory),
+            )
+        }
+        Bank::Store => {
+            written::summed(
+                out,
+                at,
+                b"show\tstore",
+                store.len() as u64,
+                text::fnv(store),
             )
         }
     }
 }
 
-// The sum of what is lent.
-fn say_sum(b: &[u8], lent: usize, text: &[u8], out: &mut [u8; 200000], at: usize) -> usize
-    requires { ⌜ (length (now text) ≤ 20) × (at ≤ 180000) ⌝ }
+fn say_rows(w: World, out: &mut [u8; 200000]) -> usize
+    requires { ⌜ w .at ≤ 180000 ⌝ }
 {
-    let part = part_of(b, 0, lent);
-    written::summed(out, at, text, part.len() as u64, text::fnv(part))
-}
-
-fn say_rows(w: World, out: &mut [u8; 200000], at: usize) -> usize
-    requires { ⌜ at ≤ 180000 ⌝ }
-{
-    let n = least(w.lent, 40);
     let rows = w.rows;
-    written::rows(out, at, n, rows)
+    written::rows(out, w.at, least(w.lent, 40), rows)
 }
 
-fn show_bank(
-    w: World,
-    memory: &[u8],
-    store: &[u8],
-    bank: Bank,
-    out: &mut [u8; 200000],
-    at: usize,
-) -> usize
-    requires { ⌜ at ≤ 180000 ⌝ }
-{
-    match bank {
-        Bank::Memory => say_sum(memory, w.memory, b"show\tmemory", out, at),
-        Bank::Store => say_sum(store, w.store, b"show\tstore", out, at),
-    }
-}
-
-// What a command shows of the state, the rows and the store.
-fn show(
+// What a command answers.
+fn tell(
     w: World,
     state: &[u8; 2048],
+    memory: &[u8],
     store: &[u8],
+    bytes: &[u8],
+    line: &[u8],
     command: Command,
+    answer: Answer,
     out: &mut [u8; 200000],
 ) -> usize
     requires { ⌜ w .at ≤ 180000 ⌝ }
 {
     match command {
-        Command::Count(unit) => say_count(w, state, store, unit, out, w.at),
-        Command::ShowRows => say_rows(w, out, w.at),
+        Command::Count(unit) => say_count(w, state, store, unit, line, out),
+        Command::Show(bank) => say_sum(memory, store, bank, out, w.at),
+        Command::ShowRows => say_rows(w, out),
         Command::ShowState => written::state(out, w.at, state),
         Command::ShowUnit(unit) => named::unit(out, w.at, state, unit),
-        // all others are done by now
-        _ => w.at,
+        _ => say_after(out, w.at, line, command, answer, bytes),
     }
 }
 
-// A command. From `obey` it goes on to `call` and `tell`, each of which is lent less, until one of them knows it: one match over all of them takes the prover too long.
+// A command in what is lent is done, and then answered.
 fn obey(
+    mut w: World,
+    state: &mut [u8; 2048],
+    memory: &mut [u8],
+    store: &mut [u8],
+    bytes: &mut [u8],
+    line: &[u8],
+    command: Command,
+    out: &mut [u8; 200000],
+) -> World
+    requires { ⌜ w .at ≤ 180000 ⌝ }
+{
+    let card = w.card;
+    let rows = w.rows;
+    let after = act(card, state, memory, store, rows, w.lent, bytes, command);
+    let new_rows = after.rows;
+    w.rows = new_rows;
+    let answer = after.answer;
+    let end = tell(w, state, memory, store, bytes, line, command, answer, out);
+    w.at = ended(out, end);
+    w
+}
+
+// The bytes of a command, to the front of text: those of its hex, or those of an empty buffer; how many they are.
+fn fetch(line: &[u8], command: Command, text: &mut [u8; 75000]) -> usize {
+    match command {
+        Command::Frame(length) => fill(text, length as usize, 238),
+        Command::Take { unit: _, length } => fill(text, length as usize, 238),
+        _ => unhexed(line, bytes_from(command, line.len()), text),
+    }
+}
+
+// A command sees of the memory and the store what is lent, and of the text its own bytes.
+fn narrow(
+    w: World,
+    state: &mut [u8; 2048],
+    memory: &mut [u8],
+    store: &mut [u8],
+    text: &mut [u8],
+    count: usize,
+    line: &[u8],
+    command: Command,
+    out: &mut [u8; 200000],
+) -> World
+    requires { ⌜ w .at ≤ 180000 ⌝ }
+{
+    let m = within(w.memory, memory);
+    let s = within(w.store, store);
+    let n = within(count, text);
+    obey(
+        w,
+        state,
+        &mut memory[..m],
+        &mut store[..s],
+        &mut text[..n],
+        line,
+        command,
+        out,
+    )
+}
+
+// A command, from the line that it was read from.
+fn perform(
     w: World,
     state: &mut [u8; 2048],
     memory: &mut [u8; 300000],
     store: &mut [u8; 300000],
-    bytes: &[u8],
+    text: &mut [u8; 75000],
+    line: &[u8],
     command: Command,
     out: &mut [u8; 200000],
 ) -> World
     requires { ⌜ w .at ≤ 180000 ⌝ }
 {
-    match command {
-        Command::Lend { bank, length, byte } => {
-            say_lend(w, memory, store, bank, length as usize, byte, out)
-        }
-        Command::Load(_) => load(w, state, memory, store, bytes, out),
-        Command::Arrive { unit, from: _ } => arrive(w, state, memory, store, unit, bytes, out),
-        Command::Poke { bank, at, from: _ } => {
-            poke_bank(w, memory, store, bank, at as usize, bytes, out)
-        }
-        Command::Show(bank) => said(w, show_bank(w, memory, store, bank, out, w.at)),
-        _ => call(w, state, store, bytes, command, out),
-    }
-}
-
-// A command that needs no memory.
-fn call(
-    w: World,
-    state: &mut [u8; 2048],
-    store: &mut [u8; 300000],
-    bytes: &[u8],
-    command: Command,
-    out: &mut [u8; 200000],
-) -> World
-    requires { ⌜ w .at ≤ 180000 ⌝ }
-{
-    match command {
-        Command::Hear { unit, from: _ } => hear(w, state, store, unit, bytes, out),
-        Command::Frame(length) => frame(w, state, store, length as usize, out),
-        Command::Take { unit, length } => take(w, state, store, unit, length as usize, out),
-        Command::PokeState { at, from: _ } => poke(w, state, 2048, at as usize, bytes, out),
-        _ => tell(w, state, store, command, out),
-    }
-}
-
-// A command that leaves the state, the memory and the store as they are.
-fn tell(
-    w: World,
-    state: &[u8; 2048],
-    store: &[u8],
-    command: Command,
-    out: &mut [u8; 200000],
-) -> World
-    requires { ⌜ w .at ≤ 180000 ⌝ }
-{
-    match command {
-        Command::Card(card) => set_card(w, card, out),
-        Command::LendRows { count, value } => lend_rows(w, count as usize, value, out),
-        _ => said(w, show(w, state, store, command, out)),
-    }
+    let set = set_up(w, memory, store, command);
+    let n = fetch(line, command, text);
+    narrow(set, state, memory, store, text, n, line, command, out)
 }
 
 // A newline where there is room.
@@ -557,13 +488,6 @@ fn ended(out: &mut [u8], at: usize) -> usize {
         return at + 1;
     }
     at
-}
-
-// A line is answered: a newline behind its answer.
-fn line_said(mut w: World, out: &mut [u8; 200000]) -> World {
-    w.at = ended(out, w.at);
-    w.long = false;
-    w
 }
 
 // A line that was too long to be kept is bad.
@@ -637,6 +561,33 @@ fn refilled(w: World, input: &mut [u8; 400000], out: &[u8; 200000]) -> World {
     read_on(kept(w, input), input)
 }
 
+// What is no command is bad, and so is a line that was too long.
+fn say_bad(mut w: World, out: &mut [u8; 200000]) -> World
+    requires { ⌜ w .at ≤ 180000 ⌝ }
+{
+    let end = text::put(out, w.at, b"bad");
+    w.at = ended(out, end);
+    w.long = false;
+    w
+}
+
+// Answers a line.
+fn answer_line(
+    mut w: World,
+    state: &mut [u8; 2048],
+    memory: &mut [u8; 300000],
+    store: &mut [u8; 300000],
+    text: &mut [u8; 75000],
+    line: &[u8],
+    out: &mut [u8; 200000],
+) -> World {
+    w.at = cleared(w.at, out);
+    match reading_of(w.long, line) {
+        Reading::Does(command) => perform(w, state, memory, store, text, line, command, out),
+        Reading::Bad => say_bad(w, out),
+    }
+}
+
 // Answers the next line; where no whole one is left, more is read.
 fn turn(
     mut w: World,
@@ -651,18 +602,9 @@ fn turn(
     if w.end <= to {
         return refilled(w, input, out);
     }
-    let next = to + 1;
     let line = part_of(input, w.from, to);
-    w.from = next;
-    match reading_of(w.long, line) {
-        Reading::Does(command) => {
-            let n = unhexed(line, bytes_from(command, line.len()), text);
-            let bytes = part_of(text, 0, n);
-            let ready = cleared(w, out);
-            line_said(obey(ready, state, memory, store, bytes, command, out), out)
-        }
-        Reading::Bad => line_said(say(cleared(w, out), b"bad", out), out),
-    }
+    w.from = to + 1;
+    answer_line(w, state, memory, store, text, line, out)
 }
 
 // One turn less; none after the end of the input and its last line.
