@@ -14,8 +14,8 @@ ghost use lib.ListN.{length};
 ghost use Rattle.io.specs.Counts.{Counts};
 
 // The card, the rows, and how much of the rows, the memory and the store is lent.
-// What was read and is not answered stands from `from` to `end`; it ends a line whose start was too long to be kept if `long`.
-// The answers that are not written end at `at`; more may come if `open`.
+// What was read and is not answered stands from `from` to `end`, its first line up to `to`; that ends a line whose start was too long to be kept if `long`.
+// The answers that are not written end at `at`; more may come if `open`; the command was done if `good`.
 struct World {
     card: Card,
     rows: [Counters; 40],
@@ -23,10 +23,12 @@ struct World {
     memory: usize,
     store: usize,
     from: usize,
+    to: usize,
     end: usize,
     at: usize,
     long: bool,
     open: bool,
+    good: bool,
 }
 
 const NEWLINE: u8 = b'\n';
@@ -50,7 +52,9 @@ fn within(n: usize, b: &[u8]) -> usize
 }
 
 // The bytes from a place to another, as far as there are any.
-fn part_of(b: &[u8], from: usize, to: usize) -> &[u8] {
+fn part_of(b: &[u8], from: usize, to: usize) -> &[u8]
+    ensures { λ r. ⌜ length (now r) ≤ to ⌝ }
+{
     let e = within(to, b);
     let f = least(from, e);
     &b[f..e]
@@ -65,32 +69,18 @@ fn begun() -> World {
         memory: 0,
         store: 0,
         from: 0,
+        to: 0,
         end: 0,
         at: 0,
         long: false,
         open: true,
+        good: true,
     }
 }
 
-// Where the bytes of a command start; at the end of the line, where there are none, if it has no such field.
-fn bytes_from(command: Command, end: usize) -> usize {
-    match command {
-        Command::Load(from) => from,
-        Command::Arrive { unit: _, from } => from,
-        Command::Hear { unit: _, from } => from,
-        Command::Poke {
-            bank: _,
-            at: _,
-            from,
-        } => from,
-        Command::PokeState { at: _, from } => from,
-        _ => end,
-    }
-}
-
-// The bytes that a field of hex says, to the front of text; how many there are.
-fn unhexed(line: &[u8], from: usize, text: &mut [u8; 75000]) -> usize {
-    let hex = part_of(line, from, line.len());
+// The bytes that the last field of a line says in hex, to the front of text; how many there are.
+fn unhexed(line: &[u8], text: &mut [u8; 75000]) -> usize {
+    let hex = text::field(line, (text::count(line) % 256) as u8);
     if hex.len() / 2 <= 75000 {
         if text::is_hex(hex) {
             text::unhex(hex, text, 0);
@@ -139,10 +129,12 @@ fn set_card(w: World, card: Card) -> World
         memory: w.memory,
         store: w.store,
         from: w.from,
+        to: w.to,
         end: w.end,
         at: w.at,
         long: w.long,
         open: w.open,
+        good: w.good,
     }
 }
 
@@ -186,8 +178,51 @@ fn lend_rows(mut w: World, n: usize, value: u32) -> World
     w
 }
 
-// The world as a command sets it up: the card, and what is lent.
-fn set_up(w: World, memory: &mut [u8; 300000], store: &mut [u8; 300000], command: Command) -> World
+// Writes bytes from a place on, if they all lie inside what is lent.
+fn poke(b: &mut [u8], lent: usize, to: usize, bytes: &[u8]) -> bool {
+    let e = least(lent, b.len());
+    if to <= e {
+        if bytes.len() <= e - to {
+            octets::copy(bytes, b, to);
+            return true;
+        }
+    }
+    false
+}
+
+fn poke_bank(
+    mut w: World,
+    memory: &mut [u8; 300000],
+    store: &mut [u8; 300000],
+    bank: Bank,
+    to: usize,
+    bytes: &[u8],
+) -> World
+    ensures { λ r. ⌜ r .at ≡ w .at ⌝ }
+{
+    match bank {
+        Bank::Memory => w.good = poke(memory, w.memory, to, bytes),
+        Bank::Store => w.good = poke(store, w.store, to, bytes),
+    }
+    w
+}
+
+fn poke_state(mut w: World, state: &mut [u8; 2048], to: usize, bytes: &[u8]) -> World
+    ensures { λ r. ⌜ r .at ≡ w .at ⌝ }
+{
+    w.good = poke(state, 2048, to, bytes);
+    w
+}
+
+// The world after a command that sets it up: the card, what is lent, and what is poked.
+fn set_up(
+    w: World,
+    state: &mut [u8; 2048],
+    memory: &mut [u8; 300000],
+    store: &mut [u8; 300000],
+    bytes: &[u8],
+    command: Command,
+) -> World
     ensures { λ r. ⌜ r .at ≡ w .at ⌝ }
 {
     match command {
@@ -196,69 +231,93 @@ fn set_up(w: World, memory: &mut [u8; 300000], store: &mut [u8; 300000], command
             lend_bank(w, memory, store, bank, length as usize, byte)
         }
         Command::LendRows { count, value } => lend_rows(w, count as usize, value),
+        Command::Poke { bank, at, from: _ } => {
+            poke_bank(w, memory, store, bank, at as usize, bytes)
+        }
+        Command::PokeState { at, from: _ } => poke_state(w, state, at as usize, bytes),
         _ => w,
     }
 }
 
-// Writes bytes from a place on, if they all lie inside: else it is refused.
-fn poke(b: &mut [u8], to: usize, bytes: &[u8]) -> Answer {
-    if to <= b.len() {
-        if bytes.len() <= b.len() - to {
-            octets::copy(bytes, b, to);
-            return Answer::Empty;
-        }
-    }
-    Answer::Refused(0)
-}
-
-fn poke_bank(memory: &mut [u8], store: &mut [u8], bank: Bank, to: usize, bytes: &[u8]) -> Answer {
-    match bank {
-        Bank::Memory => poke(memory, to, bytes),
-        Bank::Store => poke(store, to, bytes),
+// How many bytes of its buffer a command asks for.
+fn wanted(command: Command) -> usize
+    ensures { λ r. ⌜ r ≤ 1000 ⌝ }
+{
+    match command {
+        Command::Frame(length) => least(length as usize, 1000),
+        Command::Take { unit: _, length } => least(length as usize, 1000),
+        _ => 0,
     }
 }
 
-// What a command does to the state, the rows, the memory and the store, of which it sees what is lent, and its answer.
+// What an event does, and its answer: it sees of the memory and the store what is lent.
 fn act(
-    card: Card,
+    w: World,
     state: &mut [u8; 2048],
     memory: &mut [u8],
     store: &mut [u8],
-    rows: [Counters; 40],
-    lent: usize,
-    bytes: &mut [u8],
+    bytes: &[u8],
+    buffer: &mut [u8; 1000],
     command: Command,
 ) -> After {
+    let card = w.card;
+    let rows = w.rows;
+    let m = within(w.memory, memory);
+    let s = within(w.store, store);
     match command {
-        Command::Load(_) => owned::load(card, bytes, memory, state, store, rows, lent),
+        Command::Load(_) => {
+            owned::load(
+                card,
+                bytes,
+                &mut memory[..m],
+                state,
+                &store[..s],
+                rows,
+                w.lent,
+            )
+        }
         Command::Arrive { unit, from: _ } => {
-            owned::arrive(card, state, memory, store, rows, lent, unit, bytes)
+            owned::arrive(
+                card,
+                state,
+                &memory[..m],
+                &mut store[..s],
+                rows,
+                w.lent,
+                unit,
+                bytes,
+            )
         }
-        Command::Poke { bank, at, from: _ } => {
-            owned::joined(poke_bank(memory, store, bank, at as usize, bytes), rows)
-        }
-        _ => call(card, state, store, rows, lent, bytes, command),
+        _ => call(
+            card,
+            state,
+            &mut store[..s],
+            rows,
+            w.lent,
+            bytes,
+            buffer,
+            command,
+        ),
     }
 }
 
-// The same, of a command that needs no memory.
+// The same, of an event that needs no memory.
 fn call(
     card: Card,
     state: &mut [u8; 2048],
     store: &mut [u8],
     rows: [Counters; 40],
     lent: usize,
-    bytes: &mut [u8],
+    bytes: &[u8],
+    buffer: &mut [u8],
     command: Command,
 ) -> After {
+    let n = within(wanted(command), buffer);
     match command {
         Command::Hear { unit, from: _ } => owned::hear(card, state, store, rows, lent, unit, bytes),
-        Command::Frame(_) => owned::frame(card, state, store, rows, lent, bytes),
+        Command::Frame(_) => owned::frame(card, state, store, rows, lent, &mut buffer[..n]),
         Command::Take { unit, length: _ } => {
-            owned::take(card, state, store, rows, lent, unit, bytes)
-        }
-        Command::PokeState { at, from: _ } => {
-            owned::joined(poke(state, at as usize, bytes), rows)
+            owned::take(card, state, store, rows, lent, unit, &mut buffer[..n])
         }
         _ => owned::joined(Answer::Empty, rows),
     }
@@ -273,6 +332,14 @@ fn word_of(line: &[u8]) -> &[u8]
     &word[..n]
 }
 
+// The answer of an event but for its buffer.
+fn say_event(out: &mut [u8; 200000], at: usize, line: &[u8], unit: u8, answer: Answer) -> usize
+    requires { ⌜ at ≤ 180000 ⌝ }
+    ensures { λ r. ⌜ r ≤ at + 100 ⌝ }
+{
+    written::said(out, at, word_of(line), unit, answer)
+}
+
 // The answer of an event with its buffer.
 fn say_buffer(
     out: &mut [u8; 200000],
@@ -280,26 +347,24 @@ fn say_buffer(
     line: &[u8],
     unit: u8,
     answer: Answer,
-    buffer: &[u8],
+    buffer: &[u8; 1000],
+    count: usize,
 ) -> usize
-    requires { ⌜ at ≤ 180000 ⌝ }
+    requires { ⌜ (at ≤ 180000) × (count ≤ 1000) ⌝ }
 {
-    let end = written::said(out, at, word_of(line), unit, answer);
-    let n = within(1000, buffer);
-    written::put_bytes(out, end, &buffer[..n])
+    let end = say_event(out, at, line, unit, answer);
+    written::put_bytes(out, end, part_of(buffer, 0, count))
 }
 
-// A command that is no event is done or refused.
-fn say_done(out: &mut [u8; 200000], at: usize, line: &[u8], answer: Answer) -> usize
+// A command that is no event is done, or bad.
+fn say_done(out: &mut [u8; 200000], at: usize, line: &[u8], good: bool) -> usize
     requires { ⌜ at ≤ 180000 ⌝ }
 {
-    match answer {
-        Answer::Refused(_) => text::put(out, at, b"bad"),
-        _ => {
-            let end = text::put(out, at, word_of(line));
-            text::put(out, end, b"\tok")
-        }
+    if good {
+        let end = text::put(out, at, word_of(line));
+        return text::put(out, end, b"\tok");
     }
+    text::put(out, at, b"bad")
 }
 
 // What a command that did something answers.
@@ -308,18 +373,21 @@ fn say_after(
     at: usize,
     line: &[u8],
     command: Command,
-    answer: Answer,
-    bytes: &[u8],
+    after: After,
+    buffer: &[u8; 1000],
+    good: bool,
 ) -> usize
     requires { ⌜ at ≤ 180000 ⌝ }
 {
+    let answer = after.answer;
+    let n = wanted(command);
     match command {
-        Command::Load(_) => written::said(out, at, word_of(line), 0, answer),
-        Command::Arrive { unit, from: _ } => written::said(out, at, word_of(line), unit, answer),
-        Command::Hear { unit, from: _ } => written::said(out, at, word_of(line), unit, answer),
-        Command::Frame(_) => say_buffer(out, at, line, 0, answer, bytes),
-        Command::Take { unit, length: _ } => say_buffer(out, at, line, unit, answer, bytes),
-        _ => say_done(out, at, line, answer),
+        Command::Load(_) => say_event(out, at, line, 0, answer),
+        Command::Arrive { unit, from: _ } => say_event(out, at, line, unit, answer),
+        Command::Hear { unit, from: _ } => say_event(out, at, line, unit, answer),
+        Command::Frame(_) => say_buffer(out, at, line, 0, answer, buffer, n),
+        Command::Take { unit, length: _ } => say_buffer(out, at, line, unit, answer, buffer, n),
+        _ => say_done(out, at, line, good),
     }
 }
 
@@ -335,38 +403,37 @@ fn say_count(
 {
     let card = w.card;
     let rows = w.rows;
-    match owned::count(card, state, store, rows, w.lent, unit) {
+    match owned::count(card, state, part_of(store, 0, w.store), rows, w.lent, unit) {
         Counted::Counters(c) => written::counted(out, w.at, unit, c),
         Counted::Refused(number) => {
             let answer = Answer::Refused((number % 256) as u8);
-            written::said(out, w.at, word_of(line), unit, answer)
+            say_event(out, w.at, line, unit, answer)
         }
     }
 }
 
-// How many bytes are lent, and their sum.
-fn say_sum(memory: &[u8], store: &[u8], bank: Bank, out: &mut [u8; 200000], at: usize) -> usize
+// How many bytes are lent, and their sum, behind the words that asked for it.
+fn say_sum(out: &mut [u8; 200000], at: usize, line: &[u8], b: &[u8], lent: usize) -> usize
     requires { ⌜ at ≤ 180000 ⌝ }
 {
+    let part = part_of(b, 0, lent);
+    let n = within(20, line);
+    written::summed(out, at, &line[..n], part.len() as u64, text::fnv(part))
+}
+
+fn show_bank(
+    w: World,
+    memory: &[u8],
+    store: &[u8],
+    bank: Bank,
+    line: &[u8],
+    out: &mut [u8; 200000],
+) -> usize
+    requires { ⌜ w .at ≤ 180000 ⌝ }
+{
     match bank {
-        Bank::Memory => {
-            written::summed(
-                out,
-                at,
-                b"show\tmemory",
-                memory.len() as u64,
-                text::fnv(memory),
-            )
-        }
-        Bank::Store => {
-            written::summed(
-                out,
-                at,
-                b"show\tstore",
-                store.len() as u64,
-                text::fnv(store),
-            )
-        }
+        Bank::Memory => say_sum(out, w.at, line, memory, w.memory),
+        Bank::Store => say_sum(out, w.at, line, store, w.store),
     }
 }
 
@@ -380,105 +447,25 @@ fn say_rows(w: World, out: &mut [u8; 200000]) -> usize
 // What a command answers.
 fn tell(
     w: World,
+    after: After,
     state: &[u8; 2048],
     memory: &[u8],
     store: &[u8],
-    bytes: &[u8],
+    buffer: &[u8; 1000],
     line: &[u8],
     command: Command,
-    answer: Answer,
     out: &mut [u8; 200000],
 ) -> usize
     requires { ⌜ w .at ≤ 180000 ⌝ }
 {
     match command {
         Command::Count(unit) => say_count(w, state, store, unit, line, out),
-        Command::Show(bank) => say_sum(memory, store, bank, out, w.at),
+        Command::Show(bank) => show_bank(w, memory, store, bank, line, out),
         Command::ShowRows => say_rows(w, out),
         Command::ShowState => written::state(out, w.at, state),
         Command::ShowUnit(unit) => named::unit(out, w.at, state, unit),
-        _ => say_after(out, w.at, line, command, answer, bytes),
+        _ => say_after(out, w.at, line, command, after, buffer, w.good),
     }
-}
-
-// A command in what is lent is done, and then answered.
-fn obey(
-    mut w: World,
-    state: &mut [u8; 2048],
-    memory: &mut [u8],
-    store: &mut [u8],
-    bytes: &mut [u8],
-    line: &[u8],
-    command: Command,
-    out: &mut [u8; 200000],
-) -> World
-    requires { ⌜ w .at ≤ 180000 ⌝ }
-{
-    let card = w.card;
-    let rows = w.rows;
-    let after = act(card, state, memory, store, rows, w.lent, bytes, command);
-    let new_rows = after.rows;
-    w.rows = new_rows;
-    let answer = after.answer;
-    let end = tell(w, state, memory, store, bytes, line, command, answer, out);
-    w.at = ended(out, end);
-    w
-}
-
-// The bytes of a command, to the front of text: those of its hex, or those of an empty buffer; how many they are.
-fn fetch(line: &[u8], command: Command, text: &mut [u8; 75000]) -> usize {
-    match command {
-        Command::Frame(length) => fill(text, length as usize, 238),
-        Command::Take { unit: _, length } => fill(text, length as usize, 238),
-        _ => unhexed(line, bytes_from(command, line.len()), text),
-    }
-}
-
-// A command sees of the memory and the store what is lent, and of the text its own bytes.
-fn narrow(
-    w: World,
-    state: &mut [u8; 2048],
-    memory: &mut [u8],
-    store: &mut [u8],
-    text: &mut [u8],
-    count: usize,
-    line: &[u8],
-    command: Command,
-    out: &mut [u8; 200000],
-) -> World
-    requires { ⌜ w .at ≤ 180000 ⌝ }
-{
-    let m = within(w.memory, memory);
-    let s = within(w.store, store);
-    let n = within(count, text);
-    obey(
-        w,
-        state,
-        &mut memory[..m],
-        &mut store[..s],
-        &mut text[..n],
-        line,
-        command,
-        out,
-    )
-}
-
-// A command, from the line that it was read from.
-fn perform(
-    w: World,
-    state: &mut [u8; 2048],
-    memory: &mut [u8; 300000],
-    store: &mut [u8; 300000],
-    text: &mut [u8; 75000],
-    line: &[u8],
-    command: Command,
-    out: &mut [u8; 200000],
-) -> World
-    requires { ⌜ w .at ≤ 180000 ⌝ }
-{
-    let set = set_up(w, memory, store, command);
-    let n = fetch(line, command, text);
-    narrow(set, state, memory, store, text, n, line, command, out)
 }
 
 // A newline where there is room.
@@ -488,6 +475,44 @@ fn ended(out: &mut [u8], at: usize) -> usize {
         return at + 1;
     }
     at
+}
+
+// The world after an answer that ends at a place.
+fn answered(mut w: World, after: After, end: usize, out: &mut [u8; 200000]) -> World {
+    let rows = after.rows;
+    w.rows = rows;
+    w.at = ended(out, end);
+    w
+}
+
+// A command is done, and then answered.
+fn obey(
+    w: World,
+    state: &mut [u8; 2048],
+    memory: &mut [u8; 300000],
+    store: &mut [u8; 300000],
+    bytes: &[u8],
+    line: &[u8],
+    command: Command,
+    out: &mut [u8; 200000],
+) -> World
+    requires { ⌜ w .at ≤ 180000 ⌝ }
+{
+    let mut buffer = [238u8; 1000];
+    let set = set_up(w, state, memory, store, bytes, command);
+    let after = act(set, state, memory, store, bytes, &mut buffer, command);
+    let end = tell(
+        set,
+        after,
+        state,
+        memory,
+        store,
+        &buffer,
+        line,
+        command,
+        out,
+    );
+    answered(set, after, end, out)
 }
 
 // A line that was too long to be kept is bad.
@@ -555,10 +580,20 @@ fn read_on(mut w: World, input: &mut [u8]) -> World {
     w
 }
 
-// The answers are written, and more is read.
+// Where no whole line is left, the answers are written, and more is read.
 fn refilled(w: World, input: &mut [u8; 400000], out: &[u8; 200000]) -> World {
+    if line_end(input, w.from, w.end) < w.end {
+        return w;
+    }
     write_out(out, w.at);
     read_on(kept(w, input), input)
+}
+
+// The world with its next line.
+fn lined(w: World, input: &mut [u8; 400000], out: &[u8; 200000]) -> World {
+    let mut next = refilled(w, input, out);
+    next.to = line_end(input, next.from, next.end);
+    next
 }
 
 // What is no command is bad, and so is a line that was too long.
@@ -571,40 +606,39 @@ fn say_bad(mut w: World, out: &mut [u8; 200000]) -> World
     w
 }
 
-// Answers a line.
-fn answer_line(
-    mut w: World,
-    state: &mut [u8; 2048],
-    memory: &mut [u8; 300000],
-    store: &mut [u8; 300000],
-    text: &mut [u8; 75000],
-    line: &[u8],
-    out: &mut [u8; 200000],
-) -> World {
-    w.at = cleared(w.at, out);
-    match reading_of(w.long, line) {
-        Reading::Does(command) => perform(w, state, memory, store, text, line, command, out),
-        Reading::Bad => say_bad(w, out),
-    }
-}
-
-// Answers the next line; where no whole one is left, more is read.
+// Answers the next line, if there is a whole one.
 fn turn(
     mut w: World,
     state: &mut [u8; 2048],
     memory: &mut [u8; 300000],
     store: &mut [u8; 300000],
     text: &mut [u8; 75000],
-    input: &mut [u8; 400000],
+    input: &[u8; 400000],
     out: &mut [u8; 200000],
 ) -> World {
-    let to = line_end(input, w.from, w.end);
-    if w.end <= to {
-        return refilled(w, input, out);
+    if w.end <= w.to {
+        return w;
     }
-    let line = part_of(input, w.from, to);
-    w.from = to + 1;
-    answer_line(w, state, memory, store, text, line, out)
+    let line = part_of(input, w.from, w.to);
+    let n = unhexed(line, text);
+    w.from = w.to + 1;
+    w.at = cleared(w.at, out);
+    w.good = true;
+    match reading_of(w.long, line) {
+        Reading::Does(command) => {
+            obey(
+                w,
+                state,
+                memory,
+                store,
+                part_of(text, 0, n),
+                line,
+                command,
+                out,
+            )
+        }
+        Reading::Bad => say_bad(w, out),
+    }
 }
 
 // One turn less; none after the end of the input and its last line.
@@ -637,6 +671,7 @@ fn run(
     let mut w = begun();
     let mut turns: u64 = 18446744073709551615;
     while 0 < turns {
+        w = lined(w, input, out);
         w = turn(w, state, memory, store, text, input, out);
         turns = left(turns, w);
     }

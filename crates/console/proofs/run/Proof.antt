@@ -17,6 +17,9 @@ begun-requires c κs = search needs
 loop-holds : tie.Need-loop-holds Inv-loop μ-loop
 loop-holds c = search needs
 
+lined-requires : tie.Need-lined-requires Inv-loop μ-loop
+lined-requires c κs = search needs
+
 turn-requires : tie.Need-turn-requires Inv-loop μ-loop
 turn-requires c κs = search needs
 
@@ -43,6 +46,7 @@ run-spec =
     μ-loop
     begun-requires
     loop-holds
+    lined-requires
     turn-requires
     left-requires
     loop-less

@@ -5,8 +5,14 @@ use borrow.Author.Needs.{needs}
 use Rattle.console.proofs.unhexed.Statement.{statement}
 use Rattle.console.proofs.unhexed.Tie as tie
 
-part-of-requires : tie.Need-part-of-requires
-part-of-requires c κs = search needs
+count-requires : tie.Need-count-requires
+count-requires c κs = search needs
+
+cast-field : tie.Need-cast-field
+cast-field c = search needs
+
+field-requires : tie.Need-field-requires
+field-requires c κs = search needs
 
 is-hex-requires : tie.Need-is-hex-requires
 is-hex-requires c κs = search needs
@@ -24,4 +30,6 @@ returns-3 : tie.Need-returns-3
 returns-3 c = search needs
 
 pub unhexed-spec : {M : Type 1} → statement M
-unhexed-spec = tie.close (tie.spec part-of-requires is-hex-requires unhex-requires returns returns-2 returns-3)
+unhexed-spec =
+    tie.close
+    (tie.spec count-requires cast-field field-requires is-hex-requires unhex-requires returns returns-2 returns-3)
