@@ -214,7 +214,18 @@ fn poke_state(mut w: World, state: &mut [u8; 2048], to: usize, bytes: &[u8]) -> 
     w
 }
 
-// The world after a command that sets it up: the card, what is lent, and what is poked.
+// The world after a command that chooses the card or lends rows.
+fn choose(w: World, command: Command) -> World
+    ensures { λ r. ⌜ r .at ≡ w .at ⌝ }
+{
+    match command {
+        Command::Card(card) => set_card(w, card),
+        Command::LendRows { count, value } => lend_rows(w, count as usize, value),
+        _ => w,
+    }
+}
+
+// The world after a command that sets it up: what is chosen, lent or poked.
 fn set_up(
     w: World,
     state: &mut [u8; 2048],
@@ -226,16 +237,14 @@ fn set_up(
     ensures { λ r. ⌜ r .at ≡ w .at ⌝ }
 {
     match command {
-        Command::Card(card) => set_card(w, card),
         Command::Lend { bank, length, byte } => {
             lend_bank(w, memory, store, bank, length as usize, byte)
         }
-        Command::LendRows { count, value } => lend_rows(w, count as usize, value),
         Command::Poke { bank, at, from: _ } => {
             poke_bank(w, memory, store, bank, at as usize, bytes)
         }
         Command::PokeState { at, from: _ } => poke_state(w, state, at as usize, bytes),
-        _ => w,
+        _ => choose(w, command),
     }
 }
 
@@ -437,13 +446,6 @@ fn show_bank(
     }
 }
 
-fn say_rows(w: World, out: &mut [u8; 200000]) -> usize
-    requires { ⌜ w .at ≤ 180000 ⌝ }
-{
-    let rows = w.rows;
-    written::rows(out, w.at, least(w.lent, 40), rows)
-}
-
 // What a command answers.
 fn tell(
     w: World,
@@ -461,7 +463,10 @@ fn tell(
     match command {
         Command::Count(unit) => say_count(w, state, store, unit, line, out),
         Command::Show(bank) => show_bank(w, memory, store, bank, line, out),
-        Command::ShowRows => say_rows(w, out),
+        Command::ShowRows => {
+            let rows = w.rows;
+            written::rows(out, w.at, least(w.lent, 40), rows)
+        }
         Command::ShowState => written::state(out, w.at, state),
         Command::ShowUnit(unit) => named::unit(out, w.at, state, unit),
         _ => say_after(out, w.at, line, command, after, buffer, w.good),
@@ -477,17 +482,9 @@ fn ended(out: &mut [u8], at: usize) -> usize {
     at
 }
 
-// The world after an answer that ends at a place.
-fn answered(mut w: World, after: After, end: usize, out: &mut [u8; 200000]) -> World {
-    let rows = after.rows;
-    w.rows = rows;
-    w.at = ended(out, end);
-    w
-}
-
 // A command is done, and then answered.
 fn obey(
-    w: World,
+    mut w: World,
     state: &mut [u8; 2048],
     memory: &mut [u8; 300000],
     store: &mut [u8; 300000],
@@ -499,20 +496,13 @@ fn obey(
     requires { ⌜ w .at ≤ 180000 ⌝ }
 {
     let mut buffer = [238u8; 1000];
-    let set = set_up(w, state, memory, store, bytes, command);
-    let after = act(set, state, memory, store, bytes, &mut buffer, command);
-    let end = tell(
-        set,
-        after,
-        state,
-        memory,
-        store,
-        &buffer,
-        line,
-        command,
-        out,
-    );
-    answered(set, after, end, out)
+    w = set_up(w, state, memory, store, bytes, command);
+    let after = act(w, state, memory, store, bytes, &mut buffer, command);
+    let end = tell(w, after, state, memory, store, &buffer, line, command, out);
+    let rows = after.rows;
+    w.rows = rows;
+    w.at = ended(out, end);
+    w
 }
 
 // A line that was too long to be kept is bad.
@@ -590,10 +580,10 @@ fn refilled(w: World, input: &mut [u8; 400000], out: &[u8; 200000]) -> World {
 }
 
 // The world with its next line.
-fn lined(w: World, input: &mut [u8; 400000], out: &[u8; 200000]) -> World {
-    let mut next = refilled(w, input, out);
-    next.to = line_end(input, next.from, next.end);
-    next
+fn lined(mut w: World, input: &mut [u8; 400000], out: &[u8; 200000]) -> World {
+    w = refilled(w, input, out);
+    w.to = line_end(input, w.from, w.end);
+    w
 }
 
 // What is no command is bad, and so is a line that was too long.
