@@ -532,58 +532,50 @@ fn shift(input: &mut [u8], from: usize, end: usize) -> usize {
     i
 }
 
-// The start of a line comes to the front, unless it is too long already.
-fn kept(mut w: World, input: &mut [u8]) -> World {
-    let from = least(w.from, w.end);
-    let mut n: usize = 0;
-    if MOST < w.end - from {
+// The start of a line comes to the front, unless it is too long already; how many bytes are kept.
+fn kept(input: &mut [u8], from: usize, end: usize) -> usize {
+    let f = least(from, end);
+    if MOST < end - f {
+        return 0;
+    }
+    shift(input, f, end)
+}
+
+// Reads into what is free behind the kept bytes; where what came ends.
+fn more(input: &mut [u8], kept: usize) -> usize {
+    let n = within(kept, input);
+    let got = libc::read(0, &mut input[n..]);
+    n + io::count(got, &input[n..])
+}
+
+// The world after more was read; at the end of the input a last line without a newline gets one.
+fn refilled(mut w: World, input: &mut [u8], kept: usize, end: usize) -> World {
+    if kept == 0 && w.from < w.end {
         w.long = true;
-    } else {
-        n = shift(input, from, w.end);
     }
     w.from = 0;
-    w.end = n;
     w.at = 0;
-    w
-}
-
-// Reads into what is free behind the kept bytes; how many bytes came.
-fn more(input: &mut [u8], kept: usize) -> usize
-    requires { ⌜ kept ≤ length (now input) ⌝ }
-    ensures { λ r. ⌜ kept + r ≤ length (now (input .exit)) ⌝ }
-{
-    let got = libc::read(0, &mut input[kept..]);
-    io::count(got, &input[kept..])
-}
-
-// More is read behind what is kept; at the end of the input a last line without a newline gets one.
-fn read_on(mut w: World, input: &mut [u8]) -> World {
-    let n = within(w.end, input);
-    let came = more(input, n);
-    w.end = n + came;
-    if came == 0 {
+    w.end = end;
+    if end == kept {
         w.open = false;
-        if w.long || 0 < n {
-            w.end = ended(input, n);
+        if w.long || 0 < kept {
+            w.end = ended(input, kept);
         }
     }
+    w.to = w.end;
     w
 }
 
-// Where no whole line is left, the answers are written, and more is read.
-fn refilled(w: World, input: &mut [u8; 400000], out: &[u8; 200000]) -> World {
-    if line_end(input, w.from, w.end) < w.end {
+// The world with its next line; where no whole one is left, the answers are written and more is read.
+fn lined(mut w: World, input: &mut [u8; 400000], out: &[u8; 200000]) -> World {
+    w.to = line_end(input, w.from, w.end);
+    if w.to < w.end {
         return w;
     }
     write_out(out, w.at);
-    read_on(kept(w, input), input)
-}
-
-// The world with its next line.
-fn lined(mut w: World, input: &mut [u8; 400000], out: &[u8; 200000]) -> World {
-    w = refilled(w, input, out);
-    w.to = line_end(input, w.from, w.end);
-    w
+    let n = kept(input, w.from, w.end);
+    let end = more(input, n);
+    refilled(w, input, n, end)
 }
 
 // What is no command is bad, and so is a line that was too long.
