@@ -634,13 +634,6 @@ fn left(turns: u64, w: World) -> u64
     0
 }
 
-// A fresh 16 bus.
-fn state_room() -> [u8; 2048] {
-    let mut state = [0; 2048];
-    state::fresh(&mut state, 16);
-    state
-}
-
 // Reads to the end of the input; nothing says that there is one, so turns are counted.
 fn run(
     state: &mut [u8; 2048],
@@ -660,8 +653,10 @@ fn run(
     write_out(out, w.at);
 }
 
+// The state starts as a fresh 16 bus.
 fn main() {
-    let mut state = state_room();
+    let mut state = [0; 2048];
+    state::fresh(&mut state, 16);
     let mut memory = [0; 300000];
     let mut store = [0; 300000];
     let mut text = [0; 75000];
