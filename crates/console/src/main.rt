@@ -14,8 +14,8 @@ ghost use lib.ListN.{length};
 ghost use Rattle.io.specs.Counts.{Counts};
 
 // The card, the rows, and how much of the rows, the memory and the store is lent.
-// What was read and is not answered stands from `from` to `end`; it ends a line whose start was too long to be kept if `long`.
-// The answers that are not written end at `at`; more may come if `open`.
+// What was read and is not answered stands from `from` to `end`, its first line up to `to`; that ends a line whose start was too long to be kept if `long`.
+// The answers that are not written end at `at`; more may come if `open`; the command was done if `good`.
 struct World {
     card: Card,
     rows: [Counters; 40],
@@ -23,10 +23,12 @@ struct World {
     memory: usize,
     store: usize,
     from: usize,
+    to: usize,
     end: usize,
     at: usize,
     long: bool,
     open: bool,
+    good: bool,
 }
 
 const NEWLINE: u8 = b'\n';
@@ -50,7 +52,9 @@ fn within(n: usize, b: &[u8]) -> usize
 }
 
 // The bytes from a place to another, as far as there are any.
-fn part_of(b: &[u8], from: usize, to: usize) -> &[u8] {
+fn part_of(b: &[u8], from: usize, to: usize) -> &[u8]
+    ensures { λ r. ⌜ length (now r) ≤ to ⌝ }
+{
     let e = within(to, b);
     let f = least(from, e);
     &b[f..e]
@@ -65,32 +69,18 @@ fn begun() -> World {
         memory: 0,
         store: 0,
         from: 0,
+        to: 0,
         end: 0,
         at: 0,
         long: false,
         open: true,
+        good: true,
     }
 }
 
-// Where the bytes of a command start; at the end of the line, where there are none, if it has no such field.
-fn bytes_from(command: Command, end: usize) -> usize {
-    match command {
-        Command::Load(from) => from,
-        Command::Arrive { unit: _, from } => from,
-        Command::Hear { unit: _, from } => from,
-        Command::Poke {
-            bank: _,
-            at: _,
-            from,
-        } => from,
-        Command::PokeState { at: _, from } => from,
-        _ => end,
-    }
-}
-
-// The bytes that a field of hex says, to the front of text; how many there are.
-fn unhexed(line: &[u8], from: usize, text: &mut [u8; 75000]) -> usize {
-    let hex = part_of(line, from, line.len());
+// The bytes that the last field of a line says in hex, to the front of text; how many there are.
+fn unhexed(line: &[u8], text: &mut [u8; 75000]) -> usize {
+    let hex = text::field(line, (text::count(line) % 256) as u8);
     if hex.len() / 2 <= 75000 {
         if text::is_hex(hex) {
             text::unhex(hex, text, 0);
@@ -106,77 +96,45 @@ fn write_out(out: &[u8; 200000], at: usize) {
     io::write_all(1, answers);
 }
 
-// The world before an answer: what there is is written out if the room is short.
-fn cleared(mut w: World, out: &[u8; 200000]) -> World
-    ensures { λ r. ⌜ r .at ≤ 180000 ⌝ }
+// Where an answer starts: what there is is written out if the room is short.
+fn cleared(at: usize, out: &[u8; 200000]) -> usize
+    ensures { λ r. ⌜ r ≤ 180000 ⌝ }
 {
-    if FULL < w.at {
-        write_out(out, w.at);
-        w.at = 0;
+    if FULL < at {
+        write_out(out, at);
+        return 0;
     }
-    w
+    at
 }
 
-// The world after an answer that ends at a place.
-fn said(mut w: World, at: usize) -> World
-    ensures { λ r. ⌜ r .at ≡ at ⌝ }
-{
-    w.at = at;
-    w
+// The first n bytes of b, as far as there are any, each with this value; how many they are.
+fn fill(b: &mut [u8], n: usize, byte: u8) -> usize {
+    let e = least(n, b.len());
+    let mut i: usize = 0;
+    while i < e {
+        b[i] = byte;
+        i += 1;
+    }
+    e
 }
 
-fn say(w: World, text: &[u8], out: &mut [u8; 200000]) -> World
-    requires { ⌜ (w .at ≤ 180000) × (length (now text) ≤ 20) ⌝ }
-{
-    said(w, text::put(out, w.at, text))
-}
-
-// The world after an event, and its answer but for its buffer.
-fn answered(mut w: World, after: After, word: &[u8], unit: u8, out: &mut [u8; 200000]) -> World
-    requires { ⌜ (w .at ≤ 180000) × (length (now word) ≤ 20) ⌝ }
-    ensures { λ r. ⌜ r .at ≤ w .at + 100 ⌝ }
-{
-    let answer = after.answer;
-    let rows = after.rows;
-    let end = written::said(out, w.at, word, unit, answer);
-    w.rows = rows;
-    said(w, end)
-}
-
-// The first so many bytes of a buffer.
-fn put_front(w: World, buffer: &[u8], wanted: usize, out: &mut [u8; 200000]) -> World
-    requires { ⌜ (w .at ≤ 180100) × (length (now buffer) ≤ 1000) ⌝ }
-{
-    let n = within(wanted, buffer);
-    said(w, written::put_bytes(out, w.at, &buffer[..n]))
-}
-
-fn set_card(w: World, card: Card, out: &mut [u8; 200000]) -> World
-    requires { ⌜ w .at ≤ 180000 ⌝ }
+fn set_card(w: World, card: Card) -> World
+    ensures { λ r. ⌜ r .at ≡ w .at ⌝ }
 {
     let rows = w.rows;
-    let world = World {
+    World {
         card,
         rows,
         lent: w.lent,
         memory: w.memory,
         store: w.store,
         from: w.from,
+        to: w.to,
         end: w.end,
         at: w.at,
         long: w.long,
         open: w.open,
-    };
-    say(world, b"card\tok", out)
-}
-
-// The first n bytes of b, each with this value.
-fn fill(b: &mut [u8], n: usize, byte: u8) {
-    let e = least(n, b.len());
-    let mut i: usize = 0;
-    while i < e {
-        b[i] = byte;
-        i += 1;
+        good: w.good,
     }
 }
 
@@ -191,35 +149,14 @@ fn lend_bank(
     ensures { λ r. ⌜ r .at ≡ w .at ⌝ }
 {
     match bank {
-        Bank::Memory => {
-            fill(memory, n, byte);
-            w.memory = n;
-        }
-        Bank::Store => {
-            fill(store, n, byte);
-            w.store = n;
-        }
+        Bank::Memory => w.memory = fill(memory, n, byte),
+        Bank::Store => w.store = fill(store, n, byte),
     }
     w
 }
 
-fn say_lend(
-    w: World,
-    memory: &mut [u8; 300000],
-    store: &mut [u8; 300000],
-    bank: Bank,
-    n: usize,
-    byte: u8,
-    out: &mut [u8; 200000],
-) -> World
-    requires { ⌜ w .at ≤ 180000 ⌝ }
-{
-    let lent = lend_bank(w, memory, store, bank, n, byte);
-    say(lent, b"lend\tok", out)
-}
-
-fn lend_rows(mut w: World, n: usize, value: u32, out: &mut [u8; 200000]) -> World
-    requires { ⌜ w .at ≤ 180000 ⌝ }
+fn lend_rows(mut w: World, n: usize, value: u32) -> World
+    ensures { λ r. ⌜ r .at ≡ w .at ⌝ }
 {
     let row = Counters {
         arrived: value,
@@ -238,130 +175,14 @@ fn lend_rows(mut w: World, n: usize, value: u32, out: &mut [u8; 200000]) -> Worl
     };
     w.rows = [row; 40];
     w.lent = n;
-    say(w, b"lend\tok", out)
+    w
 }
 
-// The events see of the memory and the store what is lent.
-fn load(
-    w: World,
-    state: &mut [u8; 2048],
-    memory: &mut [u8],
-    store: &[u8],
-    text: &[u8],
-    out: &mut [u8; 200000],
-) -> World
-    requires { ⌜ w .at ≤ 180000 ⌝ }
-{
-    let card = w.card;
-    let rows = w.rows;
-    let m = within(w.memory, memory);
-    let s = part_of(store, 0, w.store);
-    let after = owned::load(card, text, &mut memory[..m], state, s, rows, w.lent);
-    answered(w, after, b"load", 0, out)
-}
-
-fn arrive(
-    w: World,
-    state: &mut [u8; 2048],
-    memory: &[u8],
-    store: &mut [u8],
-    unit: u8,
-    cell: &[u8],
-    out: &mut [u8; 200000],
-) -> World
-    requires { ⌜ w .at ≤ 180000 ⌝ }
-{
-    let card = w.card;
-    let rows = w.rows;
-    let m = part_of(memory, 0, w.memory);
-    let s = within(w.store, store);
-    let after = owned::arrive(card, state, m, &mut store[..s], rows, w.lent, unit, cell);
-    answered(w, after, b"arrive", unit, out)
-}
-
-fn hear(
-    w: World,
-    state: &mut [u8; 2048],
-    store: &mut [u8],
-    unit: u8,
-    frame: &[u8],
-    out: &mut [u8; 200000],
-) -> World
-    requires { ⌜ w .at ≤ 180000 ⌝ }
-{
-    let card = w.card;
-    let rows = w.rows;
-    let s = within(w.store, store);
-    let after = owned::hear(card, state, &mut store[..s], rows, w.lent, unit, frame);
-    answered(w, after, b"hear", unit, out)
-}
-
-fn frame_into(
-    w: World,
-    state: &mut [u8; 2048],
-    store: &mut [u8],
-    buffer: &mut [u8],
-    wanted: usize,
-) -> After {
-    let card = w.card;
-    let rows = w.rows;
-    let s = within(w.store, store);
-    let n = within(wanted, buffer);
-    owned::frame(card, state, &mut store[..s], rows, w.lent, &mut buffer[..n])
-}
-
-fn take_into(
-    w: World,
-    state: &mut [u8; 2048],
-    store: &[u8],
-    unit: u8,
-    buffer: &mut [u8],
-    wanted: usize,
-) -> After {
-    let card = w.card;
-    let rows = w.rows;
-    let s = part_of(store, 0, w.store);
-    let n = within(wanted, buffer);
-    owned::take(card, state, s, rows, w.lent, unit, &mut buffer[..n])
-}
-
-// A frame into the first so many bytes of a buffer.
-fn frame(
-    w: World,
-    state: &mut [u8; 2048],
-    store: &mut [u8; 300000],
-    wanted: usize,
-    out: &mut [u8; 200000],
-) -> World
-    requires { ⌜ w .at ≤ 180000 ⌝ }
-{
-    let mut buffer = [238u8; 1000];
-    let after = frame_into(w, state, store, &mut buffer, wanted);
-    let done = answered(w, after, b"frame", 0, out);
-    put_front(done, &buffer, wanted, out)
-}
-
-// A take into the first so many bytes of a buffer.
-fn take(
-    w: World,
-    state: &mut [u8; 2048],
-    store: &[u8; 300000],
-    unit: u8,
-    wanted: usize,
-    out: &mut [u8; 200000],
-) -> World
-    requires { ⌜ w .at ≤ 180000 ⌝ }
-{
-    let mut buffer = [238u8; 1000];
-    let after = take_into(w, state, store, unit, &mut buffer, wanted);
-    let done = answered(w, after, b"take", unit, out);
-    put_front(done, &buffer, wanted, out)
-}
-
-// Writes bytes from a place on, if they all lie inside.
-fn poked(b: &mut [u8], to: usize, bytes: &[u8]) -> bool {
-    if to <= b.len() {
-        if bytes.len() <= b.len() - to {
+// Writes bytes from a place on, if they all lie inside what is lent.
+fn poke(b: &mut [u8], lent: usize, to: usize, bytes: &[u8]) -> bool {
+    let e = least(lent, b.len());
+    if to <= e {
+        if bytes.len() <= e - to {
             octets::copy(bytes, b, to);
             return true;
         }
@@ -369,46 +190,214 @@ fn poked(b: &mut [u8], to: usize, bytes: &[u8]) -> bool {
     false
 }
 
-// The same, in what is lent.
-fn poke(
-    w: World,
-    b: &mut [u8],
-    lent: usize,
-    to: usize,
-    bytes: &[u8],
-    out: &mut [u8; 200000],
-) -> World
-    requires { ⌜ w .at ≤ 180000 ⌝ }
-{
-    let n = within(lent, b);
-    if poked(&mut b[..n], to, bytes) {
-        return say(w, b"poke\tok", out);
-    }
-    say(w, b"bad", out)
-}
-
 fn poke_bank(
-    w: World,
+    mut w: World,
     memory: &mut [u8; 300000],
     store: &mut [u8; 300000],
     bank: Bank,
     to: usize,
     bytes: &[u8],
-    out: &mut [u8; 200000],
 ) -> World
-    requires { ⌜ w .at ≤ 180000 ⌝ }
+    ensures { λ r. ⌜ r .at ≡ w .at ⌝ }
 {
     match bank {
-        Bank::Memory => poke(w, memory, w.memory, to, bytes, out),
-        Bank::Store => poke(w, store, w.store, to, bytes, out),
+        Bank::Memory => w.good = poke(memory, w.memory, to, bytes),
+        Bank::Store => w.good = poke(store, w.store, to, bytes),
+    }
+    w
+}
+
+fn poke_state(mut w: World, state: &mut [u8; 2048], to: usize, bytes: &[u8]) -> World
+    ensures { λ r. ⌜ r .at ≡ w .at ⌝ }
+{
+    w.good = poke(state, 2048, to, bytes);
+    w
+}
+
+// The world after a command that chooses the card or lends rows.
+fn choose(w: World, command: Command) -> World
+    ensures { λ r. ⌜ r .at ≡ w .at ⌝ }
+{
+    match command {
+        Command::Card(card) => set_card(w, card),
+        Command::LendRows { count, value } => lend_rows(w, count as usize, value),
+        _ => w,
     }
 }
 
-fn count(w: World, state: &[u8; 2048], store: &[u8], unit: u8) -> Counted {
+// The world after a command that sets it up: what is chosen, lent or poked.
+fn set_up(
+    w: World,
+    state: &mut [u8; 2048],
+    memory: &mut [u8; 300000],
+    store: &mut [u8; 300000],
+    bytes: &[u8],
+    command: Command,
+) -> World
+    ensures { λ r. ⌜ r .at ≡ w .at ⌝ }
+{
+    match command {
+        Command::Lend { bank, length, byte } => {
+            lend_bank(w, memory, store, bank, length as usize, byte)
+        }
+        Command::Poke { bank, at, from: _ } => {
+            poke_bank(w, memory, store, bank, at as usize, bytes)
+        }
+        Command::PokeState { at, from: _ } => poke_state(w, state, at as usize, bytes),
+        _ => choose(w, command),
+    }
+}
+
+// How many bytes of its buffer a command asks for.
+fn wanted(command: Command) -> usize
+    ensures { λ r. ⌜ r ≤ 1000 ⌝ }
+{
+    match command {
+        Command::Frame(length) => least(length as usize, 1000),
+        Command::Take { unit: _, length } => least(length as usize, 1000),
+        _ => 0,
+    }
+}
+
+// What an event does, and its answer: it sees of the memory and the store what is lent.
+fn act(
+    w: World,
+    state: &mut [u8; 2048],
+    memory: &mut [u8],
+    store: &mut [u8],
+    bytes: &[u8],
+    buffer: &mut [u8; 1000],
+    command: Command,
+) -> After {
     let card = w.card;
     let rows = w.rows;
-    let s = part_of(store, 0, w.store);
-    owned::count(card, state, s, rows, w.lent, unit)
+    let m = within(w.memory, memory);
+    let s = within(w.store, store);
+    match command {
+        Command::Load(_) => {
+            owned::load(
+                card,
+                bytes,
+                &mut memory[..m],
+                state,
+                &store[..s],
+                rows,
+                w.lent,
+            )
+        }
+        Command::Arrive { unit, from: _ } => {
+            owned::arrive(
+                card,
+                state,
+                &memory[..m],
+                &mut store[..s],
+                rows,
+                w.lent,
+                unit,
+                bytes,
+            )
+        }
+        _ => call(
+            card,
+            state,
+            &mut store[..s],
+            rows,
+            w.lent,
+            bytes,
+            buffer,
+            command,
+        ),
+    }
+}
+
+// The same, of an event that needs no memory.
+fn call(
+    card: Card,
+    state: &mut [u8; 2048],
+    store: &mut [u8],
+    rows: [Counters; 40],
+    lent: usize,
+    bytes: &[u8],
+    buffer: &mut [u8],
+    command: Command,
+) -> After {
+    let n = within(wanted(command), buffer);
+    match command {
+        Command::Hear { unit, from: _ } => owned::hear(card, state, store, rows, lent, unit, bytes),
+        Command::Frame(_) => owned::frame(card, state, store, rows, lent, &mut buffer[..n]),
+        Command::Take { unit, length: _ } => {
+            owned::take(card, state, store, rows, lent, unit, &mut buffer[..n])
+        }
+        _ => owned::joined(Answer::Empty, rows),
+    }
+}
+
+// The word that a line starts with, which its answer starts with too.
+fn word_of(line: &[u8]) -> &[u8]
+    ensures { λ r. ⌜ length (now r) ≤ 20 ⌝ }
+{
+    let word = text::field(line, 1);
+    let n = within(20, word);
+    &word[..n]
+}
+
+// The answer of an event but for its buffer.
+fn say_event(out: &mut [u8; 200000], at: usize, line: &[u8], unit: u8, answer: Answer) -> usize
+    requires { ⌜ at ≤ 180000 ⌝ }
+    ensures { λ r. ⌜ r ≤ at + 100 ⌝ }
+{
+    written::said(out, at, word_of(line), unit, answer)
+}
+
+// The answer of an event with its buffer.
+fn say_buffer(
+    out: &mut [u8; 200000],
+    at: usize,
+    line: &[u8],
+    unit: u8,
+    answer: Answer,
+    buffer: &[u8; 1000],
+    count: usize,
+) -> usize
+    requires { ⌜ (at ≤ 180000) × (count ≤ 1000) ⌝ }
+{
+    let end = say_event(out, at, line, unit, answer);
+    written::put_bytes(out, end, part_of(buffer, 0, count))
+}
+
+// A command that is no event is done, or bad.
+fn say_done(out: &mut [u8; 200000], at: usize, line: &[u8], good: bool) -> usize
+    requires { ⌜ at ≤ 180000 ⌝ }
+{
+    if good {
+        let end = text::put(out, at, word_of(line));
+        return text::put(out, end, b"\tok");
+    }
+    text::put(out, at, b"bad")
+}
+
+// What a command that did something answers.
+fn say_after(
+    out: &mut [u8; 200000],
+    at: usize,
+    line: &[u8],
+    command: Command,
+    after: After,
+    buffer: &[u8; 1000],
+    good: bool,
+) -> usize
+    requires { ⌜ at ≤ 180000 ⌝ }
+{
+    let answer = after.answer;
+    let n = wanted(command);
+    match command {
+        Command::Load(_) => say_event(out, at, line, 0, answer),
+        Command::Arrive { unit, from: _ } => say_event(out, at, line, unit, answer),
+        Command::Hear { unit, from: _ } => say_event(out, at, line, unit, answer),
+        Command::Frame(_) => say_buffer(out, at, line, 0, answer, buffer, n),
+        Command::Take { unit, length: _ } => say_buffer(out, at, line, unit, answer, buffer, n),
+        _ => say_done(out, at, line, good),
+    }
 }
 
 fn say_count(
@@ -416,39 +405,29 @@ fn say_count(
     state: &[u8; 2048],
     store: &[u8],
     unit: u8,
+    line: &[u8],
     out: &mut [u8; 200000],
-    at: usize,
 ) -> usize
-    requires { ⌜ at ≤ 180000 ⌝ }
+    requires { ⌜ w .at ≤ 180000 ⌝ }
 {
-    match count(w, state, store, unit) {
-        Counted::Counters(c) => written::counted(out, at, unit, c),
+    let card = w.card;
+    let rows = w.rows;
+    match owned::count(card, state, part_of(store, 0, w.store), rows, w.lent, unit) {
+        Counted::Counters(c) => written::counted(out, w.at, unit, c),
         Counted::Refused(number) => {
-            written::said(
-                out,
-                at,
-                b"count",
-                unit,
-                Answer::Refused((number % 256) as u8),
-            )
+            let answer = Answer::Refused((number % 256) as u8);
+            say_event(out, w.at, line, unit, answer)
         }
     }
 }
 
-// The sum of what is lent.
-fn say_sum(b: &[u8], lent: usize, text: &[u8], out: &mut [u8; 200000], at: usize) -> usize
-    requires { ⌜ (length (now text) ≤ 20) × (at ≤ 180000) ⌝ }
-{
-    let part = part_of(b, 0, lent);
-    written::summed(out, at, text, part.len() as u64, text::fnv(part))
-}
-
-fn say_rows(w: World, out: &mut [u8; 200000], at: usize) -> usize
+// How many bytes are lent, and their sum, behind the words that asked for it.
+fn say_sum(out: &mut [u8; 200000], at: usize, line: &[u8], b: &[u8], lent: usize) -> usize
     requires { ⌜ at ≤ 180000 ⌝ }
 {
-    let n = least(w.lent, 40);
-    let rows = w.rows;
-    written::rows(out, at, n, rows)
+    let part = part_of(b, 0, lent);
+    let n = within(20, line);
+    written::summed(out, at, &line[..n], part.len() as u64, text::fnv(part))
 }
 
 fn show_bank(
@@ -456,97 +435,41 @@ fn show_bank(
     memory: &[u8],
     store: &[u8],
     bank: Bank,
+    line: &[u8],
     out: &mut [u8; 200000],
-    at: usize,
 ) -> usize
-    requires { ⌜ at ≤ 180000 ⌝ }
+    requires { ⌜ w .at ≤ 180000 ⌝ }
 {
     match bank {
-        Bank::Memory => say_sum(memory, w.memory, b"show\tmemory", out, at),
-        Bank::Store => say_sum(store, w.store, b"show\tstore", out, at),
+        Bank::Memory => say_sum(out, w.at, line, memory, w.memory),
+        Bank::Store => say_sum(out, w.at, line, store, w.store),
     }
 }
 
-// What a command shows of the state, the rows and the store.
-fn show(
+// What a command answers.
+fn tell(
     w: World,
+    after: After,
     state: &[u8; 2048],
+    memory: &[u8],
     store: &[u8],
+    buffer: &[u8; 1000],
+    line: &[u8],
     command: Command,
     out: &mut [u8; 200000],
 ) -> usize
     requires { ⌜ w .at ≤ 180000 ⌝ }
 {
     match command {
-        Command::Count(unit) => say_count(w, state, store, unit, out, w.at),
-        Command::ShowRows => say_rows(w, out, w.at),
+        Command::Count(unit) => say_count(w, state, store, unit, line, out),
+        Command::Show(bank) => show_bank(w, memory, store, bank, line, out),
+        Command::ShowRows => {
+            let rows = w.rows;
+            written::rows(out, w.at, least(w.lent, 40), rows)
+        }
         Command::ShowState => written::state(out, w.at, state),
         Command::ShowUnit(unit) => named::unit(out, w.at, state, unit),
-        // all others are done by now
-        _ => w.at,
-    }
-}
-
-// A command. From `obey` it goes on to `call` and `tell`, each of which is lent less, until one of them knows it: one match over all of them takes the prover too long.
-fn obey(
-    w: World,
-    state: &mut [u8; 2048],
-    memory: &mut [u8; 300000],
-    store: &mut [u8; 300000],
-    bytes: &[u8],
-    command: Command,
-    out: &mut [u8; 200000],
-) -> World
-    requires { ⌜ w .at ≤ 180000 ⌝ }
-{
-    match command {
-        Command::Lend { bank, length, byte } => {
-            say_lend(w, memory, store, bank, length as usize, byte, out)
-        }
-        Command::Load(_) => load(w, state, memory, store, bytes, out),
-        Command::Arrive { unit, from: _ } => arrive(w, state, memory, store, unit, bytes, out),
-        Command::Poke { bank, at, from: _ } => {
-            poke_bank(w, memory, store, bank, at as usize, bytes, out)
-        }
-        Command::Show(bank) => said(w, show_bank(w, memory, store, bank, out, w.at)),
-        _ => call(w, state, store, bytes, command, out),
-    }
-}
-
-// A command that needs no memory.
-fn call(
-    w: World,
-    state: &mut [u8; 2048],
-    store: &mut [u8; 300000],
-    bytes: &[u8],
-    command: Command,
-    out: &mut [u8; 200000],
-) -> World
-    requires { ⌜ w .at ≤ 180000 ⌝ }
-{
-    match command {
-        Command::Hear { unit, from: _ } => hear(w, state, store, unit, bytes, out),
-        Command::Frame(length) => frame(w, state, store, length as usize, out),
-        Command::Take { unit, length } => take(w, state, store, unit, length as usize, out),
-        Command::PokeState { at, from: _ } => poke(w, state, 2048, at as usize, bytes, out),
-        _ => tell(w, state, store, command, out),
-    }
-}
-
-// A command that leaves the state, the memory and the store as they are.
-fn tell(
-    w: World,
-    state: &[u8; 2048],
-    store: &[u8],
-    command: Command,
-    out: &mut [u8; 200000],
-) -> World
-    requires { ⌜ w .at ≤ 180000 ⌝ }
-{
-    match command {
-        Command::Card(card) => set_card(w, card, out),
-        Command::LendRows { count, value } => lend_rows(w, count as usize, value, out),
-        _ => said(w, show(w, state, store, command, out)),
+        _ => say_after(out, w.at, line, command, after, buffer, w.good),
     }
 }
 
@@ -559,10 +482,26 @@ fn ended(out: &mut [u8], at: usize) -> usize {
     at
 }
 
-// A line is answered: a newline behind its answer.
-fn line_said(mut w: World, out: &mut [u8; 200000]) -> World {
-    w.at = ended(out, w.at);
-    w.long = false;
+// A command is done, and then answered.
+fn obey(
+    mut w: World,
+    state: &mut [u8; 2048],
+    memory: &mut [u8; 300000],
+    store: &mut [u8; 300000],
+    bytes: &[u8],
+    line: &[u8],
+    command: Command,
+    out: &mut [u8; 200000],
+) -> World
+    requires { ⌜ w .at ≤ 180000 ⌝ }
+{
+    let mut buffer = [238u8; 1000];
+    w = set_up(w, state, memory, store, bytes, command);
+    let after = act(w, state, memory, store, bytes, &mut buffer, command);
+    let end = tell(w, after, state, memory, store, &buffer, line, command, out);
+    let rows = after.rows;
+    w.rows = rows;
+    w.at = ended(out, end);
     w
 }
 
@@ -593,75 +532,94 @@ fn shift(input: &mut [u8], from: usize, end: usize) -> usize {
     i
 }
 
-// The start of a line comes to the front, unless it is too long already.
-fn kept(mut w: World, input: &mut [u8]) -> World {
-    let from = least(w.from, w.end);
-    let mut n: usize = 0;
-    if MOST < w.end - from {
+// The start of a line comes to the front, unless it is too long already; how many bytes are kept.
+fn kept(input: &mut [u8], from: usize, end: usize) -> usize {
+    let f = least(from, end);
+    if MOST < end - f {
+        return 0;
+    }
+    shift(input, f, end)
+}
+
+// Reads into what is free behind the kept bytes; where what came ends.
+fn more(input: &mut [u8], kept: usize) -> usize {
+    let n = within(kept, input);
+    let got = libc::read(0, &mut input[n..]);
+    n + io::count(got, &input[n..])
+}
+
+// The world after more was read; at the end of the input a last line without a newline gets one.
+fn refilled(mut w: World, input: &mut [u8], kept: usize, end: usize) -> World {
+    if kept == 0 && w.from < w.end {
         w.long = true;
-    } else {
-        n = shift(input, from, w.end);
     }
     w.from = 0;
-    w.end = n;
     w.at = 0;
-    w
-}
-
-// Reads into what is free behind the kept bytes; how many bytes came.
-fn more(input: &mut [u8], kept: usize) -> usize
-    requires { ⌜ kept ≤ length (now input) ⌝ }
-    ensures { λ r. ⌜ kept + r ≤ length (now (input .exit)) ⌝ }
-{
-    let got = libc::read(0, &mut input[kept..]);
-    io::count(got, &input[kept..])
-}
-
-// More is read behind what is kept; at the end of the input a last line without a newline gets one.
-fn read_on(mut w: World, input: &mut [u8]) -> World {
-    let n = within(w.end, input);
-    let came = more(input, n);
-    w.end = n + came;
-    if came == 0 {
+    w.end = end;
+    if end == kept {
         w.open = false;
-        if w.long || 0 < n {
-            w.end = ended(input, n);
+        if w.long || 0 < kept {
+            w.end = ended(input, kept);
         }
     }
+    w.to = w.end;
     w
 }
 
-// The answers are written, and more is read.
-fn refilled(w: World, input: &mut [u8; 400000], out: &[u8; 200000]) -> World {
+// The world with its next line; where no whole one is left, the answers are written and more is read.
+fn lined(mut w: World, input: &mut [u8; 400000], out: &[u8; 200000]) -> World {
+    w.to = line_end(input, w.from, w.end);
+    if w.to < w.end {
+        return w;
+    }
     write_out(out, w.at);
-    read_on(kept(w, input), input)
+    let n = kept(input, w.from, w.end);
+    let end = more(input, n);
+    refilled(w, input, n, end)
 }
 
-// Answers the next line; where no whole one is left, more is read.
+// What is no command is bad, and so is a line that was too long.
+fn say_bad(mut w: World, out: &mut [u8; 200000]) -> World
+    requires { ⌜ w .at ≤ 180000 ⌝ }
+{
+    let end = text::put(out, w.at, b"bad");
+    w.at = ended(out, end);
+    w.long = false;
+    w
+}
+
+// Answers the next line, if there is a whole one.
 fn turn(
     mut w: World,
     state: &mut [u8; 2048],
     memory: &mut [u8; 300000],
     store: &mut [u8; 300000],
     text: &mut [u8; 75000],
-    input: &mut [u8; 400000],
+    input: &[u8; 400000],
     out: &mut [u8; 200000],
 ) -> World {
-    let to = line_end(input, w.from, w.end);
-    if w.end <= to {
-        return refilled(w, input, out);
+    if w.end <= w.to {
+        return w;
     }
-    let next = to + 1;
-    let line = part_of(input, w.from, to);
-    w.from = next;
+    let line = part_of(input, w.from, w.to);
+    let n = unhexed(line, text);
+    w.from = w.to + 1;
+    w.at = cleared(w.at, out);
+    w.good = true;
     match reading_of(w.long, line) {
         Reading::Does(command) => {
-            let n = unhexed(line, bytes_from(command, line.len()), text);
-            let bytes = part_of(text, 0, n);
-            let ready = cleared(w, out);
-            line_said(obey(ready, state, memory, store, bytes, command, out), out)
+            obey(
+                w,
+                state,
+                memory,
+                store,
+                part_of(text, 0, n),
+                line,
+                command,
+                out,
+            )
         }
-        Reading::Bad => line_said(say(cleared(w, out), b"bad", out), out),
+        Reading::Bad => say_bad(w, out),
     }
 }
 
@@ -676,13 +634,6 @@ fn left(turns: u64, w: World) -> u64
     0
 }
 
-// A fresh 16 bus.
-fn state_room() -> [u8; 2048] {
-    let mut state = [0; 2048];
-    state::fresh(&mut state, 16);
-    state
-}
-
 // Reads to the end of the input; nothing says that there is one, so turns are counted.
 fn run(
     state: &mut [u8; 2048],
@@ -695,14 +646,17 @@ fn run(
     let mut w = begun();
     let mut turns: u64 = 18446744073709551615;
     while 0 < turns {
+        w = lined(w, input, out);
         w = turn(w, state, memory, store, text, input, out);
         turns = left(turns, w);
     }
     write_out(out, w.at);
 }
 
+// The state starts as a fresh 16 bus.
 fn main() {
-    let mut state = state_room();
+    let mut state = [0; 2048];
+    state::fresh(&mut state, 16);
     let mut memory = [0; 300000];
     let mut store = [0; 300000];
     let mut text = [0; 75000];
