@@ -11,25 +11,12 @@ Inv-loop state₀ memory₀ store₀ text₀ input₀ out₀ w₀ turns₀ state
 abbrev μ-loop : tie.MeasureT-loop
 μ-loop state₀ memory₀ store₀ text₀ input₀ out₀ w₀ turns₀ state memory store text input out w turns = turns
 
-<<<<<<< HEAD
-=======
->>>>>>> 3c2d7c264b2c6d618c5c8d9032543e55bc5be31e
 pub run-spec : {M : Type 1} → statement M
 run-spec =
     tie.close
     (tie.spec
     Inv-loop
     μ-loop
-<<<<<<< HEAD
-    (λ c κs. search needs)
-    (λ c. search needs)
-    (λ c κs. search needs)
-    (λ c κs. search needs)
-    (λ c. search needs)
-    (λ c. search needs)
-    (λ c κs. search needs)
-    (λ c. search needs))
-=======
     (λ c κs. search needs)
     (λ c. search needs)
     (λ c κs. search needs)
@@ -39,4 +26,3 @@ run-spec =
     (λ c. search needs)
     (λ c κs. search needs)
     (λ c. search needs))
->>>>>>> 3c2d7c264b2c6d618c5c8d9032543e55bc5be31e
