@@ -117,26 +117,26 @@ pub enum Counted {
 }
 
 // The parts of a place: the number of a refusal, 0 where there is none; the row.
-pub fn number_of(place: Place) -> u8
+fn number_of(place: Place) -> u8
     ensures { λ r. ⌜ r ≡ place .number ⌝ }
 {
     place.number
 }
 
-pub fn row_at(place: Place) -> usize
+fn row_at(place: Place) -> usize
     ensures { λ r. ⌜ r ≡ place .at ⌝ }
 {
     place.at
 }
 
 // The two answers.
-pub fn refusal(number: u8) -> Counted
+fn refusal(number: u8) -> Counted
     ensures { λ r. ⌜ r ≡ counted.Refused number ⌝ }
 {
     Counted::Refused(number as u32)
 }
 
-pub fn found(row: Counters) -> Counted
+fn found(row: Counters) -> Counted
     ensures { λ r. ⌜ r ≡ counted.Counters row ⌝ }
 {
     Counted::Counters(row)
