@@ -78,7 +78,7 @@ fn begun() -> World {
     }
 }
 
-// The bytes that the last field of a line says in hex, to the front of text; how many there are.
+// The bytes that the last field of a line says in hex, to the front of text; how many there are. No command has 256 fields.
 fn unhexed(line: &[u8], text: &mut [u8; 75000]) -> usize {
     let hex = text::field(line, (text::count(line) % 256) as u8);
     if hex.len() / 2 <= 75000 {
@@ -207,13 +207,6 @@ fn poke_bank(
     w
 }
 
-fn poke_state(mut w: World, state: &mut [u8; 2048], to: usize, bytes: &[u8]) -> World
-    ensures { λ r. ⌜ r .at ≡ w .at ⌝ }
-{
-    w.good = poke(state, 2048, to, bytes);
-    w
-}
-
 // The world after a command that chooses the card or lends rows.
 fn choose(w: World, command: Command) -> World
     ensures { λ r. ⌜ r .at ≡ w .at ⌝ }
@@ -227,7 +220,7 @@ fn choose(w: World, command: Command) -> World
 
 // The world after a command that sets it up: what is chosen, lent or poked.
 fn set_up(
-    w: World,
+    mut w: World,
     state: &mut [u8; 2048],
     memory: &mut [u8; 300000],
     store: &mut [u8; 300000],
@@ -243,7 +236,10 @@ fn set_up(
         Command::Poke { bank, at, from: _ } => {
             poke_bank(w, memory, store, bank, at as usize, bytes)
         }
-        Command::PokeState { at, from: _ } => poke_state(w, state, at as usize, bytes),
+        Command::PokeState { at, from: _ } => {
+            w.good = poke(state, 2048, at as usize, bytes);
+            w
+        }
         _ => choose(w, command),
     }
 }
@@ -265,25 +261,18 @@ fn act(
     state: &mut [u8; 2048],
     memory: &mut [u8],
     store: &mut [u8],
-    bytes: &[u8],
+    text: &[u8],
     buffer: &mut [u8; 1000],
     command: Command,
 ) -> After {
     let card = w.card;
     let rows = w.rows;
+    let lent = w.lent;
     let m = within(w.memory, memory);
     let s = within(w.store, store);
     match command {
         Command::Load(_) => {
-            owned::load(
-                card,
-                bytes,
-                &mut memory[..m],
-                state,
-                &store[..s],
-                rows,
-                w.lent,
-            )
+            owned::load(card, text, &mut memory[..m], state, &store[..s], rows, lent)
         }
         Command::Arrive { unit, from: _ } => {
             owned::arrive(
@@ -292,38 +281,30 @@ fn act(
                 &memory[..m],
                 &mut store[..s],
                 rows,
-                w.lent,
+                lent,
                 unit,
-                bytes,
+                text,
             )
         }
-        _ => call(
-            card,
-            state,
-            &mut store[..s],
-            rows,
-            w.lent,
-            bytes,
-            buffer,
-            command,
-        ),
+        _ => call(w, state, &mut store[..s], text, buffer, command),
     }
 }
 
-// The same, of an event that needs no memory.
+// The same, of an event that needs no memory; of all other commands nothing.
 fn call(
-    card: Card,
+    w: World,
     state: &mut [u8; 2048],
     store: &mut [u8],
-    rows: [Counters; 40],
-    lent: usize,
-    bytes: &[u8],
+    text: &[u8],
     buffer: &mut [u8],
     command: Command,
 ) -> After {
+    let card = w.card;
+    let rows = w.rows;
+    let lent = w.lent;
     let n = within(wanted(command), buffer);
     match command {
-        Command::Hear { unit, from: _ } => owned::hear(card, state, store, rows, lent, unit, bytes),
+        Command::Hear { unit, from: _ } => owned::hear(card, state, store, rows, lent, unit, text),
         Command::Frame(_) => owned::frame(card, state, store, rows, lent, &mut buffer[..n]),
         Command::Take { unit, length: _ } => {
             owned::take(card, state, store, rows, lent, unit, &mut buffer[..n])
@@ -382,13 +363,12 @@ fn say_after(
     at: usize,
     line: &[u8],
     command: Command,
-    after: After,
+    answer: Answer,
     buffer: &[u8; 1000],
     good: bool,
 ) -> usize
     requires { ⌜ at ≤ 180000 ⌝ }
 {
-    let answer = after.answer;
     let n = wanted(command);
     match command {
         Command::Load(_) => say_event(out, at, line, 0, answer),
@@ -449,7 +429,7 @@ fn show_bank(
 // What a command answers.
 fn tell(
     w: World,
-    after: After,
+    answer: Answer,
     state: &[u8; 2048],
     memory: &[u8],
     store: &[u8],
@@ -469,7 +449,7 @@ fn tell(
         }
         Command::ShowState => written::state(out, w.at, state),
         Command::ShowUnit(unit) => named::unit(out, w.at, state, unit),
-        _ => say_after(out, w.at, line, command, after, buffer, w.good),
+        _ => say_after(out, w.at, line, command, answer, buffer, w.good),
     }
 }
 
@@ -498,7 +478,8 @@ fn obey(
     let mut buffer = [238u8; 1000];
     w = set_up(w, state, memory, store, bytes, command);
     let after = act(w, state, memory, store, bytes, &mut buffer, command);
-    let end = tell(w, after, state, memory, store, &buffer, line, command, out);
+    let answer = after.answer;
+    let end = tell(w, answer, state, memory, store, &buffer, line, command, out);
     let rows = after.rows;
     w.rows = rows;
     w.at = ended(out, end);
