@@ -19,9 +19,9 @@ use Rattle.shelf.specs.declared.Found.{Found}
 use Rattle.shelf.specs.declared.Found.the-variants.{At, Nothing}
 use Rattle.shelf.proofs.Finding.{find-at, find-nothing}
 use Rattle.soundness.specs.State.{every, among, noneRepeated, askHeld, grantHasCell, requestHasCell, nobodyOr, lastsKnown, asksKnown, arbiterKnown, DeclaredIn}
-use Rattle.soundness.specs.Numbered.{standing, stands, noteOf, marks, askIn, asksHeld, celled, grantIn, arbiterHeld, noted, once, none}
+use Rattle.soundness.specs.Numbered.{standing, stands, noteOf, marks, askIn, asksHeld, celled, grantIn, arbiterHeld, noted, howMany, none}
 use Rattle.soundness.proofs.Facts.{imp-iff, every-iff, among-iff, quiet-iff}
-use Rattle.soundness.proofs.Pass.{priorityOf, cellsOf, Placed, noted-none, noted-at, once-from-none, marks-from-none}
+use Rattle.soundness.proofs.Pass.{priorityOf, cellsOf, Placed, noted-none, noted-at, counted, marks-from-none}
 
 -- the code's tests, of 32 numbers
 pub nobody-in : (held : List ℕ) (number : ℕ) → number < 32 → marks held number ≡ nobodyOr (marks held) number
@@ -202,7 +202,7 @@ module _ (granted : ℕ) (last asks : List ℕ) (us : List U.Unit) (placed : Pla
 
   -- the tests by number come to what the document says
   pub numbers-document : (noneRepeated (numbers us) && every (grantHasCell granted) us && every (requestHasCell granted asks) us && arbiterKnown known granted last asks)
-      ≡ (once granted none 0 us && arbiterHeld cells hs granted last asks)
+      ≡ (eqb (howMany hs) (length us) && arbiterHeld cells hs granted last asks)
   unfolding arbiterKnown arbiterHeld
   numbers-document =
       let n = noneRepeated (numbers us) in
@@ -211,4 +211,4 @@ module _ (granted : ℕ) (last asks : List ℕ) (us : List U.Unit) (placed : Pla
       (((every (grantHasCell granted) us && nobodyOr known granted) && lastsKnown known last) && (every (requestHasCell granted asks) us && asksKnown known 0 asks))
       (arbiterHeld cells hs granted last asks)
       (λ t. λ z. (grants t z && lastsKnown (λ k. sym (marks-from-none granted us k placed) z) last) && requests t z)
-      ∙ (λ z. sym (once-from-none granted us placed) z && arbiterHeld cells hs granted last asks)
+      ∙ (λ z. sym (counted granted us placed) z && arbiterHeld cells hs granted last asks)

@@ -1,20 +1,22 @@
 -- The one pass over the declared units, that notes each in its number's place, and what is there in the end. Assumes nothing.
 use mathlib.Core.Path.{_≡_, refl, sym, ap, ap₂, _∙_}
-use mathlib.Core.Bool.{Bool, true, false, not, _&&_, _||_, and-false, false≢true}
+use mathlib.Core.Bool.{Bool, true, false, not, cond, _&&_, _||_, and-false, false≢true}
 use mathlib.Core.Logic.{_↔_, _⊎_, ⊎-elim}
 use mathlib.Core.List.{List, [], _∷_}
 use Prim.Native.Nat.{ℕ, zero, suc, _+_, _*_, _≤_, _<_}
 use native.Mathlib.Nat.{zero-add, add-zero}
+use native.Mathlib.Numerals.{add-one}
 use native.Mathlib.Omega.{arith}
 use lib.Dec.{eqb}
-use lib.ListN.{length, getD, set, replicate, length-set}
-use lib.Seq.{getD-set-same, getD-set-other}
-use borrow.Author.Tests.{eqb-true, eqb-false, ne-eqb}
+use lib.ListN.{length, getD, set, drop, replicate, length-set, drop-of-length-le}
+use lib.Seq.{drop-cons, getD-set-same, getD-set-other}
+use borrow.Author.Tests.{eqb-true, eqb-false, eq-eqb, ne-eqb}
 use Rattle.outlet.proofs.Truth.{same, and-iff, or-iff, eq-iff, le-iff}
 use Rattle.shelf.specs.Shelves.{blank, numberOf, numbers}
 use Rattle.shelf.specs.declared.Unit as U
 use Rattle.soundness.specs.State.{among, noneRepeated, roomy}
-use Rattle.soundness.specs.Numbered.{stands, note, free, marks, noted, once, none}
+use Rattle.soundness.specs.Lanes.{lesser}
+use Rattle.soundness.specs.Numbered.{stands, note, free, marks, noted, howMany, none}
 
 -- what a note says of a unit
 abbrev pub priorityOf : U.Unit → ℕ
@@ -79,6 +81,11 @@ cross true true c d = refl
 cross true false c d = sym (and-false c)
 cross false b c d = refl
 
+-- whether none was noted in its number's place before
+once : ℕ → List ℕ → ℕ → List U.Unit → Bool
+once granted held i [] = true
+once granted held i (u ∷ us) = free held (numberOf u) && once granted (set held (numberOf u) (note granted i u)) (suc i) us
+
 once-none : (granted : ℕ) (xs : List ℕ) (i : ℕ) (us : List U.Unit) → Placed granted (length xs) us → once granted xs i us ≡ (unmarked xs us && noneRepeated (numbers us))
 unfolding noneRepeated Placed once
 once-none granted xs i [] b = refl
@@ -99,8 +106,50 @@ none-unmarked : (us : List U.Unit) → unmarked none us ≡ true
 none-unmarked [] = refl
 none-unmarked (u ∷ us) = rw (none-at 32 (numberOf u)) (none-unmarked us)
 
-pub once-from-none : (granted : ℕ) (us : List U.Unit) → Placed granted 32 us → once granted none 0 us ≡ noneRepeated (numbers us)
+once-from-none : (granted : ℕ) (us : List U.Unit) → Placed granted 32 us → once granted none 0 us ≡ noneRepeated (numbers us)
 once-from-none granted us b = once-none granted none 0 us b ∙ ap (λ x. x && noneRepeated (numbers us)) (none-unmarked us)
+
+-- a note more, unless one stood there: so there are as many as units exactly where no number is repeated
+set-many : (xs : List ℕ) (n p : ℕ) → n < length xs → 1 ≤ p → (t : Bool) → free xs n ≡ t → howMany (set xs n p) ≡ howMany xs + cond t 1 0
+unfolding howMany
+set-many [] n p h l t e = absurd (omega arith)
+set-many (x ∷ xs) zero p h l true e = let z = eqb-true x 0 e in omega arith
+set-many (x ∷ xs) zero p h l false e = let z = eqb-false x 0 e in omega arith
+set-many (x ∷ xs) (suc n) p h l t e = let m = set-many xs n p (omega arith) l t e in omega arith
+
+pub many-next : (xs : List ℕ) (i : ℕ) → i < length xs → howMany (drop i xs) ≡ lesser (getD xs i 0) 1 + howMany (drop (i + 1) xs)
+unfolding howMany
+many-next xs i h = rw (add-one, drop-cons xs i 0)
+
+pub many-end : (xs : List ℕ) (i : ℕ) → length xs ≤ i → _≡_ {A = ℕ} (howMany (drop i xs)) 0
+unfolding howMany
+many-end xs i h = rw (drop-of-length-le xs h)
+
+Many : ℕ → ℕ → Bool → Type 0
+Many n most t = (n ≤ most) × (t ≡ true → n ≡ most) × (t ≡ false → n < most)
+
+many-noted : (granted : ℕ) (xs : List ℕ) (i : ℕ) (us : List U.Unit) → Placed granted (length xs) us → Many (howMany (noted granted xs i us)) (howMany xs + length us) (once granted xs i us)
+unfolding Placed noted once Many
+many-noted granted xs i [] b = (omega arith, (λ t. omega arith), λ f. absurd (false≢true (sym f)))
+many-noted granted xs i (u ∷ us) b =
+    pick (free xs (numberOf u)) refl (many-noted granted (set xs (numberOf u) (note granted i u)) (suc i) us (rw (length-set xs (numberOf u) (note granted i u)) (b .2)))
+  where
+    pick : (t : Bool) → free xs (numberOf u) ≡ t → {n : ℕ} {o : Bool} → Many n (howMany (set xs (numberOf u) (note granted i u)) + length us) o → Many n (howMany xs + suc (length us)) (t && o)
+    pick true e r =
+        let n = set-many xs (numberOf u) (note granted i u) (b .0) (some granted i u (b .1)) true e in
+        (omega arith, (λ t. let q = r .1 t in omega arith), λ f. let q = r .2 f in omega arith)
+    pick false e r =
+        let n = set-many xs (numberOf u) (note granted i u) (b .0) (some granted i u (b .1)) false e in
+        let q = r .0 in
+        (omega arith, (λ t. absurd (false≢true t)), λ f. omega arith)
+
+pub counted : (granted : ℕ) (us : List U.Unit) → Placed granted 32 us → eqb (howMany (noted granted none 0 us)) (length us) ≡ noneRepeated (numbers us)
+unfolding howMany Many
+counted granted us b = pick (once granted none 0 us) refl ∙ once-from-none granted us b
+  where
+    pick : (t : Bool) → once granted none 0 us ≡ t → eqb (howMany (noted granted none 0 us)) (length us) ≡ once granted none 0 us
+    pick true e = let q = many-noted granted none 0 us b .1 e in eq-eqb (howMany (noted granted none 0 us)) (length us) (omega arith) ∙ sym e
+    pick false e = let q = many-noted granted none 0 us b .2 e in ne-eqb (howMany (noted granted none 0 us)) (length us) (λ z. omega arith) ∙ sym e
 
 twice : (a : Bool) → not (not a && true) ≡ a
 twice true = refl

@@ -1,13 +1,14 @@
 -- The test of the bytes, turn by turn. Assumes nothing.
-use Prim.Native.Nat.{ℕ, zero, suc, _+_, _*_, _<_, _≤_}
+use Prim.Native.Nat.{ℕ, zero, suc, _+_, _*_, _-_, _%_, _<_, _≤_}
+use native.Mathlib.Nat.{zero-add, mod-eq-of-lt}
 use native.Mathlib.Numerals.{add-one}
 use native.Mathlib.Omega.{arith}
 use mathlib.Core.Path.{_≡_, refl, sym, ap, subst, _∙_}
-use mathlib.Core.Bool.{Bool, true, false, not, cond, _&&_, and-true, and-assoc, false≢true}
+use mathlib.Core.Bool.{Bool, true, false, not, cond, _&&_, and-true, false≢true}
 use mathlib.Core.Logic.{_↔_, _⊎_, inl, inr, ⊎-elim, Iff·rfl}
 use mathlib.Core.List.{List, _∷_}
-use lib.Dec.{leb}
-use lib.ListN.{length, getD, set, drop, drop-of-length-le}
+use lib.Dec.{eqb, leb}
+use lib.ListN.{length, getD, set, drop, length-set, drop-of-length-le}
 use lib.Seq.{drop-cons, getD-set-same, getD-set-other}
 use borrow.Author.Tests.{not-true, not-false}
 use Rattle.header.specs.Fields.{highest}
@@ -22,9 +23,9 @@ use Rattle.state.specs.Bytes.{col, unitBy, unitIn, shelfIn}
 use Rattle.state.proofs.Laws.{units-length, unit-at}
 use Rattle.soundness.specs.State.{every, among, noneRepeated, roomy, belowBus, settingsGiven, couldBeGiven, withinCapacity, grantHasCell, requestHasCell, arbiterKnown, unitFits, soundOf}
 use Rattle.soundness.specs.Lanes.{formed, laneGood, lanes}
-use Rattle.soundness.specs.Numbered.{standingIn, free, arbiterHeld, noted, once, none, cellsIn, heldIn, numbersHeld, Places, noteOf}
+use Rattle.soundness.specs.Numbered.{standingIn, arbiterHeld, noted, notedFrom, howMany, none, cellsIn, heldIn, numbersHeld, Places, noteOf}
 use Rattle.soundness.specs.Soundings.{formedAll, soundIn, looked}
-use Rattle.soundness.proofs.Pass.{priorityOf, cellsOf, Placed, all-placed, once-from-none, roomy-iff, bus-most}
+use Rattle.soundness.proofs.Pass.{priorityOf, cellsOf, Placed, all-placed, counted, roomy-iff, bus-most}
 use Rattle.soundness.proofs.Facts.{every-iff}
 use Rattle.soundness.proofs.Numbered.{Ranged, stands-some, noted-found, numbers-document}
 
@@ -112,16 +113,6 @@ module _ (b : List ℕ) where
   abbrev count : ℕ
   count = getD b 805 0
 
-  -- what is left at place i
-  abbrev pub onceLeft : List ℕ → ℕ → Bool
-  onceLeft held i = once (getD b 803 0) held i (drop i us)
-
-  abbrev pub notedLeft : List ℕ → ℕ → List ℕ
-  notedLeft held i = noted (getD b 803 0) held i (drop i us)
-
-  abbrev pub with : List ℕ → ℕ → List ℕ
-  with held i = set held (col b i 0) (8 * i + standingIn (getD b 803 0) (col b i))
-
   module _ (most : count ≤ 32) where
     long : length us ≡ count
     long = let l = declared-length (shelfIn b) (units-length b 0 32) in omega (arith, l)
@@ -129,27 +120,33 @@ module _ (b : List ℕ) where
     there : (i : ℕ) → i < count → getD us i blank ≡ unitIn b i
     there i h = declared-at (shelfIn b) i blank h ∙ unit-at b i blank (omega arith)
 
-    module _ (held : List ℕ) (i : ℕ) where
-      next : i < count → drop i us ≡ unitIn b i ∷ drop (suc i) us
-      next h = let l = long in drop-cons us i blank (omega arith) ∙ ap (λ u. u ∷ drop (suc i) us) (there i h)
+    next : (i : ℕ) → i < count → drop i us ≡ unitIn b i ∷ drop (suc i) us
+    next i h = let l = long in drop-cons us i blank (omega arith) ∙ ap (λ u. u ∷ drop (suc i) us) (there i h)
 
-      pub goes-on : (good : Bool) → i < count → (good && onceLeft held i) ≡ ((good && free held (col b i 0)) && onceLeft (with held i) (i + 1))
-      unfolding once unitBy
-      goes-on good h = rw (add-one, next h) (sym (and-assoc good (free held (col b i 0)) (onceLeft (with held i) (suc i))))
+  -- one place more
+  pub from-next : (held : List ℕ) (i end : ℕ) → i < end → notedFrom b held i (end - i) ≡ notedFrom b (set held (col b i 0 % 32) (8 * i + standingIn (getD b 803 0) (col b i))) (i + 1) (end - (i + 1))
+  unfolding notedFrom
+  from-next held i end h = ap (notedFrom b held i) less ∙ ap (λ k. notedFrom b (set held (col b i 0 % 32) (8 * i + standingIn (getD b 803 0) (col b i))) k (end - (i + 1))) (sym (add-one i))
+    where
+      less : end - i ≡ suc (end - (i + 1))
+      less = omega arith
 
-      pub notes-on : i < count → notedLeft held i ≡ notedLeft (with held i) (i + 1)
-      unfolding noted unitBy
-      notes-on h = rw (add-one, next h)
+  pub from-length : (held : List ℕ) (i n : ℕ) → length (notedFrom b held i n) ≡ length held
+  unfolding notedFrom
+  from-length held i zero = refl
+  from-length held i (suc n) = from-length (set held (col b i 0 % 32) (8 * i + standingIn (getD b 803 0) (col b i))) (suc i) n ∙ length-set held _ _
 
-      -- in the end the arbiter
-      pub ends : (good : Bool) → count ≤ i → onceLeft none 0 ≡ (good && onceLeft held i) → heldIn b ≡ notedLeft held i →
-          (heldIn b ≡ held) × (numbersHeld b ≡ (good && arbiterHeld (cellsIn b) held (getD b 803 0) (shelfIn b .arbiter .last) (shelfIn b .arbiter .asks)))
-      unfolding once noted
-      ends good h e f =
-          let l = long in
-          let d = drop-of-length-le us {i = i} (omega arith) in
-          let g : heldIn b ≡ held = f ∙ ap (noted (getD b 803 0) held i) d in
-          (g, (λ t. (e ∙ ap (λ x. good && once (getD b 803 0) held i x) d ∙ and-true good) t && arbiterHeld (cellsIn b) (g t) (getD b 803 0) (shelfIn b .arbiter .last) (shelfIn b .arbiter .asks)))
+  -- where each number has a place, what is noted by 32 is what is noted
+  left : Places b → (held : List ℕ) (i n : ℕ) → i + n ≡ count → notedFrom b held i n ≡ noted (getD b 803 0) held i (drop i us)
+  unfolding notedFrom noted unitBy
+  left p held i zero e = let l = long (p .0) in sym (ap (noted (getD b 803 0) held i) (drop-of-length-le us {i = i} (omega arith)))
+  left p held i (suc n) e =
+      ap (λ k. notedFrom b (set held k (8 * i + standingIn (getD b 803 0) (col b i))) (suc i) n) (mod-eq-of-lt (p .1 i (omega arith)))
+      ∙ left p (set held (col b i 0) (8 * i + standingIn (getD b 803 0) (col b i))) (suc i) n (omega arith)
+      ∙ sym (ap (noted (getD b 803 0) held i) (next (p .0) i (omega arith)))
+
+  pub all-noted : Places b → notedFrom b none 0 count ≡ heldIn b
+  all-noted p = left p none 0 count (zero-add count)
 
 module _ (card : Card) (b : List ℕ) (store rows : ℕ) where
   abbrev bus : ℕ
@@ -245,12 +242,13 @@ module _ (card : Card) (b : List ℕ) (store rows : ℕ) where
           (every (grantHasCell (getD b 803 0)) (us b)) (every (requestHasCell (getD b 803 0) (a .asks)) (us b)) (arbiterKnown (among (numbers (us b))) (getD b 803 0) (a .last) (a .asks))
           t (each (belowBus bus) (us b) .1 (λ i h. fits i h .0 .0)) (each (couldBeGiven card) (us b) .1 (λ i h. fits i h .0 .1)) (each withinCapacity (us b) .1 (λ i h. fits i h .1))
           ∙ numbers-document (getD b 803 0) (a .last) (a .asks) (us b) placed ranged (cellsIn b) cells
+          ∙ ap (λ n. eqb (howMany (heldIn b)) n && arbiterHeld (cellsIn b) (heldIn b) (getD b 803 0) (a .last) (a .asks)) (long b few)
 
       pub begins : (unit : ℕ) → looked card b store rows unit ≡ cond (numbersHeld b) (getD (heldIn b) unit 0) 255
       unfolding looked
       begins unit =
           ap (λ s. cond s (noteOf (getD b 803 0) (us b) (findIn (us b) unit)) 255) by-number
-          ∙ chosen (numbersHeld b) (λ t. sym (noted-found (getD b 803 0) (us b) unit placed (sym (once-from-none (getD b 803 0) (us b) placed) ∙ first (once (getD b 803 0) none 0 (us b)) _ t)))
+          ∙ chosen (numbersHeld b) (λ t. sym (noted-found (getD b 803 0) (us b) unit placed (sym (counted (getD b 803 0) (us b) placed) ∙ ap (eqb (howMany (heldIn b))) (long b few) ∙ first (eqb (howMany (heldIn b)) (count b)) _ t)))
         where
           chosen : (s : Bool) {x y : ℕ} → (s ≡ true → x ≡ y) → cond s x 255 ≡ cond s y 255
           chosen true e = e refl

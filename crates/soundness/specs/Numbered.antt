@@ -1,5 +1,5 @@
 -- The declared units by their numbers: where and how each stands, 0 where none is declared. Assumes nothing.
-use Prim.Native.Nat.{ℕ, suc, _+_, _*_, _/_, _%_, _≤_, _<_}
+use Prim.Native.Nat.{ℕ, zero, suc, _+_, _*_, _/_, _%_, _≤_, _<_}
 use mathlib.Core.Path.{_≡_}
 use mathlib.Core.Bool.{Bool, true, not, cond, _&&_, _||_}
 use mathlib.Core.List.{List, [], _∷_}
@@ -12,6 +12,7 @@ use Rattle.shelf.specs.declared.Found.the-variants.{At, Nothing}
 use Rattle.state.specs.Bytes.{col, shelfIn}
 use Rattle.arbiter.specs.Arbitration.{besides}
 use Rattle.soundness.specs.State.{nobodyOr, lastsKnown}
+use Rattle.soundness.specs.Lanes.{lesser}
 
 -- how a unit stands: its priority, or 4 without a cell besides a granted one; by its columns, and as a unit
 abbrev pub standing : ℕ → ℕ → ℕ → ℕ → ℕ
@@ -60,14 +61,19 @@ grantIn cells held granted = nobodyOr (celled cells held) granted
 unfoldable pub arbiterHeld : (ℕ → ℕ) → List ℕ → ℕ → List ℕ → List ℕ → Bool
 arbiterHeld cells held granted last asks = grantIn cells held granted && lastsKnown (marks held) last && asksHeld held 0 asks
 
--- the units from place i on, each noted in its number's place; whether none was noted there before
+-- the units from place i on, each noted in its number's place; of bytes, so many of them, by 32
 unfoldable pub noted : ℕ → List ℕ → ℕ → List U.Unit → List ℕ
 noted granted held i [] = held
 noted granted held i (u ∷ us) = noted granted (set held (numberOf u) (note granted i u)) (suc i) us
 
-unfoldable pub once : ℕ → List ℕ → ℕ → List U.Unit → Bool
-once granted held i [] = true
-once granted held i (u ∷ us) = free held (numberOf u) && once granted (set held (numberOf u) (note granted i u)) (suc i) us
+unfoldable pub notedFrom : List ℕ → List ℕ → ℕ → ℕ → List ℕ
+notedFrom b held i zero = held
+notedFrom b held i (suc n) = notedFrom b (set held (col b i 0 % 32) (8 * i + standingIn (getD b 803 0) (col b i))) (suc i) n
+
+-- how many numbers have a note
+unfoldable pub howMany : List ℕ → ℕ
+howMany [] = 0
+howMany (x ∷ xs) = lesser x 1 + howMany xs
 
 abbrev pub none : List ℕ
 none = replicate 32 0
@@ -81,7 +87,7 @@ heldIn b = noted (getD b 803 0) none 0 (declared (shelfIn b))
 
 abbrev pub numbersHeld : List ℕ → Bool
 numbersHeld b =
-    once (getD b 803 0) none 0 (declared (shelfIn b))
+    eqb (howMany (heldIn b)) (getD b 805 0)
     && arbiterHeld (cellsIn b) (heldIn b) (getD b 803 0) (shelfIn b .arbiter .last) (shelfIn b .arbiter .asks)
 
 abbrev pub Places : List ℕ → Type 0

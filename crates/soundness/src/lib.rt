@@ -13,7 +13,7 @@ ghost use Rattle.outlet.specs.Outlets.{between, ringFits};
 ghost use Rattle.state.specs.Bytes.{col, ringBy};
 ghost use Rattle.soundness.specs.State.{roomy as roomyIn, nobodyOr};
 ghost use Rattle.soundness.specs.Lanes.{highestLink, lesser, settingsAt, limitsAt, ringsAt, laneAt, laneGood, lanes};
-ghost use Rattle.soundness.specs.Numbered.{marks, standing as standingOf, Notes, asksHeld, grantIn, cellsIn, Places, heldIn, numbersHeld};
+ghost use Rattle.soundness.specs.Numbered.{marks, standing as standingOf, Notes, asksHeld, grantIn, cellsIn, howMany, notedFrom};
 ghost use Rattle.soundness.specs.Soundings.{soundIn, looked};
 ghost use Rattle.soundness.specs.Admission.{admittedIn, toldApart, countedIn};
 
@@ -255,36 +255,36 @@ fn asks_held(held: [u8; 32], asks: [u8; 32]) -> bool
     good
 }
 
-// By number, what is noted of each declared unit, and 0 where none is declared: no number twice, and the open grant, the last grants and the
-// requests are such as the units could have. What is noted by this number, or 255 where any of that is not so.
-fn numbers_good(s: &[u8], unit: u8) -> u8
-    requires { ⌜ (length (now s) ≡ 2048) × Places (now s) ⌝ }
-    ensures { λ r. ⌜ r ≡ cond (numbersHeld (now (s .entry))) (getD (heldIn (now (s .entry))) unit 0) 255 ⌝ }
+// How many numbers have a note.
+fn how_many(held: [u8; 32]) -> u8
+    ensures { λ r. ⌜ r ≡ howMany held ⌝ }
 {
-    let granted = s[803];
-    let each = notes(s, granted);
-    let end = s[805] as usize;
-    let mut once = true;
-    let mut held = [0; 32];
+    let mut n: u8 = 0;
     let mut i: usize = 0;
-    while i < end {
-        let number = state::at(s, 0, i) as usize;
-        once = once & (held[number] == 0);
-        held[number] = each[i];
+    while i < 32 {
+        n += least(held[i], 1);
         i += 1;
     }
-    let good = once
-        & (grant_held(s, held, granted)
-            & (nobody_or(held, s[800]) & nobody_or(held, s[801]) & nobody_or(held, s[802]))
-            & asks_held(held, state::asks_at(s)));
-    if !good {
-        return 255;
-    }
-    if unit < 32 { held[unit as usize] } else { 0 }
+    n
 }
 
-// What is noted of the unit with this number, 0 where none has it; 255 of a state that is not sound. First each unit by itself, all places at
-// once; then by number.
+// Notes each declared unit in its number's place. By 32, as the numbers are judged after it: until then the notes have reached memory, and can be
+// read in words.
+fn note_all(s: &[u8], held: &mut [u8; 32])
+    requires { ⌜ (length (now s) ≡ 2048) × (getD (now s) 805 0 ≤ 32) ⌝ }
+    ensures { λ _. ⌜ now (held .exit) ≡ notedFrom (now (s .entry)) (now (held .entry)) 0 (getD (now (s .entry)) 805 0) ⌝ }
+{
+    let each = notes(s, s[803]);
+    let end = s[805] as usize;
+    let mut i: usize = 0;
+    while i < end {
+        held[(state::at(s, 0, i) % 32) as usize] = each[i];
+        i += 1;
+    }
+}
+
+// What is noted of the unit with this number, 0 where none has it; 255 of a state that is not sound. Each unit by itself, all places at once; then
+// by number: as many notes as units, so no number twice, and the open grant, the last grants and the requests are such as the units could have.
 fn look(card: Card, s: &[u8], store: usize, rows: usize, unit: u8) -> u8
     requires { ⌜ length (now s) ≡ 2048 ⌝ }
     ensures { λ r. ⌜ r ≡ looked card (now (s .entry)) store rows unit ⌝ }
@@ -294,10 +294,19 @@ fn look(card: Card, s: &[u8], store: usize, rows: usize, unit: u8) -> u8
     if !roomy(bus, count, store, rows) {
         return 255;
     }
+    let mut held = [0; 32];
+    note_all(s, &mut held);
     if !units_good(s, card, bus, count) {
         return 255;
     }
-    numbers_good(s, unit)
+    let good = (how_many(held) == count)
+        & (grant_held(s, held, s[803])
+            & (nobody_or(held, s[800]) & nobody_or(held, s[801]) & nobody_or(held, s[802]))
+            & asks_held(held, state::asks_at(s)));
+    if !good {
+        return 255;
+    }
+    if unit < 32 { held[unit as usize] } else { 0 }
 }
 
 pub fn sound(card: Card, s: &[u8], store: usize, rows: usize) -> bool
