@@ -17,17 +17,14 @@ ghost use Rattle.soundness.specs.Admission.{Housed};
 ghost use Rattle.hearing.specs.Hearings.{addressed as addressedTo, passesBy, asideOf, planTo, planOf, fateBy, storeBy, storeOf};
 ghost use Rattle.hearing.specs.InPlace.{stateBy, stateAt, outcomeAt, hearOut, hearState, hearStoreIn};
 
-// Whether a cell to this target is for the unit in a place. Its sessions are read only where it is to one.
+// Whether a cell to this target is for the unit in a place.
 fn addressed_at(s: &[u8], place: usize, target: Target) -> bool
     requires { ⌜ (length (now s) ≡ 2048) × (place < 32) ⌝ }
     ensures { λ r. ⌜ r ≡ addressedTo (unitIn (now (s .entry)) place) target ⌝ }
 {
     match target {
         Target::Unit(number) => state::at(s, 0, place) == number,
-        Target::Session(session) => {
-            let sessions = state::sessions_at(s, place);
-            shelf::hears(sessions, session)
-        }
+        Target::Session(session) => state::hears_at(s, place, session),
         Target::All => true,
     }
 }

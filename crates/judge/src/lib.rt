@@ -369,7 +369,7 @@ fn judge_mc(s: &[u8], o: Owner, session: u8) -> Verdict
     if !o.known {
         return Verdict::Order(2);
     }
-    if shelf::hears(state::sessions_at(s, o.at), session) {
+    if state::hears_at(s, o.at, session) {
         return Verdict::Twice(3);
     }
     Verdict::Fine

@@ -13,6 +13,7 @@ ghost use Prim.Native.Nat.{_+_, _*_, _<_};
 ghost use lib.ListN.{length, getD};
 ghost use Rattle.octets.specs.Octets.{part};
 ghost use Rattle.shelf.specs.Shelves.{declared, findIn};
+ghost use Rattle.shelf.specs.Sessions.{hears};
 ghost use Rattle.state.specs.Bytes.{col, linkOf, modeOf, settingsBy, limitsBy, ringBy, outletBy, placeBy, unitIn, shelfIn, withRing, withTurn};
 ghost use Rattle.state.specs.Placing.{zeros, freshBytes, linkByte, modeByte, markByte, columnsOf, puts, declaredBy, joined};
 
@@ -108,6 +109,15 @@ pub fn sessions_at(s: &[u8], i: usize) -> [u8; 32]
     let mut sessions = [0; 32];
     octets::copy(&s[from..end], &mut sessions, 0);
     sessions
+}
+
+// Whether the unit in a place hears a session: of its 32 bytes one is read.
+pub fn hears_at(s: &[u8], i: usize, session: u8) -> bool
+    requires { ⌜ (length (now s) ≡ 2048) × (i < 32) ⌝ }
+    ensures { λ r. ⌜ r ≡ hears (part (now (s .entry)) (1024 + 32 * i) 32) session ⌝ }
+{
+    let at = 1024 + 32 * i + (session / 8) as usize;
+    (s[at] >> (session % 8)) % 2 == 1
 }
 
 // The unit in a place.

@@ -1,7 +1,5 @@
 -- `hearing::addressed_at` meets its contract. Assumes nothing.
-use mathlib.Core.Path.{ap, _∙_}
 use lib.Dec.{eqb}
-use Rattle.shelf.specs.Sessions.{hears}
 use Rattle.hearing.specs.Hearings.{addressed}
 use Rattle.state.specs.Bytes.{unitBy}
 use borrow.Author.Needs.{needs}
@@ -14,7 +12,7 @@ returns c = rw (c .before .before .target .given .1) (λ t. eqb (c .at .ensures 
 
 returns-2 : tie.Need-returns-2
 unfolding addressed unitBy
-returns-2 c = rw (c .before .before .before .target2 .given .1) (c .hears .ensures ∙ ap (λ x. hears x (c .before .before .before .target2 .given .0 .0)) (c .before .sessions-at .ensures))
+returns-2 c = rw (c .before .before .target2 .given .1) (c .hears-at .ensures)
 
 returns-3 : tie.Need-returns-3
 unfolding addressed unitBy
@@ -27,7 +25,6 @@ addressed-at-spec =
     (λ c. search needs)
     (λ c κs. search needs)
     (λ c. search needs)
-    (λ c κs. search needs)
     (λ c κs. search needs)
     (λ c. search needs)
     returns

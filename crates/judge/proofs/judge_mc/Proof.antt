@@ -15,10 +15,10 @@ use borrow.Author.Needs.{needs}
 use Rattle.judge.proofs.judge_mc.Statement.{statement}
 use Rattle.judge.proofs.judge_mc.Tie as tie
 
--- the sessions that were read are those of the unit in that place
-heard : (b : List ℕ) (i session : ℕ) (sessions : List ℕ) (r : Bool) → i < 32 → sessions ≡ part b (1024 + 32 * i) 32 → r ≡ hears sessions session → r ≡ hears (getD (shelfIn b .units) i blank .sessions) session
+-- the sessions that were looked at are those of the unit in that place
+heard : (b : List ℕ) (i session : ℕ) (r : Bool) → i < 32 → r ≡ hears (part b (1024 + 32 * i) 32) session → r ≡ hears (getD (shelfIn b .units) i blank .sessions) session
 unfolding unitBy
-heard b i session sessions r h e q = q ∙ ap (λ l. hears l session) (e ∙ sym (ap (λ u. u .sessions) (unit-at b i blank h)))
+heard b i session r h q = q ∙ ap (λ l. hears l session) (sym (ap (λ u. u .sessions) (unit-at b i blank h)))
 
 returns : tie.Need-returns
 returns c = nobody (c .before .before .before .args .o) _ (c .if1 .taken)
@@ -26,17 +26,15 @@ returns c = nobody (c .before .before .before .args .o) _ (c .if1 .taken)
 returns-2 : tie.Need-returns-2
 unfolding judgeMc
 returns-2 c =
-    let s = c .before .before .before .before .before .before in
-    let b = s .args .s .now in
-    somebody (s .args .o) _ _ (c .before .before .before .if1 .left) (rw (sym (heard b (s .args .o .at) (s .args .session) _ _ (s .pre .1) (c .before .before .sessions-at .ensures) (c .before .hears .ensures)) ∙ c .if2 .taken))
+    let s = c .before .before .before .before .before in
+    somebody (s .args .o) _ _ (c .before .before .if1 .left) (rw (sym (heard (s .args .s .now) (s .args .o .at) (s .args .session) _ (s .pre .1) (c .before .hears-at .ensures)) ∙ c .if2 .taken))
 
 returns-3 : tie.Need-returns-3
 unfolding judgeMc
 returns-3 c =
-    let s = c .before .before .before .before .before .before in
-    let b = s .args .s .now in
-    somebody (s .args .o) _ _ (c .before .before .before .if1 .left) (rw (sym (heard b (s .args .o .at) (s .args .session) _ _ (s .pre .1) (c .before .before .sessions-at .ensures) (c .before .hears .ensures)) ∙ c .if2 .left))
+    let s = c .before .before .before .before .before in
+    somebody (s .args .o) _ _ (c .before .before .if1 .left) (rw (sym (heard (s .args .s .now) (s .args .o .at) (s .args .session) _ (s .pre .1) (c .before .hears-at .ensures)) ∙ c .if2 .left))
 
 pub judge-mc-spec : {M : Type 1} → statement M
 judge-mc-spec =
-    tie.close (tie.spec returns (λ c κs. search needs) (λ c κs. search needs) returns-2 returns-3)
+    tie.close (tie.spec returns (λ c κs. search needs) returns-2 returns-3)
