@@ -106,7 +106,15 @@ fn heed(s: &mut [u8], place: usize, heard: Heard, cell: &[u8], store: &mut [u8])
     if hearing::passes(s, place, heard) {
         return hearing::aside(heard);
     }
-    hearing::hear_one(s, place, heard, cell, store)
+    match heard {
+        Heard::Length => Hearing::Damaged,
+        Heard::Damaged => Hearing::Damaged,
+        Heard::Cell {
+            target: _,
+            class,
+            header,
+        } => hearing::accept(s, place, class, header, cell, store),
+    }
 }
 
 // Every declared unit hears a frame of this cell. The counters that rise at each are written where the caller lends room for them, here and below.

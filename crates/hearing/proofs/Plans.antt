@@ -6,8 +6,9 @@ use mathlib.Core.Bool.{Bool, true, false, cond}
 use mathlib.Core.List.{List}
 use lib.Dec.{ltb}
 use lib.ListN.{length, take, length-take}
-use borrow.Author.Tests.{not-true}
+use borrow.Author.Tests.{not-true, not-false}
 use Rattle.outlet.specs.Outlets.{capacity, queue}
+use Rattle.bus.specs.declared.Target as T
 use Rattle.bus.specs.declared.Heard as H
 use Rattle.bus.specs.declared.Heard.the-variants as frame
 use Rattle.outlet.specs.Hearing.{fate}
@@ -47,6 +48,11 @@ unfolding passesBy asideOf planOf
 passes-lost u frame.Length e = refl
 passes-lost u frame.Damaged e = refl
 passes-lost u (frame.Cell target class header) e = rw (not-true (addressed u target) e)
+
+-- and any other is judged
+pub passes-not : (u : U.Unit) (t : T.Target) (class header : ℕ) → passesBy u (frame.Cell t class header) ≡ false → planOf u (frame.Cell t class header) ≡ planTo u class header
+unfolding passesBy planOf
+passes-not u t class header e = rw (not-false (addressed u t) e)
 
 -- the next place of a queue lies in the store
 back-le : (cap p : ℕ) → back cap p ≤ p

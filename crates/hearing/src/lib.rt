@@ -62,7 +62,7 @@ pub fn aside(heard: Heard) -> Hearing
 
 // What becomes of a copy of this class with this header that is addressed to the unit in a place. A queued copy goes
 // behind the others in its queue. Of the outlet only the limits and that queue's ring are read.
-fn accept(
+pub fn accept(
     s: &mut [u8],
     place: usize,
     class: u8,
@@ -96,7 +96,7 @@ fn accept(
 }
 
 // The unit in a place hears a frame of this cell. What is no frame is damaged.
-pub fn hear_one(s: &mut [u8], place: usize, heard: Heard, cell: &[u8], store: &mut [u8]) -> Hearing
+fn hear_one(s: &mut [u8], place: usize, heard: Heard, cell: &[u8], store: &mut [u8]) -> Hearing
     requires { ⌜ (length (now s) ≡ 2048) × (length (now cell) ≡ 56) × Housed place (unitIn (now s) place) (length (now store)) ⌝ }
     ensures { λ r. ⌜ r ≡ fateBy (planOf (unitIn (now (s .entry)) place) heard) ⌝ }
     ensures kept { λ _. ⌜ (now (s .exit) ≡ stateBy (planOf (unitIn (now (s .entry)) place) heard) (now (s .entry)) place)
