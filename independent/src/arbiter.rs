@@ -1,17 +1,20 @@
 //! Requests and grants, in a sound state.
 
-use crate::state::{State, ASKS, GRANTED, INLET_COUNT, LAST, NOBODY, NUMBER, PRIORITY, SHELF};
+use crate::state::{State, ASKS, GRANTED, LAST, NOBODY, NUMBER, PRIORITY, SHELF};
+use crate::UNITS_MAX;
 
 impl State {
     /// Renews the requests of the units that this frame renews; the others stand.
     pub fn renew(&mut self, frame: u16) {
-        let (bus, granted) = (self.bus(), self.granted());
-        for place in 0..usize::from(self.count()) {
+        let (bus, granted, waiting) = (self.bus(), self.granted(), self.waiting());
+        for (place, waiting) in waiting.iter().enumerate().take(self.count().into()) {
             let unit = self.columns[NUMBER][place];
             if is_renewed(bus, frame, unit) {
                 // A granted cell has not left yet, but must not ask again.
-                let asks = self.columns[INLET_COUNT][place] > u8::from(granted == unit);
-                self.columns[ASKS][usize::from(unit)] = if asks { self.columns[PRIORITY][place] } else { 0 };
+                let asks = *waiting > u8::from(granted == unit);
+                let asks_at = if asks { self.columns[PRIORITY][place] } else { 0 };
+                // Below 32 already: the remainder spares a test of each.
+                self.columns[ASKS][usize::from(unit) % UNITS_MAX] = asks_at;
             }
         }
     }

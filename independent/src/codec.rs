@@ -22,12 +22,19 @@ impl Link {
 /// A bus frame before its parity: routing 2, tandem 2, header 4, payload 48.
 pub type BusCell = [u8; 56];
 
+/// The byte of a bus cell that is its first tandem byte.
+const TANDEM: usize = 2;
+
 /// Where a routed cell goes.
 #[derive(Clone, Copy, Debug, PartialEq, Eq)]
 pub enum Target {
     Unit(u8),
     Session(u8),
     Broadcast,
+    /// A unit's control outlet; no table routes to it, nor to the next.
+    Control(u8),
+    /// A unit's loopback outlet.
+    Loopback(u8),
 }
 
 /// What a sound routing header says.
@@ -87,15 +94,38 @@ pub fn parity(bytes: &[u8]) -> u8 {
     bytes.iter().fold(0, |sum, byte| sum ^ byte)
 }
 
+/// The kind of routing header that is control or loopback to one unit, by its class.
+const TO_PROCESSOR: u16 = 3;
+const CONTROL: u16 = 0;
+const LOOPBACK: u16 = 1;
+/// The highest address that a unit can have on any bus.
+const HIGHEST_UNIT: u8 = 31;
+
+/// A routing header of these upper 12 bits.
+fn with_check(upper: u16) -> u16 {
+    upper << 4 | routing_check(upper)
+}
+
+/// The routing header of a control cell; an address above 31 makes its frame damaged.
+pub fn control_routing(address: u8) -> u16 {
+    with_check(TO_PROCESSOR << 10 | CONTROL << 8 | u16::from(address))
+}
+
+/// The routing header of a loopback cell.
+pub fn loopback_routing(address: u8) -> u16 {
+    with_check(TO_PROCESSOR << 10 | LOOPBACK << 8 | u16::from(address))
+}
+
 impl Routing {
     pub fn encode(self) -> u16 {
         let (kind, address) = match self.target {
             Target::Unit(unit) => (0, unit),
             Target::Session(session) => (1, session),
             Target::Broadcast => (2, 0),
+            Target::Control(unit) => return control_routing(unit),
+            Target::Loopback(unit) => return loopback_routing(unit),
         };
-        let upper = kind << 10 | u16::from(self.class) << 8 | u16::from(address);
-        upper << 4 | routing_check(upper)
+        with_check(kind << 10 | u16::from(self.class) << 8 | u16::from(address))
     }
 
     /// None for a header that makes its frame damaged.
@@ -104,15 +134,16 @@ impl Routing {
         if routing_check(upper) != header & 0xF {
             return None;
         }
-        let address = (upper & 0xFF) as u8;
+        let (address, class) = ((upper & 0xFF) as u8, upper >> 8 & 3);
         let target = match upper >> 10 {
-            0 if address <= 31 => Target::Unit(address),
+            0 if address <= HIGHEST_UNIT => Target::Unit(address),
             1 => Target::Session(address),
             2 if address == 0 => Target::Broadcast,
+            TO_PROCESSOR if class == CONTROL && address <= HIGHEST_UNIT => Target::Control(address),
+            TO_PROCESSOR if class == LOOPBACK && address <= HIGHEST_UNIT => Target::Loopback(address),
             _ => return None,
         };
-        let class = (upper >> 8 & 3) as u8;
-        Some(Routing { target, class })
+        Some(Routing { target, class: class as u8 })
     }
 }
 
@@ -154,9 +185,14 @@ impl Heard {
     pub fn read(frame: &[u8; FRAME_BYTES]) -> (&BusCell, Option<Heard>) {
         let cell: &BusCell = frame.first_chunk().expect("a frame is longer");
         let whole = parity(cell) == frame[56];
-        let routing = Routing::decode(routing_of(cell)).filter(|_| whole);
+        let routing = Routing::decode(routing_of(cell)).filter(|routing| whole && returns(*routing, cell));
         (cell, routing.map(|routing| Heard { routing, header: header_of(cell) }))
     }
+}
+
+/// False for a loopback cell whose tandem byte names no unit of any bus; that of others is not judged.
+fn returns(routing: Routing, cell: &BusCell) -> bool {
+    !matches!(routing.target, Target::Loopback(_)) || cell[TANDEM] <= HIGHEST_UNIT
 }
 
 /// Puts a routed cell together as it waits in an inlet; the tandem header is zero.
@@ -165,6 +201,13 @@ pub fn bus_cell(routing: u16, header: Header, payload: &[u8]) -> BusCell {
     cell[0..2].copy_from_slice(&routing.to_be_bytes());
     cell[4..8].copy_from_slice(&header.write(Link::Nni));
     cell[8..56].copy_from_slice(payload);
+    cell
+}
+
+/// A loopback cell as it goes on: a control cell for the unit named in its first tandem byte, otherwise as it was.
+pub fn looped_back(mut cell: BusCell) -> BusCell {
+    let routing = control_routing(cell[TANDEM]);
+    cell[..2].copy_from_slice(&routing.to_be_bytes());
     cell
 }
 

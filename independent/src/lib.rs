@@ -53,5 +53,9 @@ pub const CELL_BYTES: usize = 53;
 pub const FRAME_BYTES: usize = 57;
 /// Cells an inlet holds.
 pub const INLET_CELLS: u8 = 4;
+/// Bytes that a processor hands in or collects: a bus frame before its parity.
+pub const CONTROL_BYTES: usize = 56;
+/// Cells a control outlet holds.
+pub const CONTROL_CELLS: u8 = 4;
 /// Most units on a bus.
 pub const UNITS_MAX: usize = 32;

@@ -1,6 +1,6 @@
 //! The numbers given back.
 
-/// The ten refusals; the value of each is its number in document 01.
+/// The eleven refusals; the value of each is its number in document 01 or in request W1.
 #[derive(Clone, Copy, Debug, PartialEq, Eq, PartialOrd, Ord)]
 pub enum Refused {
     Long = 1,
@@ -13,6 +13,7 @@ pub enum Refused {
     State = 8,
     Unit = 9,
     Length = 10,
+    Busy = 11,
 }
 
 impl Refused {

@@ -19,6 +19,19 @@ pub struct Slots {
     pub capacity: u8,
 }
 
+/// The cell in a slot of a unit's part of the store.
+pub fn read_slot(part: &[u8], slot: u8) -> BusCell {
+    let start = SLOT_BYTES * usize::from(slot);
+    let mut cell = [0; SLOT_BYTES];
+    cell.copy_from_slice(&part[start..start + SLOT_BYTES]);
+    cell
+}
+
+pub fn write_slot(part: &mut [u8], slot: u8, cell: &BusCell) {
+    let start = SLOT_BYTES * usize::from(slot);
+    part[start..start + SLOT_BYTES].copy_from_slice(cell);
+}
+
 impl Ring {
     /// Whether neither position nor count is past the capacity; without slots both are 0.
     pub fn fits(self, capacity: u8) -> bool {
@@ -27,16 +40,13 @@ impl Ring {
 
     /// Puts a cell behind the youngest.
     pub fn push(&mut self, slots: Slots, part: &mut [u8], cell: &BusCell) {
-        let start = slots.start(self.head + self.count);
-        part[start..start + SLOT_BYTES].copy_from_slice(cell);
+        write_slot(part, slots.slot(self.head + self.count), cell);
         self.count += 1;
     }
 
     /// The oldest cell leaves; its slot keeps the bytes.
     pub fn pop(&mut self, slots: Slots, part: &[u8]) -> BusCell {
-        let start = slots.start(self.head);
-        let mut cell = [0; SLOT_BYTES];
-        cell.copy_from_slice(&part[start..start + SLOT_BYTES]);
+        let cell = read_slot(part, slots.slot(self.head));
         self.head = slots.wrapped(self.head + 1);
         self.count -= 1;
         cell
@@ -44,9 +54,9 @@ impl Ring {
 }
 
 impl Slots {
-    /// The first byte of a place of the ring.
-    fn start(self, place: u8) -> usize {
-        SLOT_BYTES * usize::from(self.first + self.wrapped(place))
+    /// The slot of a place of the ring.
+    fn slot(self, place: u8) -> u8 {
+        self.first + self.wrapped(place)
     }
 
     fn wrapped(self, place: u8) -> u8 {

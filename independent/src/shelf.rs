@@ -1,10 +1,10 @@
-//! The shelf and its events: arrive, frame, hear, take and count.
+//! The shelf and its events: arrive, frame, hear, take, hand, collect and count.
 
 use crate::codec::{parity, Heard};
 use crate::counters::bump;
 use crate::state::State;
 use crate::unit::Unit;
-use crate::{Card, Counters, Refused, CELL_BYTES, FRAME_BYTES, STORE_PER_UNIT};
+use crate::{Card, Counters, Refused, CELL_BYTES, CONTROL_BYTES, FRAME_BYTES, STORE_PER_UNIT};
 
 /// The fates of an arriving cell.
 #[derive(Clone, Copy, Debug, PartialEq, Eq)]
@@ -64,7 +64,7 @@ pub struct SentFrame {
     pub copies: usize,
 }
 
-/// What a take gave.
+/// What a take or a collect gave.
 #[derive(Clone, Copy, Debug, PartialEq, Eq)]
 pub enum Taking {
     Taken,
@@ -102,10 +102,13 @@ impl Shelf {
         Ok(fate)
     }
 
-    /// The next frame on the bus: requests, then the sending, then the grant.
+    /// The next frame on the bus: loopback cells move, then the requests, then the sending, then the grant.
     pub fn frame(&mut self, buffer: &mut [u8], store: &mut [u8], rows: &mut [Counters]) -> Result<SentFrame, Refused> {
         self.judge_state(store.len(), rows.len())?;
         let buffer: &mut [u8; FRAME_BYTES] = buffer.try_into().map_err(|_| Refused::Length)?;
+        if self.state.any_loopback_out() {
+            self.loop_back(store, rows);
+        }
         let number = self.state.frame();
         self.state.set_frame(number.wrapping_add(1));
         self.state.renew(number);
@@ -148,6 +151,34 @@ impl Shelf {
         Ok(Taking::Taken)
     }
 
+    /// A unit's processor hands in a cell, which counts nothing yet.
+    pub fn hand(&mut self, unit: u32, cell: &[u8], store: &mut [u8], rows: usize) -> Result<(), Refused> {
+        let place = self.judge(unit, store.len(), rows)?;
+        let cell: &[u8; CONTROL_BYTES] = cell.try_into().map_err(|_| Refused::Length)?;
+        match self.unit(place).hand(cell, part_mut(store, place)) {
+            true => Ok(()),
+            false => Err(Refused::Busy),
+        }
+    }
+
+    /// A cell leaves a unit's control outlet into the processor's buffer.
+    pub fn collect(
+        &mut self,
+        unit: u32,
+        buffer: &mut [u8],
+        store: &[u8],
+        rows: &mut [Counters],
+    ) -> Result<Taking, Refused> {
+        let place = self.judge(unit, store.len(), rows.len())?;
+        let buffer: &mut [u8; CONTROL_BYTES] = buffer.try_into().map_err(|_| Refused::Length)?;
+        let Some(cell) = self.unit(place).collect(part(store, place)) else {
+            return Ok(Taking::Empty);
+        };
+        *buffer = cell;
+        bump(&mut rows[place].taken);
+        Ok(Taking::Taken)
+    }
+
     /// The counters of a unit.
     pub fn count(&self, unit: u32, store_len: usize, rows: &[Counters]) -> Result<Counters, Refused> {
         let place = self.judge(unit, store_len, rows.len())?;
@@ -171,7 +202,17 @@ impl Shelf {
         Unit { state: &mut self.state, place }
     }
 
-    /// The unit granted before sends its oldest cell; gives it and the copies queued.
+    /// Every loopback cell that can goes on to its unit's inlet, which counts as taken.
+    fn loop_back(&mut self, store: &mut [u8], rows: &mut [Counters]) {
+        let places = 0..usize::from(self.state.count());
+        for ((place, row), part) in places.zip(rows).zip(store.chunks_exact_mut(STORE_PER_UNIT)) {
+            if self.unit(place).loop_back(part) {
+                bump(&mut row.taken);
+            }
+        }
+    }
+
+    /// The unit granted before sends a cell; gives it and the copies queued.
     fn send(&mut self, buffer: &mut [u8; FRAME_BYTES], store: &mut [u8], rows: &mut [Counters]) -> (Option<u8>, usize) {
         let Some(sender) = self.state.close() else {
             return (None, 0);

@@ -1,7 +1,10 @@
 //! Which bytes are a state that a table and events could have left.
 
-use crate::state::{State, ASKS, INLET_COUNT, LAST, LINK, MARK, MODE, NOBODY, NUMBER, PRIORITY, SHELF, TOP_HIGH};
-use crate::{Card, INLET_CELLS, STORE_PER_UNIT, UNITS_MAX};
+use crate::state::{
+    State, ASKS, CONTROL_IN, LAST, LINK, LOOPBACK_IN, LOOPBACK_OUT, MARK, MODE, NOBODY, NUMBER, PRIORITY, SHELF,
+    TOP_HIGH,
+};
+use crate::{Card, CONTROL_CELLS, INLET_CELLS, STORE_PER_UNIT, UNITS_MAX};
 
 /// Whether store and counter rows are as large as Store asks.
 pub fn store_suffices(units: usize, store_len: usize, rows: usize) -> bool {
@@ -57,6 +60,9 @@ impl State {
         fits &= byte(MARK) <= 1;
         fits &= settings.are_good();
         fits &= self.inlet(place).fits(INLET_CELLS);
+        fits &= self.control_outlet(place).fits(CONTROL_CELLS);
+        // None of the three single places holds more than 1 if their bits together do not.
+        fits &= (byte(CONTROL_IN) | byte(LOOPBACK_IN) | byte(LOOPBACK_OUT)) <= 1;
         for (queue, capacity) in settings.capacities().into_iter().enumerate() {
             fits &= self.queue(place, queue).fits(capacity);
         }
@@ -66,31 +72,32 @@ impl State {
     /// Whether no unit is repeated, and the declared units could have the open grant, the last grants and the
     /// requests; each must be good by itself.
     fn grants_fit(&self) -> bool {
-        // By number: a unit's priority and the cells in its inlet, 0 where none is declared.
-        let (mut priorities, mut cells) = ([0; UNITS_MAX], [0; UNITS_MAX]);
+        // By number: a unit's priority, and four times the cells waiting in its inlet; 0 where none is declared.
+        let mut units = [0; UNITS_MAX];
+        let waiting = self.waiting();
         for (place, number) in self.numbers().iter().enumerate() {
-            priorities[usize::from(*number)] = self.columns[PRIORITY][place];
-            cells[usize::from(*number)] = self.columns[INLET_COUNT][place];
+            // Below 32 already: the remainder spares a test of each.
+            units[usize::from(*number) % UNITS_MAX] = waiting[place] << 2 | self.columns[PRIORITY][place];
         }
         let granted = self.granted();
         if granted != NOBODY {
-            match cells.get_mut(usize::from(granted)) {
+            match units.get_mut(usize::from(granted)) {
                 // The granted cell has not left yet, but must not ask again.
-                Some(cells) if *cells > 0 => *cells -= 1,
+                Some(unit) if *unit >= 4 => *unit -= 4,
                 _ => return false,
             }
         }
         let asks = &self.columns[ASKS];
-        let (mut units, mut asks_fit) = (0_u8, true);
+        let (mut declared, mut asks_fit) = (0_u8, true);
         for number in 0..UNITS_MAX {
-            let may_ask = (asks[number] == priorities[number]) & (cells[number] > 0);
+            let may_ask = (asks[number] == units[number] & 3) & (units[number] >= 4);
             asks_fit &= (asks[number] == 0) | may_ask;
             // At most 32, so nothing wraps; but looking for it would judge them one by one.
-            units = units.wrapping_add(u8::from(priorities[number] != 0));
+            declared = declared.wrapping_add(u8::from(units[number] != 0));
         }
-        let is_declared = |unit: u8| priorities.get(usize::from(unit)).is_some_and(|priority| *priority != 0);
+        let is_declared = |unit: u8| units.get(usize::from(unit)).is_some_and(|unit| *unit != 0);
         let last = &self.columns[SHELF][LAST..LAST + 3];
         // Repeated units have fewer numbers than places.
-        units == self.count() && asks_fit && last.iter().all(|last| *last == NOBODY || is_declared(*last))
+        declared == self.count() && asks_fit && last.iter().all(|last| *last == NOBODY || is_declared(*last))
     }
 }

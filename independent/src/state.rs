@@ -39,7 +39,7 @@ pub const QUEUE_COUNT: usize = 20;
 /// What each unit asks at, by its number.
 pub const ASKS: usize = 24;
 
-/// The bytes of the shelf itself, each at its own index; the others and the columns up to the sessions are free.
+/// The bytes of the shelf itself, each at its own index; the others are free.
 pub const SHELF: usize = 25;
 /// The first of three, the last unit granted at each priority.
 pub const LAST: usize = 0;
@@ -48,6 +48,14 @@ pub const BUS: usize = 4;
 pub const COUNT: usize = 5;
 /// The first of two, the high byte.
 pub const FRAME: usize = 6;
+
+// Columns again: control and loopback cells, of which each place but the control outlet has none or one.
+pub const CONTROL_IN: usize = 26;
+pub const LOOPBACK_IN: usize = 27;
+pub const CONTROL_HEAD: usize = 28;
+pub const CONTROL_COUNT: usize = 29;
+/// The last; the column behind it is free.
+pub const LOOPBACK_OUT: usize = 30;
 
 /// The sessions of place 0; each place has a column.
 pub const SESSIONS: usize = 32;
@@ -140,6 +148,31 @@ impl State {
     pub fn set_inlet(&mut self, place: usize, ring: Ring) {
         self.columns[INLET_HEAD][place] = ring.head;
         self.columns[INLET_COUNT][place] = ring.count;
+    }
+
+    /// By place: the cells waiting in the inlet, data, control and loopback together. All places at once, as the
+    /// compiler then adds sixteen of them at once; nothing wraps where each count is sound.
+    pub fn waiting(&self) -> [u8; UNITS_MAX] {
+        let mut waiting = self.columns[INLET_COUNT];
+        for (place, waiting) in waiting.iter_mut().enumerate() {
+            let single = self.columns[CONTROL_IN][place].wrapping_add(self.columns[LOOPBACK_IN][place]);
+            *waiting = waiting.wrapping_add(single);
+        }
+        waiting
+    }
+
+    /// Whether any loopback cell may wait in an outlet: cheap to ask, though of all places, declared or not.
+    pub fn any_loopback_out(&self) -> bool {
+        self.columns[LOOPBACK_OUT] != [0; UNITS_MAX]
+    }
+
+    pub fn control_outlet(&self, place: usize) -> Ring {
+        Ring { head: self.columns[CONTROL_HEAD][place], count: self.columns[CONTROL_COUNT][place] }
+    }
+
+    pub fn set_control_outlet(&mut self, place: usize, ring: Ring) {
+        self.columns[CONTROL_HEAD][place] = ring.head;
+        self.columns[CONTROL_COUNT][place] = ring.count;
     }
 
     pub fn queue(&self, place: usize, queue: usize) -> Ring {

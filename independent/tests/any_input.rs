@@ -2,10 +2,10 @@
 
 mod common;
 
-use common::{cell, frame, header, tabs, to_all, to_session, to_unit, Rig};
+use common::{bus_cell, cell, frame, framed, header, tabs, to_all, to_session, to_unit, Rig};
 use independent::bench::run;
-use independent::codec::{Header, Link};
-use independent::{load, Card, Counters, Shelf};
+use independent::codec::{control_routing, loopback_routing, Header, Link};
+use independent::{load, Card, Counters, Shelf, Taking};
 
 /// A small generator of numbers, the same in every run.
 struct Dice(u64);
@@ -40,10 +40,27 @@ mc 1 5
 mc 9 5
 ";
 
+/// Hand-ins and takes that were not refused nor empty, by row: what the counters do not name.
+#[derive(Default)]
+struct Known {
+    handed: [u32; 3],
+    taken: [u32; 3],
+}
+
+/// A cell of any kind for any of the units, at times any bytes' nonsense.
+fn any_cell(dice: &mut Dice) -> [u8; 56] {
+    let (random, unit) = (dice.roll(65_536) as u16, dice.pick(&[1, 20, 9, 2]));
+    let routing =
+        [random, to_unit(unit, 1), to_all(2), to_session(5, 0), control_routing(unit), loopback_routing(unit)];
+    let tandem = [dice.pick(&[1, 20, 9, 2, 32]), dice.roll(256) as u8];
+    bus_cell(dice.pick(&routing), tandem, header(dice.roll(512) as u16, 1, 1), 1)
+}
+
 /// One random event; gives nothing, as only the counters are judged.
-fn event(rig: &mut Rig, dice: &mut Dice) {
+fn event(rig: &mut Rig, dice: &mut Dice, known: &mut Known) {
     let unit = dice.pick(&[1, 20, 9, 2]);
-    match dice.roll(16) {
+    let row = [1, 20, 9, 2].iter().position(|other| *other == unit).expect("one of them");
+    match dice.roll(20) {
         0..=9 => {
             let mut bytes = cell(header(dice.roll(9) as u16, dice.roll(12) as u16, dice.roll(16) as u8), 1);
             bytes[4] ^= u8::from(dice.roll(9) == 0);
@@ -57,40 +74,64 @@ fn event(rig: &mut Rig, dice: &mut Dice) {
             let routing = dice.pick(&[random, to_unit(unit as u8, 1), to_all(2), to_session(5, 0)]);
             let _ = rig.hear(unit, &frame(routing, header(dice.roll(512) as u16, 1, 1), 1));
         }
+        14 => {
+            let _ = rig.hear(unit, &framed(&any_cell(dice)));
+        }
+        15..=16 => {
+            if rig.hand(unit, &any_cell(dice)).is_ok() {
+                known.handed[row] += 1;
+            }
+        }
+        17 => {
+            let mut buffer = [0; 56];
+            let taking = rig.shelf.collect(unit, &mut buffer, &rig.store, &mut rig.rows);
+            if taking == Ok(Taking::Taken) {
+                known.taken[row] += 1;
+            }
+        }
         _ => {
             let mut buffer = [0; 53];
-            let _ = rig.shelf.take(unit, &mut buffer, &rig.store, &mut rig.rows);
+            let taking = rig.shelf.take(unit, &mut buffer, &rig.store, &mut rig.rows);
+            if taking == Ok(Taking::Taken) {
+                known.taken[row] += 1;
+            }
         }
     }
 }
 
 /// Runs the bus until two frames in a row neither send nor grant, then empties the outlets.
-fn drain(rig: &mut Rig) {
+fn drain(rig: &mut Rig, known: &mut Known) {
     let mut idle = 0;
     while idle < 2 {
         let sent = rig.frame().0;
         idle = if sent.sender.is_none() && sent.granted.is_none() { idle + 1 } else { 0 };
     }
-    for unit in [1, 20, 9] {
-        while rig.take(unit).is_some() {}
+    for (unit, taken) in [1, 20, 9].into_iter().zip(&mut known.taken) {
+        while rig.take(unit).is_some() || rig.collect(unit).is_some() {
+            *taken += 1;
+        }
     }
 }
 
 #[test]
 fn counters_add_up_over_random_events() {
-    let mut totals = [0; 13];
+    let (mut totals, mut moves) = ([0; 13], 0);
     for seed in 0..40 {
-        let (mut dice, mut rig) = (Dice(seed), Rig::wide(TABLE));
+        let (mut dice, mut rig, mut known) = (Dice(seed), Rig::wide(TABLE), Known::default());
         for _ in 0..3_000 {
-            event(&mut rig, &mut dice);
+            event(&mut rig, &mut dice, &mut known);
             if dice.roll(50) == 0 {
                 let place = dice.roll(400) as usize;
                 rig.memory[place] = dice.roll(256) as u8;
             }
         }
-        drain(&mut rig);
-        for row in &rig.rows {
-            assert_eq!(row.arrived, row.hec + row.ignored + row.misrouted + row.inletfull + row.sent);
+        drain(&mut rig, &mut known);
+        for (row, (handed, taken)) in rig.rows.iter().zip(known.handed.into_iter().zip(known.taken)) {
+            let routed = row.arrived - row.hec - row.ignored - row.misrouted - row.inletfull;
+            // What was taken by nobody moved on to be sent again.
+            let moved = row.taken - taken;
+            moves += moved;
+            assert_eq!(row.sent, routed + handed + moved);
             assert_eq!(row.queued, row.taken);
             assert!(row.unheard <= row.sent);
             for (total, counter) in totals.iter_mut().zip(row.list()) {
@@ -99,7 +140,7 @@ fn counters_add_up_over_random_events() {
         }
     }
     // The events were many enough to bump every counter.
-    assert!(totals.iter().all(|total| *total > 100), "{totals:?}");
+    assert!(totals.iter().all(|total| *total > 100) && moves > 100, "{totals:?} {moves}");
 }
 
 const WORDS: [&str; 25] = [
@@ -170,9 +211,10 @@ fn bench_survives_random_bytes() {
 
 #[test]
 fn console_survives_random_lines() {
-    let pieces: [&[u8]; 22] = [
-        b"card", b"wide", b"narrow", b"lend", b"memory", b"store", b"rows", b"load", b"arrive", b"hear", b"frame",
-        b"take", b"count", b"poke", b"state", b"unit", b"show", b"805", b"53", b"0", b"AB", b"\xFF",
+    let pieces: [&[u8]; 25] = [
+        b"hand", b"collect", b"56", b"card", b"wide", b"narrow", b"lend", b"memory", b"store", b"rows", b"load",
+        b"arrive", b"hear", b"frame", b"take", b"count", b"poke", b"state", b"unit", b"show", b"805", b"53", b"0",
+        b"AB", b"\xFF",
     ];
     for seed in 0..2_000 {
         let mut dice = Dice(seed);

@@ -175,7 +175,7 @@ type ChangeAnswer = fn(Vec<u8>, narrow: bool) -> Vec<u8>;
 #[test]
 fn faults_in_bytes_of_the_state_are_found_and_shortened() {
     let same: ChangeAnswer = |answer, _| answer;
-    let lines: [(&str, ChangeLine); 9] = [
+    let lines: [(&str, ChangeLine); 13] = [
         ("link above 1 is 1", |line| poked(line, |at, byte| if at / 32 == 1 { byte.min(1) } else { byte })),
         ("mode above 1 is 1", |line| poked(line, |at, byte| if at / 32 == 5 { byte.min(1) } else { byte })),
         ("mark above 1 is 1", |line| poked(line, |at, byte| if at / 32 == 9 { byte.min(1) } else { byte })),
@@ -184,6 +184,10 @@ fn faults_in_bytes_of_the_state_are_found_and_shortened() {
         ("last 254 is nobody", |line| poked(line, |at, byte| if at == 802 && byte == 254 { 255 } else { byte })),
         ("queue 3 of mode one", |line| poked(line, |at, byte| if at == 736 && byte == 1 { 0 } else { byte })),
         ("a free byte forgotten", |line| poked(line, |at, byte| if at == 1_023 { 0 } else { byte })),
+        ("two control cells are one", |line| poked(line, |at, byte| if at / 32 == 26 { byte.min(1) } else { byte })),
+        ("two loopback cells are one", |line| poked(line, |at, byte| if at / 32 == 30 { byte.min(1) } else { byte })),
+        ("control head 4 is 0", |line| poked(line, |at, byte| if at / 32 == 28 && byte == 4 { 0 } else { byte })),
+        ("five control cells are four", |line| poked(line, |at, byte| if at / 32 == 29 { byte.min(4) } else { byte })),
         ("no unit above 255", |line| match line {
             b"show\tunit\t256" => b"show\tunit\t0".to_vec(),
             _ => line.to_vec(),
@@ -248,6 +252,11 @@ fn pokes_by_name() {
     assert_eq!(pokes("count 0 33"), ["poke state 805 21"]);
     assert_eq!(pokes("frame 0 65534"), ["poke state 806 FFFE"]);
     assert_eq!(pokes("byte 2047 1"), ["poke state 2047 01"]);
+    assert_eq!(pokes("controlin 1 1"), ["poke state 833 01"]);
+    assert_eq!(pokes("loopbackin 31 2"), ["poke state 895 02"]);
+    assert_eq!(pokes("controlhead 0 3"), ["poke state 896 03"]);
+    assert_eq!(pokes("controlcount 2 4"), ["poke state 930 04"]);
+    assert_eq!(pokes("loopbackout 3 1"), ["poke state 963 01"]);
 }
 
 #[test]
@@ -258,7 +267,93 @@ fn every_byte_has_a_name() {
     let shelf = ["last 1", "last 2", "last 3", "granted", "bus", "count", "frame high", "frame low", "free"];
     assert_eq!(names[800..809], shelf);
     assert_eq!((names[767], names[768], names[799]), ("queuecount 3", "asks", "asks"));
+    assert_eq!((names[831], names[832], names[863], names[864]), ("free", "controlin", "controlin", "loopbackin"));
+    assert_eq!(
+        (names[896], names[928], names[960], names[991]),
+        ("controlhead", "controlcount", "loopbackout", "loopbackout")
+    );
+    assert_eq!(names[992], "free");
     assert_eq!((names[1_023], names[1_024], names[2_047], name_of(2_048)), ("free", "sessions", "sessions", "nothing"));
+}
+
+/// What the tally says after these lines with their answers, blanks for tabs.
+fn tallied(pairs: &[(&str, &str)]) -> Tally {
+    let mut tally = Tally::default();
+    for (line, answer) in pairs {
+        tally.add(line.replace(' ', "\t").as_bytes(), answer.replace(' ', "\t").as_bytes());
+    }
+    tally
+}
+
+#[test]
+fn the_tally_counts_hand_ins_collects_and_frames_of_kind_3() {
+    let tally = tallied(&[
+        ("hand 0 C008", "hand 0 ok"),
+        ("hand 0 00", "hand refused 10"),
+        ("hand 0 C008", "hand refused 11"),
+        ("collect 3 56", "collect 3 cell C008"),
+        ("collect 3 55", "collect refused 10 EE"),
+        // Heard: control, loopback in small digits, another class; not heard: data, and one that is refused.
+        ("hear 3 C03D", "hear 3 queued"),
+        ("hear 3 d032", "hear 3 damaged"),
+        ("hear 3 FFFF", "hear 3 damaged"),
+        ("hear 3 2038", "hear 3 queued"),
+        ("hear 7 C03D", "hear refused 9"),
+        // Sent: control and loopback; not sent: data, idle, refused.
+        ("frame 57", "frame 1 0 - 1 C03D"),
+        ("frame 57", "frame 2 0 - 0 D032"),
+        ("frame 57", "frame 3 0 - 1 2038"),
+        ("frame 57", "frame 4 - 0 0 EEEE"),
+        ("frame 1", "frame refused 10 EE"),
+    ]);
+    assert_eq!((tally.events, tally.processors, tally.heard), (10, 5, 5));
+    let report = tally.report();
+    for kind in [
+        "collect cell: 1",
+        "collect refused 10: 1",
+        "frame control queued: 1",
+        "frame loopback not queued: 1",
+        "hand ok: 1",
+        "hand refused 10: 1",
+        "hand refused 11: 1",
+        "hear control queued: 1",
+        "hear kind 3 of class 3 damaged: 1",
+        "hear loopback damaged: 1",
+        "hear queued: 2",
+    ] {
+        assert!(report.lines().any(|line| line == kind), "{kind} in {report}");
+    }
+    let mut merged = tallied(&[("collect 3 56", "collect 3 empty EE"), ("hear 3 C03D", "hear 3 full")]);
+    merged.merge(tally);
+    assert_eq!((merged.events, merged.processors, merged.heard), (11, 6, 6));
+}
+
+#[test]
+fn faults_of_control_and_loopback_cells_are_found_and_shortened() {
+    let answers: [(&str, ChangeAnswer); 4] = [
+        ("never busy", |answer, _| match &answer[..] {
+            b"hand\trefused\t11" => b"hand\t0\tok".to_vec(),
+            _ => answer,
+        }),
+        ("full is queued", |answer, _| match &answer[..] {
+            b"hear\t3\tfull" => b"hear\t3\tqueued".to_vec(),
+            _ => answer,
+        }),
+        ("a move is a copy", |answer, _| {
+            let text = String::from_utf8_lossy(&answer).replace("\t-\t3\t0\tEE", "\t-\t3\t1\tEE");
+            text.into_bytes()
+        }),
+        ("routing header kept", |answer, _| {
+            let text = String::from_utf8_lossy(&answer).replace("\tcell\tC008005C", "\tcell\tD032005C");
+            text.into_bytes()
+        }),
+    ];
+    for (name, answer) in answers {
+        let faulty = Faulty { line: <[u8]>::to_vec, answer };
+        let finding = compare(&faulty, &Own, 0, 1).1.unwrap_or_else(|| panic!("{name} is not found"));
+        // Memory, store, rows and a table; a loopback test takes a hand-in, four frames and a collect.
+        assert!(finding.script.len() <= 10, "{name}: {:?}", text(&finding.script));
+    }
 }
 
 #[test]
@@ -283,8 +378,8 @@ fn cards_that_differ_are_found_though_both_programs_agree() {
         panic!("{:?}", finding.fault);
     };
     assert_eq!(narrow, b"hear\t3\tother");
-    // The body of five lines on either card.
-    assert!(finding.script.len() <= 12, "{:?}", text(&finding.script));
+    // The body of five lines on either card, and five before it.
+    assert!(finding.script.len() <= 20, "{:?}", text(&finding.script));
 }
 
 #[test]
@@ -296,7 +391,8 @@ fn a_narrow_card_that_takes_a_wide_line_is_found() {
     let faulty = Faulty { line, answer: |answer, _| answer };
     let finding = compare(&faulty, &faulty, 20, 2).1.expect("a fault");
     assert!(matches!(finding.fault, Fault::Cards { .. }), "{:?}", finding.fault);
-    assert!(finding.script.len() <= 10, "{:?}", text(&finding.script));
+    // Not more than four lines on either card, and five before them.
+    assert!(finding.script.len() <= 18, "{:?}", text(&finding.script));
 }
 
 #[test]

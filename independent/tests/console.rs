@@ -61,6 +61,8 @@ const BAD: &[&str] = &[
     "lend rows 1 4294967296", "lend rows 1 00", "lend shelf 1 0", "load", "load 0", "load 0G", "load 00 ",
     "arrive 0", "arrive 00 00", "arrive x 00", "arrive  00", "arrive 0 0", "hear 0", "hear 0 0", "frame",
     "frame 1001", "frame ", "frame 057", "take 0", "take 0 1001", "take -1 53", "count", "count ", "count +1",
+    "hand", "hand 0", "hand 0 0", "hand 0 0G", "hand 00 00", "hand x 00", "hand  00", "hand 0 00 00", "Hand 0 00",
+    "collect", "collect 0", "collect 0 1001", "collect 0 056", "collect -1 56", "collect 0 56 0", "collect  56",
     "poke memory 0 0", "poke rows 0 00", "poke memory 4000 00", "poke memory 3999 0000", "poke store x 00",
     "poke memory 18446744073709551615 00", "poke memory 99999999999999999999 00", "poke shelf 0 00",
     "poke state", "poke state 0", "poke state 0 0", "poke state 0 0G", "poke state 00 00", "poke state -1 00",
@@ -108,6 +110,8 @@ fn texts_cells_and_frames_to_70000_bytes() {
     let mut desk = listing();
     assert_eq!(desk.ask(&format!("arrive 0 {}", "00".repeat(70_000))), "arrive refused 10");
     assert_eq!(desk.ask(&format!("hear 0 {}", "00".repeat(70_000))), "hear refused 10");
+    assert_eq!(desk.ask(&format!("hand 0 {}", "00".repeat(70_000))), "hand refused 10");
+    assert_eq!(desk.ask(&format!("hand 0 {}", "00".repeat(70_001))), "bad");
     assert_eq!(desk.ask(&format!("load {}", "00".repeat(70_001))), "bad");
     assert_eq!(desk.ask(&format!("arrive 0 {}", "00".repeat(70_001))), "bad");
     assert_eq!(desk.ask("count 3"), "count 3 0 0 0 0 0 0 0 0 0 0 0 0 0");
@@ -165,31 +169,36 @@ fn refusals_8_to_10_in_that_order_change_nothing() {
             desk.ask(&format!("hear {unit} {}", "00".repeat(frame))),
             desk.ask(&format!("frame {frame}")),
             desk.ask(&format!("take {unit} {cell}")),
+            desk.ask(&format!("hand {unit} {}", "00".repeat(cell))),
+            desk.ask(&format!("collect {unit} {cell}")),
             desk.ask(&format!("count {unit}")),
         ]
     };
-    let said = |number: [u8; 5], cell: usize, frame: usize| {
-        let [arrive, hear, send, take, count] = number;
+    let said = |number: [u8; 7], cell: usize, frame: usize| {
+        let [arrive, hear, send, take, hand, collect, count] = number;
         [
             format!("arrive refused {arrive}"),
             format!("hear refused {hear}"),
             format!("frame refused {send} {}", buffer(frame)),
             format!("take refused {take} {}", buffer(cell)),
+            format!("hand refused {hand}"),
+            format!("collect refused {collect} {}", buffer(cell)),
             format!("count refused {count}"),
         ]
     };
     let before = desk.all();
     let huge = "9".repeat(500);
     for unit in ["7", "259", "65539", "4294967299", "18446744073709551619", &huge] {
-        assert_eq!(ask_all(&mut desk, unit, 0, 56), said([9, 9, 10, 9, 9], 0, 56), "{unit}");
+        assert_eq!(ask_all(&mut desk, unit, 0, 56), said([9, 9, 10, 9, 9, 9, 9], 0, 56), "{unit}");
     }
-    assert_eq!(ask_all(&mut desk, "3", 52, 58)[..4], said([10; 5], 52, 58)[..4]);
-    assert_eq!(ask_all(&mut desk, "3", 1_000, 1_000)[2..4], said([10; 5], 1_000, 1_000)[2..4]);
+    assert_eq!(ask_all(&mut desk, "3", 52, 58)[..6], said([10; 7], 52, 58)[..6]);
+    assert_eq!(ask_all(&mut desk, "3", 1_000, 1_000)[2..6], said([10; 7], 1_000, 1_000)[2..6]);
     assert_eq!(desk.all(), before);
     desk.set("bus 0 17");
     let before = desk.all();
-    assert_eq!(ask_all(&mut desk, "7", 0, 0), said([8; 5], 0, 0));
-    assert_eq!(ask_all(&mut desk, "3", 53, 57), said([8; 5], 53, 57));
+    assert_eq!(ask_all(&mut desk, "7", 0, 0), said([8; 7], 0, 0));
+    assert_eq!(ask_all(&mut desk, "3", 53, 57), said([8; 7], 53, 57));
+    assert_eq!(ask_all(&mut desk, "3", 56, 57), said([8; 7], 56, 57));
     assert_eq!(desk.all(), before);
 }
 
@@ -244,4 +253,26 @@ fn the_card_may_change_under_a_shelf() {
     assert_eq!(desk.ask("count 3"), "count refused 8");
     desk.ask("card wide");
     assert_eq!(desk.ask("count 3").split(' ').nth(1), Some("3"));
+}
+
+#[test]
+fn hand_and_collect() {
+    let mut desk = listing();
+    let payload = "5A".repeat(48);
+    // A control cell for unit 3: C0 3D, tandem 01 02.
+    let cell = format!("C03D010200900280{payload}");
+    assert_eq!(desk.ask(&format!("hand 0 {}", cell.to_lowercase())), "hand 0 ok");
+    assert_eq!(desk.ask(&format!("hand 0 {cell}")), "hand refused 11");
+    assert_eq!(desk.ask("hand 0 00"), "hand refused 10");
+    assert_eq!(desk.ask("frame 57"), format!("frame 0 - 0 0 {}", buffer(57)));
+    assert_eq!(desk.ask(&format!("hand 0 {cell}")), "hand refused 11");
+    // The payload falls out of the parity: C0 3D 01 02 00 90 02 80 leave EC.
+    assert_eq!(desk.ask("frame 57"), format!("frame 1 0 - 1 {cell}EC"));
+    assert_eq!(desk.ask("collect 3 55"), format!("collect refused 10 {}", buffer(55)));
+    assert_eq!(desk.ask("collect 3 56"), format!("collect 3 cell {cell}"));
+    assert_eq!(desk.ask("collect 3 56"), format!("collect 3 empty {}", buffer(56)));
+    assert_eq!(desk.ask("collect 1 56"), format!("collect refused 9 {}", buffer(56)));
+    assert_eq!(desk.ask("count 0"), "count 0 0 0 0 0 0 1 0 0 0 0 0 0 0");
+    assert_eq!(desk.ask("count 3"), "count 3 0 0 0 0 0 0 0 0 1 0 0 0 1");
+    assert_eq!(desk.ask(&format!("hand 0 {cell}")), "hand 0 ok");
 }

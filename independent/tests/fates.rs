@@ -101,9 +101,14 @@ fn damaged_hearings() {
         wrong_parity,
         other_unit,
         frame(to_unit(4, 1) ^ 1, header(1, 1, 0), 0),
-        checked(0xC00),
-        checked(0xC04),
+        // Kind 3 of another class than 0 and 1, and to addresses above 31.
+        checked(0xE04),
+        checked(0xF04),
         checked(0xFFF),
+        checked(0xC20),
+        checked(0xC24),
+        checked(0xD20),
+        checked(0xDFF),
         checked(0x020),
         checked(0x024),
         checked(0x0FF),
@@ -256,7 +261,7 @@ fn rows_beyond_the_units_are_untouched() {
     let row = Counters { taken: 5, ..Counters::default() };
     rig.rows[3..].fill(row);
     send(&mut rig, 4, 5);
-    rig.hear(2, &checked(0xC00)).unwrap();
+    rig.hear(2, &checked(0xE00)).unwrap();
     rig.take(2);
     assert!(rig.rows[3..].iter().all(|found| *found == row));
 }

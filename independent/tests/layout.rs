@@ -2,7 +2,7 @@
 
 mod common;
 
-use common::{bytes_of, cell, frame, header, hex, to_all, to_session, to_unit, Desk, LISTING_TABLE};
+use common::{bus_cell, bytes_of, cell, frame, header, hex, to_all, to_session, to_unit, Desk, LISTING_TABLE};
 use independent::{Card, Shelf};
 
 /// Bytes with these values at these places, 0 elsewhere.
@@ -37,6 +37,16 @@ fn arrive(unit: u8, vpi: u16) -> String {
 fn hear(unit: u8, routing: u16) -> String {
     format!("hear {unit} {}", hex(&frame(routing, header(1, 2, 0), 0xA5)))
 }
+
+/// A processor's cell of this routing header, its first tandem byte 9.
+fn hand(unit: u8, routing: u16) -> String {
+    format!("hand {unit} {}", hex(&bus_cell(routing, [9, 0], header(1, 2, 0), 0xA5)))
+}
+
+// Of kind 3: control and loopback to unit 3, loopback to unit 9.
+const CONTROL_3: u16 = 0xC03D;
+const LOOPBACK_3: u16 = 0xD032;
+const LOOPBACK_9: u16 = 0xD09F;
 
 #[test]
 fn fresh_16_bus() {
@@ -278,6 +288,74 @@ fn frame_writes_number_requests_grants_inlet_and_copies() {
 }
 
 #[test]
+fn hand_sets_its_place() {
+    let mut desk = desk();
+    assert_eq!(changed(&mut desk, &hand(3, CONTROL_3)), [(832 + 1, 0, 1)]);
+    assert_eq!(changed(&mut desk, &hand(3, CONTROL_3)), []);
+    assert_eq!(changed(&mut desk, &hand(9, 0)), [(832, 0, 1)]);
+}
+
+#[test]
+fn hear_and_collect_write_the_control_outlet() {
+    let mut desk = desk();
+    desk.set("controlhead 1 2");
+    for count in 0..4 {
+        assert_eq!(changed(&mut desk, &hear(3, CONTROL_3)), [(928 + 1, count, count + 1)]);
+    }
+    assert_eq!(changed(&mut desk, &hear(3, CONTROL_3)), []);
+    assert_eq!(changed(&mut desk, "collect 3 56"), [(896 + 1, 2, 3), (928 + 1, 4, 3)]);
+    assert_eq!(changed(&mut desk, "collect 3 56"), [(896 + 1, 3, 0), (928 + 1, 3, 2)]);
+    assert_eq!(changed(&mut desk, "collect 9 56"), []);
+    assert_eq!(changed(&mut desk, &hear(3, LOOPBACK_3)), [(960 + 1, 0, 1)]);
+    assert_eq!(changed(&mut desk, &hear(3, LOOPBACK_3)), []);
+}
+
+#[test]
+fn frame_moves_loopback_cells_first() {
+    let mut desk = desk();
+    desk.ask(&hear(9, LOOPBACK_9));
+    desk.ask(&hear(3, LOOPBACK_3));
+    // Frame 0 renews both: both ask with the cells just moved, 9 is granted by its priority.
+    let moved = [(864, 0, 1), (864 + 1, 0, 1), (960, 1, 0), (960 + 1, 1, 0)];
+    let granted = [(768 + 3, 0, 1), (802, 255, 9), (803, 255, 9), (807, 0, 1)];
+    assert_eq!(changed(&mut desk, "frame 57"), [&granted[..], &moved].concat());
+    // A second loopback cell waits, as the inlet was taken when frame 1 began. Tandem 0 sends the first to unit 0.
+    desk.ask(&hear(9, LOOPBACK_9));
+    let sent = [(768 + 3, 1, 0), (800, 255, 3), (803, 9, 3), (807, 1, 2), (864, 1, 0)];
+    assert_eq!(changed(&mut desk, "frame 57"), sent);
+    // Frame 2 moves it and unit 3 sends; frame 3 renews only the upper half, so 9 is granted in frame 2.
+    let next = [(803, 3, 9), (807, 2, 3), (864, 0, 1), (864 + 1, 1, 0), (960, 1, 0)];
+    assert_eq!(changed(&mut desk, "frame 57"), next);
+}
+
+#[test]
+fn frame_clears_the_place_that_it_sends_from() {
+    let mut desk = desk();
+    for setting in ["inletcount 1 1", "controlin 1 1", "loopbackin 1 1", "granted 0 3"] {
+        desk.set(setting);
+    }
+    // Each slot of the store holds EE: damaged, so nothing is queued. Frames of this bus renew unit 3 every other time.
+    let mut written = Vec::new();
+    for _ in 0..6 {
+        let changed = changed(&mut desk, "frame 57");
+        written.extend(changed.into_iter().filter(|(at, ..)| (448..512).contains(at) || (832..992).contains(at)));
+    }
+    assert_eq!(written, [(448 + 1, 0, 1), (480 + 1, 1, 0), (832 + 1, 1, 0), (864 + 1, 1, 0)]);
+}
+
+#[test]
+fn a_frame_with_a_copy_for_a_processor() {
+    let mut desk = desk();
+    desk.ask(&hand(9, CONTROL_3));
+    desk.ask("frame 57");
+    // The sender's place is cleared, the control outlet of unit 3 counts one more.
+    assert_eq!(changed(&mut desk, "frame 57"), [(803, 9, 255), (807, 1, 2), (832, 1, 0), (928 + 1, 0, 1)]);
+    desk.ask(&hand(9, LOOPBACK_3));
+    desk.ask("frame 57");
+    assert_eq!(changed(&mut desk, "frame 57"), [(803, 9, 255), (807, 3, 4), (832, 1, 0), (960 + 1, 0, 1)]);
+}
+
+#[test]
 fn the_inlet_head_goes_round() {
     let mut desk = desk();
     for setting in ["inlethead 0 3", "inletcount 0 1", "granted 0 9"] {
@@ -300,9 +378,14 @@ fn count_and_shows_write_nothing() {
 fn refused_events_write_nothing() {
     let mut desk = desk();
     desk.ask(&arrive(3, 1));
-    let lines = [arrive(3, 1), hear(3, to_unit(3, 1)), "frame 57".to_string(), "take 3 53".to_string()];
+    desk.ask(&hear(3, LOOPBACK_3));
+    desk.ask(&hear(3, CONTROL_3));
+    desk.ask(&hand(3, CONTROL_3));
+    let events = [arrive(3, 1), hear(3, to_unit(3, 1)), hand(9, CONTROL_3)];
+    let lines = [&events[..], &["frame 57", "take 3 53", "collect 3 56"].map(String::from)].concat();
     let wrong = ["arrive 3 00", "hear 3 00", "frame 56", "take 3 52", "arrive 7 00", "hear 7 00", "take 7 53"];
-    for line in wrong {
+    let busy = hand(3, CONTROL_3);
+    for line in wrong.into_iter().chain(["hand 9 00", "hand 7 00", "collect 3 55", "collect 7 56", &busy]) {
         assert_eq!(changed(&mut desk, line), [], "{line}");
     }
     desk.set("bus 0 17");
@@ -315,27 +398,31 @@ fn refused_events_write_nothing() {
 fn no_event_writes_what_is_not_its_own() {
     let mut desk = desk();
     // Nonsense in the free bytes and in all places that are not declared, and a few more sessions.
-    for column in 0..24 {
+    for column in (0..24).chain(26..31) {
         desk.ask(&format!("poke state {} {}", 32 * column + 2, "A7".repeat(30)));
     }
-    desk.ask(&format!("poke state 808 {}", "B8".repeat(216)));
+    desk.ask(&format!("poke state 808 {}", "B8".repeat(24)));
+    desk.ask(&format!("poke state 992 {}", "B8".repeat(32)));
     desk.ask(&format!("poke state {} {}", 1_024 + 64, "C9".repeat(960)));
     desk.ask("poke state 1030 FF");
     let before = desk.state();
     let (both, three) = (to_all(2), to_unit(3, 0));
-    for line in [arrive(3, 1), arrive(9, 1), hear(3, three), hear(9, both)] {
+    for line in [arrive(3, 1), arrive(9, 1), hear(3, three), hear(9, both), hand(9, CONTROL_3), hear(3, LOOPBACK_3)] {
         desk.ask(&line);
     }
-    for line in ["frame 57", "frame 57", "frame 57", "frame 57", "take 3 53", "take 9 53", "count 3"] {
+    (0..8).for_each(|_| drop(desk.ask("frame 57")));
+    for line in ["take 3 53", "take 9 53", "collect 3 56", "collect 9 56", "count 3"] {
         desk.ask(line);
     }
     let after = desk.state();
     // Heads and counts of the two units, requests, grants and the number of the next frame may change.
-    let may_change = |at: usize| (448..768).contains(&at) && at % 32 < 2 || (768..=803).contains(&at) || at / 2 == 403;
+    let of_unit = |at: usize| (448..768).contains(&at) || (832..992).contains(&at);
+    let may_change = |at: usize| of_unit(at) && at % 32 < 2 || (768..=803).contains(&at) || at / 2 == 403;
     let changed = changes(&before, &after);
     assert!(changed.len() > 5 && changed.iter().all(|(at, ..)| may_change(*at)), "{changed:?}");
-    // Unit 9 has sent its cell.
-    assert_eq!(desk.ask("count 9").split(' ').nth(7), Some("1"));
+    // Unit 9 has sent its cell and that of its processor; unit 3's loopback cell went to unit 0, which is none.
+    assert_eq!(desk.ask("count 9").split(' ').nth(7), Some("2"));
+    assert_eq!(desk.ask("count 3").split(' ').nth(8), Some("1"));
 }
 
 #[test]
@@ -404,10 +491,12 @@ fn both_cards_have_the_same_bytes() {
 
 #[test]
 fn names_of_fields_are_all_in_their_columns() {
-    // Every byte below 808 has one name.
-    let mut seen = vec![0; 808];
+    // Every byte below 808 has one name, and those of the control and loopback cells.
+    let mut seen = vec![0; 992];
+    seen[808..832].fill(1);
     let single = ["number", "link", "priority", "mode", "cbrlength", "cbrlimit", "vbrlimit", "mark", "inlethead"];
-    let names = single.into_iter().chain(["inletcount", "top", "place", "asks"]);
+    let control = ["controlin", "loopbackin", "controlhead", "controlcount", "loopbackout"];
+    let names = single.into_iter().chain(["inletcount", "top", "place", "asks"]).chain(control);
     let fields = names.flat_map(|name| (0..32).map(move |place| (name, place)));
     let queues = ["queuehead", "queuecount"].into_iter().flat_map(|name| (0..128).map(move |place| (name, place)));
     let shelf = [("last", 0), ("last", 1), ("last", 2), ("granted", 0), ("bus", 0), ("count", 0), ("frame", 0)];

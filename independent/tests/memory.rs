@@ -130,8 +130,8 @@ fn pages_may_point_anywhere() {
 
 #[test]
 fn spoiled_routing_header_is_sent_as_it_stands() {
-    // Wrong check; and with right checks kind 3, unit 32, broadcast address 1.
-    for routing in [0x2039_u16, 0xC008, 0x020A, 0x8012] {
+    // Wrong check; and with right checks kind 3 of class 2, unit 32, broadcast address 1.
+    for routing in [0x2039_u16, 0xE005, 0x020A, 0x8012] {
         let [high, low] = routing.to_be_bytes();
         let mut rig = spoiled(Card::Wide, 320, [2, high, low, 0, 0, 40, 0, 9]);
         assert_eq!(rig.arrive_header(0, CELL), Arrival::Queued);

@@ -1,4 +1,4 @@
-//! Refusals 1 to 7 with their lines, and 8 to 10 with their order.
+//! Refusals 1 to 7 with their lines, and 8 to 11 with their order.
 
 mod common;
 
@@ -315,6 +315,8 @@ fn state_then_unit_then_length() {
         assert_eq!(shelf.arrive(7, &[0; 9], &memory, store, rows), Err(expected));
         assert_eq!(shelf.hear(7, &[0; 9], store, rows), Err(expected));
         assert_eq!(shelf.take(7, &mut [0; 9], store, rows), Err(expected));
+        assert_eq!(shelf.hand(7, &[0; 9], store, rows.len()), Err(expected));
+        assert_eq!(shelf.collect(7, &mut [0; 9], store, rows), Err(expected));
         assert_eq!(shelf.count(7, store_len, rows), Err(expected));
         let frame = if expected == Refused::Unit { Refused::Length } else { expected };
         assert_eq!(shelf.frame(&mut [0; 9], store, rows), Err(frame));
@@ -333,6 +335,11 @@ fn lengths() {
         assert_eq!(rig.arrive(0, &bytes).map(|_| ()), length);
         assert_eq!(rig.shelf.take(3, &mut bytes, &rig.store, &mut rig.rows).map(|_| ()), length);
     }
+    for wrong in [0, 53, 55, 57] {
+        let mut bytes = vec![0; wrong];
+        assert_eq!(rig.hand(3, &bytes), length);
+        assert_eq!(rig.shelf.collect(3, &mut bytes, &rig.store, &mut rig.rows).map(|_| ()), length);
+    }
     for wrong in [0, 53, 56, 58] {
         let mut bytes = vec![0; wrong];
         assert_eq!(rig.hear(3, &bytes).map(|_| ()), length);
@@ -348,12 +355,15 @@ fn units_outside_any_bus_are_not_declared() {
     for unit in [1, 2, 16, 32, 256, 259, 65_539, u32::MAX] {
         assert_eq!(rig.arrive(unit, &cell([0; 4], 0)), Err(Refused::Unit));
         assert_eq!(rig.hear(unit, &[0; 57]), Err(Refused::Unit));
+        assert_eq!(rig.hand(unit, &[0; 56]), Err(Refused::Unit));
+        let collected = rig.shelf.collect(unit, &mut [0; 56], &rig.store, &mut rig.rows);
+        assert_eq!(collected, Err(Refused::Unit));
     }
 }
 
 #[test]
 fn numbers_of_the_names() {
     use Refused::*;
-    let names = [Long, Form, Order, Twice, Wide, Room, Store, State, Unit, Length];
-    assert!(names.iter().map(|name| name.number()).eq(1..=10));
+    let names = [Long, Form, Order, Twice, Wide, Room, Store, State, Unit, Length, Busy];
+    assert!(names.iter().map(|name| name.number()).eq(1..=11));
 }

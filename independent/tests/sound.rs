@@ -48,6 +48,9 @@ fn is_state(bytes: &[u8], card: Card, store: usize, rows: usize) -> bool {
         if column(14) >= 4 || column(15) > 4 {
             return false;
         }
+        if column(28) >= 4 || column(29) > 4 || [26, 27, 30].iter().any(|single| column(*single) > 1) {
+            return false;
+        }
         for (queue, capacity) in capacities.into_iter().enumerate() {
             let (head, cells) = (i32::from(column(16 + queue)), i32::from(column(20 + queue)));
             let fits = if capacity == 0 { head == 0 && cells == 0 } else { head < capacity && cells <= capacity };
@@ -57,12 +60,13 @@ fn is_state(bytes: &[u8], card: Card, store: usize, rows: usize) -> bool {
         }
         let asks = bytes[768 + usize::from(number)];
         let needed = if granted == number { 2 } else { 1 };
-        if asks != 0 && (asks != priority || column(15) < needed) {
+        if asks != 0 && (asks != priority || column(15) + column(26) + column(27) < needed) {
             return false;
         }
     }
     let place_of = |unit: u8| (0..count).find(|place| bytes[*place] == unit);
-    if granted != 255 && place_of(granted).is_none_or(|place| bytes[480 + place] == 0) {
+    let waits = |place: usize| [480, 832, 864].iter().any(|column| bytes[column + place] > 0);
+    if granted != 255 && !place_of(granted).is_some_and(waits) {
         return false;
     }
     let last_fits = |last: &u8| *last == 255 || place_of(*last).is_some();
@@ -95,18 +99,20 @@ impl Judge {
         let (mut store, mut rows) = (vec![0xDD; 8_192 * units], vec![Counters::all(7); units]);
         let said = self.said(&mut store, &mut rows);
         let sound = self.0.count(99, store.len(), &rows) != Err(Refused::State);
-        assert_eq!(said, [!sound; 4]);
+        assert_eq!(said, [!sound; 6]);
         assert_eq!(is_state(self.0.state.bytes(), self.0.card, store.len(), rows.len()), sound);
         sound
     }
 
-    /// Whether arrive, hear, take and frame refuse with State.
-    fn said(&self, store: &mut [u8], rows: &mut [Counters]) -> [bool; 4] {
+    /// Whether arrive, hear, take, hand, collect and frame refuse with State.
+    fn said(&self, store: &mut [u8], rows: &mut [Counters]) -> [bool; 6] {
         let mut shelf = self.0;
         let said = [
             shelf.arrive(99, &[], &[], store, rows) == Err(Refused::State),
             shelf.hear(99, &[], store, rows) == Err(Refused::State),
             shelf.take(99, &mut [], store, rows) == Err(Refused::State),
+            shelf.hand(99, &[], store, rows.len()) == Err(Refused::State),
+            shelf.collect(99, &mut [], store, rows) == Err(Refused::State),
             shelf.frame(&mut [], store, rows) == Err(Refused::State),
         ];
         let touched = store.iter().fold(0, |touched, byte| touched | (byte ^ 0xDD));
@@ -254,6 +260,63 @@ fn a_count_or_queue_position_past_its_capacity() {
 }
 
 #[test]
+fn control_and_loopback_places_past_their_capacity() {
+    for (card, place) in CARDS.into_iter().flat_map(|card| [(card, 0), (card, 1)]) {
+        let mut judge = Judge::new(card, TABLE);
+        for name in ["controlin", "loopbackin", "loopbackout"] {
+            assert_eq!(judge.values(name, place), [0, 1], "{name}");
+        }
+        assert_eq!(judge.values("controlhead", place), range(0..=3));
+        assert_eq!(judge.values("controlcount", place), range(0..=4));
+        // Full and at the last place is sound too, and each is judged by itself.
+        judge.set("controlhead", place, 3).set("controlcount", place, 4);
+        assert_eq!(judge.values("controlhead", place), range(0..=3));
+        assert_eq!(judge.values("controlcount", place), range(0..=4));
+    }
+    for name in ["controlin", "loopbackin", "controlhead", "controlcount", "loopbackout"] {
+        assert_eq!(judge().values(name, 2), range(0..=255), "{name}");
+        assert_eq!(judge().values(name, 31), range(0..=255), "{name}");
+    }
+}
+
+#[test]
+fn a_control_or_loopback_cell_in_the_inlet_bears_a_grant() {
+    for name in ["controlin", "loopbackin"] {
+        assert_eq!(judge().set(name, 0, 1).values("granted", 0), [4, 255]);
+        assert_eq!(judge().set(name, 0, 1).set(name, 1, 1).values("granted", 0), [4, 9, 255]);
+        assert_eq!(judge().set(name, 0, 1).set("granted", 0, 4).values(name, 0), [1]);
+        assert_eq!(judge().set(name, 2, 1).set("number", 2, 5).values("granted", 0), [255]);
+    }
+    // What waits in an outlet bears none.
+    for name in ["loopbackout", "controlcount"] {
+        assert_eq!(judge().set(name, 0, 1).values("granted", 0), [255]);
+        assert_eq!(judge().set(name, 0, 1).values("asks", 4), [0]);
+    }
+    // One of the three is enough, each may go while another stays.
+    let mut both = judge();
+    both.set("controlin", 0, 1).set("loopbackin", 0, 1).set("granted", 0, 4);
+    assert_eq!(both.values("controlin", 0), [0, 1]);
+    assert_eq!(both.values("loopbackin", 0), [0, 1]);
+    assert_eq!(both.values("inletcount", 0), range(0..=4));
+}
+
+#[test]
+fn cells_of_the_three_inlet_places_ask_together() {
+    for cells in 0..=4 {
+        for (control, loopback) in [(0, 0), (0, 1), (1, 0), (1, 1)] {
+            let mut judge = judge();
+            judge.set("inletcount", 0, cells).set("controlin", 0, control).set("loopbackin", 0, loopback);
+            let waiting = cells + control + loopback;
+            let asks = |needed: u32| if waiting >= needed { vec![0, 2] } else { vec![0] };
+            assert_eq!(judge.values("asks", 4), asks(1));
+            if waiting > 0 {
+                assert_eq!(judge.set("granted", 0, 4).values("asks", 4), asks(2));
+            }
+        }
+    }
+}
+
+#[test]
 fn an_open_grant_at_a_unit_without_a_cell() {
     assert_eq!(judge().values("granted", 0), [255]);
     assert_eq!(judge().set("inletcount", 0, 1).values("granted", 0), [4, 255]);
@@ -323,11 +386,13 @@ fn store_or_counter_rows_smaller_than_store_asks() {
 fn what_is_not_judged() {
     for card in CARDS {
         let mut judge = Judge::new(card, TABLE);
-        for at in [320, 321, 352, 384, 416, 417, 806, 807, 808, 900, 1_023, 1_024, 1_055, 1_056, 1_087, 1_088, 2_047] {
+        let free = [808, 831, 992, 1_023];
+        let others = [320, 321, 352, 384, 416, 417, 806, 807, 1_024, 1_055, 1_056, 1_087, 1_088, 2_047];
+        for at in free.into_iter().chain(others) {
             assert_eq!(judge.values("byte", at), range(0..=255), "{at}");
         }
         // Every byte of a place that is not declared.
-        for (column, place) in (0..24).flat_map(|column| [2, 17, 31].map(|place| (column, place))) {
+        for (column, place) in (0..24).chain(26..31).flat_map(|column| [2, 17, 31].map(|place| (column, place))) {
             for value in [1, 127, 128, 255] {
                 assert!(judge.set("byte", 32 * column + place, value).is_sound());
             }
@@ -368,8 +433,9 @@ fn states_with_some_bytes_changed_are_judged_as_the_list_says() {
             let mut state = good;
             for _ in 0..dice.between(1, 3) {
                 let place = dice.index((count + 1).min(32));
-                let at = match dice.roll(10) {
+                let at = match dice.roll(12) {
                     0..=5 => 32 * dice.index(24) + place,
+                    10..=11 => 32 * (26 + dice.index(5)) + place,
                     6..=7 => 768 + dice.index(32),
                     8 => 800 + dice.index(8),
                     _ => dice.index(2_048),
@@ -399,6 +465,7 @@ fn any_bytes_are_judged_as_the_list_says() {
         let mut state = Shelf::fresh(Card::Wide).state;
         let few = dice.pick(&[1, 2, 4, 16, 256]);
         state.bytes_mut()[..808].fill_with(|| dice.roll(few) as u8);
+        state.bytes_mut()[808..1_024].fill_with(|| dice.roll(few) as u8);
         if dice.chance(90) {
             state.bytes_mut()[804] = dice.pick(&[16, 32]);
             state.bytes_mut()[805] = dice.roll(4) as u8;

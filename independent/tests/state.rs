@@ -21,9 +21,10 @@ fn is_sound_on(card: &str, settings: &[&str]) -> bool {
     }
     let before = desk.all();
     let counted = desk.ask("count 4");
-    let others = [desk.ask("arrive 99 "), desk.ask("hear 99 "), desk.ask("take 99 0"), desk.ask("frame 0")];
+    let lines = ["arrive 99 ", "hear 99 ", "take 99 0", "hand 99 ", "collect 99 0", "frame 0"];
+    let others = lines.map(|line| desk.ask(line));
     let sound = counted != "count refused 8";
-    let numbers = if sound { ["9", "9", "9", "10"] } else { ["8"; 4] };
+    let numbers = if sound { ["9", "9", "9", "9", "9", "10"] } else { ["8"; 6] };
     for (answer, number) in others.iter().zip(numbers) {
         assert_eq!(answer.split(' ').nth(2), Some(number), "{settings:?} {answer}");
     }
@@ -99,6 +100,21 @@ fn settings_of_mode_four() {
     assert_sides(&[], &inside, &["cbrlength 1 29", "cbrlength 1 70", "cbrlength 1 0", "cbrlength 1 255"]);
     let edge = ["cbrlimit 1 1", "vbrlimit 1 1"];
     assert_sides(&edge, &["cbrlength 1 1", "cbrlength 1 88"], &["cbrlength 1 0", "cbrlength 1 89", "cbrlength 1 90"]);
+}
+
+#[test]
+fn control_and_loopback_places() {
+    let inside = ["controlin 0 1", "loopbackin 1 1", "loopbackout 0 1", "controlhead 1 3", "controlcount 0 4"];
+    let outside = ["controlin 0 2", "loopbackin 1 2", "loopbackout 0 2", "controlhead 1 4", "controlcount 0 5"];
+    assert_sides(&[], &inside, &outside);
+    assert_sides(&["controlin 0 1"], &["granted 0 4", "asks 4 2"], &["granted 0 9", "asks 4 1", "asks 9 3"]);
+    assert_sides(&["loopbackin 1 1", "granted 0 9"], &["inletcount 1 1"], &["asks 9 3"]);
+    assert_sides(&["loopbackin 1 1", "controlin 1 1", "granted 0 9"], &["asks 9 3"], &["asks 9 2"]);
+    assert_sides(&["loopbackout 0 1", "controlcount 0 4"], &["inletcount 0 1"], &["granted 0 4", "asks 4 2"]);
+    for setting in inside {
+        assert!(is_sound_on("narrow", &[setting]));
+    }
+    assert!(outside.iter().all(|setting| !is_sound_on("narrow", &[setting])));
 }
 
 #[test]

@@ -13,7 +13,8 @@ fn example() -> Desk {
 }
 
 const EXAMPLE: &str = "show unit 3 link uni top 0 priority 1 mode four cbrlength 40 cbrlimit 30 vbrlimit 20 mark 1 \
-    place 48 inlethead 0 inletcount 0 queueheads 0 0 1 0 queuecounts 0 0 0 0 sessions 17 255";
+    place 48 inlethead 0 inletcount 0 queueheads 0 0 1 0 queuecounts 0 0 0 0 \
+    controlin 0 loopbackin 0 controlhead 0 controlcount 0 loopbackout 0 sessions 17 255";
 
 #[test]
 fn the_example() {
@@ -26,7 +27,8 @@ fn without_sessions_the_line_ends_with_the_word() {
     assert_eq!(
         shown,
         "show unit 7 link uni top 5 priority 2 mode one cbrlength 0 cbrlimit 0 vbrlimit 100 mark 0 place 0 \
-        inlethead 0 inletcount 0 queueheads 0 0 0 0 queuecounts 0 0 0 0 sessions"
+        inlethead 0 inletcount 0 queueheads 0 0 0 0 queuecounts 0 0 0 0 \
+        controlin 0 loopbackin 0 controlhead 0 controlcount 0 loopbackout 0 sessions"
     );
 }
 
@@ -39,7 +41,8 @@ fn tabs_part_all_fields() {
         answers.push(b'\n');
     }
     let expected = "poke ok\nshow unit 0 link uni top 0 priority 0 mode one cbrlength 0 cbrlimit 0 vbrlimit 0 mark 0 \
-        place 0 inlethead 0 inletcount 0 queueheads 0 0 0 0 queuecounts 0 0 0 0 sessions\n";
+        place 0 inlethead 0 inletcount 0 queueheads 0 0 0 0 queuecounts 0 0 0 0 \
+        controlin 0 loopbackin 0 controlhead 0 controlcount 0 loopbackout 0 sessions\n";
     assert_eq!(String::from_utf8(answers).unwrap(), expected.replace(' ', "\t"));
 }
 
@@ -49,14 +52,15 @@ fn each_field_is_shown_from_its_byte() {
     desk.set("count 0 3");
     desk.ask("poke state 0 0A0B0C");
     // Column c of place 2 gets 100 + c.
-    for column in 1..24_usize {
+    for column in (1..24_usize).chain(26..31) {
         desk.ask(&format!("poke state {} {:02X}", 32 * column + 2, 100 + column));
     }
     let top = 102 * 256 + 103;
     let place = ((110 * 256 + 111) * 256 + 112) * 256 + 113_u64;
     let expected = format!(
         "show unit 12 link 101 top {top} priority 104 mode 105 cbrlength 106 cbrlimit 107 vbrlimit 108 mark 109 \
-        place {place} inlethead 114 inletcount 115 queueheads 116 117 118 119 queuecounts 120 121 122 123 sessions"
+        place {place} inlethead 114 inletcount 115 queueheads 116 117 118 119 queuecounts 120 121 122 123 \
+        controlin 126 loopbackin 127 controlhead 128 controlcount 129 loopbackout 130 sessions"
     );
     assert_eq!(desk.ask("show unit 12"), expected);
     desk.ask(&format!("poke state {} {}", 1_024 + 64, "FF".repeat(32)));

@@ -5,7 +5,7 @@ use mathlib.Core.List.{List, [], _∷_}
 use lib.ListN.{set, replicate}
 use Rattle.shelf.specs.Shelf.{Shelf}
 use Rattle.answer.specs.declared.Answer as A
-use Rattle.answer.specs.declared.Answer.the-variants.{Loaded, Unloaded, Refused, Arrived, Framed, Heard, Taken, Empty}
+use Rattle.answer.specs.declared.Answer.the-variants.{Loaded, Unloaded, Refused, Arrived, Framed, Heard, Taken, Empty, Handed}
 use Rattle.answer.specs.declared.Arrival as Ar
 use Rattle.answer.specs.declared.Arrival.the-variants as arrival
 use Rattle.answer.specs.declared.Hearing as He
@@ -108,7 +108,7 @@ hearingWord hearing.Full = 102 ∷ 117 ∷ 108 ∷ 108 ∷ []
 hearingWord hearing.Clp = 99 ∷ 108 ∷ 112 ∷ []
 hearingWord hearing.Queued = 113 ∷ 117 ∷ 101 ∷ 117 ∷ 101 ∷ 100 ∷ []
 
--- 01's "Numbers given back" for each answer, 0 where nothing is refused
+-- 01's "Numbers given back" for each answer and 02's "11 Busy", 0 where nothing is refused
 unfoldable pub numberOf : A.Answer → ℕ
 numberOf (Loaded used) = 0
 numberOf (Unloaded number line) = number
@@ -118,6 +118,7 @@ numberOf (Framed number sender granted copies) = 0
 numberOf (Heard fate) = 0
 numberOf Taken = 0
 numberOf Empty = 0
+numberOf Handed = 0
 
 -- and what 01 gives back with it: bytes used; the line; of a frame "number, sender, unit granted, copies queued"
 unfoldable pub valuesOf : A.Answer → List ℕ
@@ -129,6 +130,7 @@ valuesOf (Framed number sender granted copies) = number ∷ sender ∷ granted �
 valuesOf (Heard fate) = []
 valuesOf Taken = []
 valuesOf Empty = []
+valuesOf Handed = []
 
 -- no row changes; in one row some rise
 abbrev pub none : Rises
@@ -140,7 +142,7 @@ row place counters = record { from = place; to = place + 1; anew = false; each =
 abbrev pub ends : A.Answer → Shelf → Rises → Done
 ends answer shelf rises = record { reply = record { answer = answer; shelf = shelf }; rises = rises }
 
--- "Refusals 8 to 10 .. change nothing."
+-- "Refusals 8 to 10 .. change nothing", and no more does 11
 abbrev pub refused : Shelf → ℕ → Done
 refused shelf number = ends (Refused number) shelf none
 

@@ -48,6 +48,8 @@ pub enum Answer {
     Taken,
     // there was none to take
     Empty,
+    // a cell was handed in
+    Handed,
 }
 
 // The counters, each a bit: a set of them is a sum.

@@ -41,7 +41,7 @@ pub fn due(bus: u8, frame: u16, number: u8) -> bool
 }
 
 // The priority that a unit with so many cells in its inlet asks at, 0 for none; whether the oldest of them is granted.
-pub fn asking(priority: u8, cells: u8, granted: bool) -> u8
+pub fn asking(priority: u8, cells: u16, granted: bool) -> u8
     ensures { λ r. ⌜ r ≡ asksFor priority cells granted ⌝ }
 {
     if granted {

@@ -7,10 +7,10 @@ use native.Mathlib.Omega.{arith}
 use lib.ListN.{length, getD, take, drop, set, length-drop, drop-of-length-le}
 use lib.Seq.{drop-cons, set-at}
 use borrow.Author.Tests.{eq-eqb, ne-eqb}
-use Rattle.octets.specs.Octets.{be2, be4, two, four, splice}
+use Rattle.octets.specs.Octets.{be2, be4, splice}
 use Rattle.octets.proofs.Parts.{written}
-use Rattle.bus.specs.Routing.{address}
-use Rattle.bus.specs.Frame.{cell, parity, sealed, delivered, heard}
+use Rattle.bus.specs.Routing.{controlling}
+use Rattle.bus.specs.Frame.{cell, parity, sealed, carried, heard, returned}
 use Rattle.bus.specs.declared.Heard.the-variants.{Length, Damaged}
 
 -- what is written one after the other is the cell
@@ -45,6 +45,11 @@ pub heard-parity : (f : List ℕ) → length f ≡ 57 → (parity (take 56 f) �
 unfolding heard
 heard-parity f l h = rw (eq-eqb (length f) 57 l, ne-eqb (parity (take 56 f)) (getD f 56 0) h)
 
-pub heard-address : (f : List ℕ) → length f ≡ 57 → parity (take 56 f) ≡ getD f 56 0 → heard f ≡ delivered (address (two f 0)) (four f 4)
+pub heard-carried : (f : List ℕ) → length f ≡ 57 → parity (take 56 f) ≡ getD f 56 0 → heard f ≡ carried f
 unfolding heard
-heard-address f l h = rw (eq-eqb (length f) 57 l, eq-eqb (parity (take 56 f)) (getD f 56 0) h)
+heard-carried f l h = rw (eq-eqb (length f) 57 l, eq-eqb (parity (take 56 f)) (getD f 56 0) h)
+
+-- a routing header written over a cell's own
+pub turned : (c : List ℕ) → splice c 0 (be2 (controlling (getD c 2 0))) ≡ returned c
+unfolding returned
+turned c = refl

@@ -7,10 +7,10 @@ use native.Mathlib.Omega.{arith}
 use borrow.Author.Tests.{eq-eqb, ne-eqb, le-leb}
 use Rattle.remainder.specs.Division.{residue}
 use Rattle.remainder.proofs.Laws.{passed, by-symbols, residue-lt}
-use Rattle.bus.specs.Routing.{Sayable, divisor, check, upper, routing, kindIn, classIn, numberIn, said, address}
+use Rattle.bus.specs.Routing.{Sayable, divisor, check, upper, routing, controlling, kindIn, classIn, numberIn, said, address}
 use Rattle.bus.specs.declared.Target.{Target}
 use Rattle.bus.specs.declared.Target.the-variants.{Unit as U·, Session, All}
-use Rattle.bus.specs.declared.Address.the-variants.{Bad, To}
+use Rattle.bus.specs.declared.Address.the-variants.{Bad, To, Third}
 
 -- the check, four bits at a time
 pub check-nibbles : (u : ℕ) → check u ≡ passed (residue divisor 4) 0 (u / 256 % 16 ∷ u / 16 % 16 ∷ u % 16 ∷ [])
@@ -71,3 +71,12 @@ unfolding routing upper check
 routing-lt (U· unit) class s = omega (arith, residue-lt divisor 12 (upper (U· unit) class))
 routing-lt (Session session) class s = omega (arith, residue-lt divisor 12 (upper (Session session) class))
 routing-lt All class s = omega (arith, residue-lt divisor 12 (upper All class))
+
+-- and so does that of a control cell
+pub address-controlling : (unit : ℕ) → unit < 256 → address (controlling unit) ≡ Third 0 unit
+unfolding controlling
+address-controlling unit h = said-by 3 0 unit (omega arith) (omega arith) h
+
+pub controlling-lt : (unit : ℕ) → unit < 256 → controlling unit < 65536
+unfolding controlling check
+controlling-lt unit h = omega (arith, residue-lt divisor 12 (3 * 1024 + unit))

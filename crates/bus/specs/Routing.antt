@@ -1,5 +1,5 @@
 -- The routing header. "Routing header, from the top bit: kind 2 bits (0 unicast, 1 multicast, 2 broadcast), class 2 (0 control data, 1 CBR,
--- 2 VBR, 3 ABR), address 8 (unit, session, or 0 for broadcast), check 4." Assumes nothing.
+-- 2 VBR, 3 ABR), address 8 (unit, session, or 0 for broadcast), check 4." 02, W1: "Routing kind 3 now means control or loopback to one unit". Assumes nothing.
 use Prim.Native.Nat.{ℕ, _+_, _*_, _/_, _%_, _^_, _≤_, _<_}
 use mathlib.Core.Bool.{Bool, true, false, cond}
 use mathlib.Core.List.{List, [], _∷_}
@@ -8,7 +8,7 @@ use Rattle.remainder.specs.Division.{residue}
 use Rattle.bus.specs.declared.Target.{Target}
 use Rattle.bus.specs.declared.Target.the-variants.{Unit, Session, All}
 use Rattle.bus.specs.declared.Address.{Address}
-use Rattle.bus.specs.declared.Address.the-variants.{Bad, To}
+use Rattle.bus.specs.declared.Address.the-variants.{Bad, To, Third}
 
 -- "The check is the remainder of the upper 12 bits times x^4 by x^4+x+1": the coefficients of x+1 below x^4
 abbrev pub divisor : List Bool
@@ -41,6 +41,10 @@ upper target class = kindOf target * 2 ^ 10 + class % 4 * 2 ^ 8 + numberOf targe
 unfoldable pub routing : Target → ℕ → ℕ
 routing target class = upper target class * 2 ^ 4 + check (upper target class)
 
+-- the routing header of a control cell for a unit: kind 3, class 0
+unfoldable pub controlling : ℕ → ℕ
+controlling unit = (3 * 2 ^ 10 + unit) * 2 ^ 4 + check (3 * 2 ^ 10 + unit)
+
 -- the fields of a routing header
 abbrev pub kindIn : ℕ → ℕ
 kindIn r = r / 2 ^ 14 % 4
@@ -51,12 +55,12 @@ classIn r = r / 2 ^ 12 % 4
 abbrev pub numberIn : ℕ → ℕ
 numberIn r = r / 2 ^ 4 % 2 ^ 8
 
--- "kind 3, unicast above 31 or broadcast address not 0 is damaged"
+-- 02, W1: "Routing kind 3 now means control or loopback to one unit"; what its class and address say is judged with the frame (`Frame: third`). "unicast above 31 or broadcast address not 0 is damaged"
 abbrev pub said : ℕ → ℕ → ℕ → Address
 said kind class number =
     cond (eqb kind 0) (cond (leb number 31) (To (Unit number) class) Bad)
     (cond (eqb kind 1) (To (Session number) class)
-    (cond (eqb kind 2) (cond (eqb number 0) (To All class) Bad) Bad))
+    (cond (eqb kind 2) (cond (eqb number 0) (To All class) Bad) (Third class number)))
 
 -- "bad check" is damaged too
 unfoldable pub address : ℕ → Address

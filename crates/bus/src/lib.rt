@@ -1,12 +1,12 @@
 // The bus: the routing header, which takes a cell over it, with its check; the 56 bytes of a cell before parity, the frame of 57, and what a heard
 // frame is.
 ghost use mathlib.Core.Path.{_≡_};
-ghost use Prim.Native.Nat.{_<_};
+ghost use Prim.Native.Nat.{_<_, _≤_};
 ghost use lib.Bits.{bitXor};
 ghost use lib.ListN.{length};
 ghost use Rattle.remainder.specs.Division.{residue};
-ghost use Rattle.bus.specs.Routing.{divisor, check as checkOf, upper as upperOf, routing as headerOf, address as addressOf};
-ghost use Rattle.bus.specs.Frame.{parity as parityOf, cell, sealed, heard as heardOf};
+ghost use Rattle.bus.specs.Routing.{divisor, check as checkOf, upper as upperOf, routing as headerOf, controlling, address as addressOf};
+ghost use Rattle.bus.specs.Frame.{parity as parityOf, cell, sealed, third as thirdOf, carried as carriedIn, heard as heardOf, returned as returnedAs};
 
 // To whom a cell goes: a unit, a session, or every unit.
 pub enum Target {
@@ -15,10 +15,11 @@ pub enum Target {
     All,
 }
 
-// What a routing header says.
+// What a routing header says: a data cell of a class for a target, or a cell of kind 3.
 pub enum Address {
     Bad,
     To { target: Target, class: u8 },
+    Third { class: u8, number: u8 },
 }
 
 // What four bits more make of the remainder so far. x^4 leaves x+1, so four bits times x^4 leave themselves times x+1: five bits at most. What
@@ -62,6 +63,14 @@ pub fn write(target: Target, class: u8) -> u16
     u * 16 + (check(u) as u16)
 }
 
+// The routing header of a control cell for this unit: kind 3, class 0.
+fn control_to(unit: u8) -> u16
+    ensures { λ r. ⌜ r ≡ controlling unit ⌝ }
+{
+    let u = 3072 + (unit as u16);
+    u * 16 + (check(u) as u16)
+}
+
 // What a routing header says.
 pub fn read(routing: u16) -> Address
     ensures { λ r. ⌜ r ≡ addressOf routing ⌝ }
@@ -90,10 +99,10 @@ pub fn read(routing: u16) -> Address
         }
         return Address::Bad;
     }
-    Address::Bad
+    Address::Third { class, number }
 }
 
-// What a heard frame is. Its payload is the frame's bytes 8 to 55.
+// What a heard frame is: no frame, damaged, a data cell, or a control or a loopback cell for a unit. A data cell's payload is the frame's bytes 8 to 55.
 pub enum Heard {
     Length,
     Damaged,
@@ -102,6 +111,8 @@ pub enum Heard {
         class: u8,
         header: u32,
     },
+    Control(u8),
+    Loopback(u8),
 }
 
 // The exclusive-or of some bytes.
@@ -140,6 +151,41 @@ pub fn seal(bytes: &[u8], frame: &mut [u8])
     frame[56] = parity(bytes);
 }
 
+// What a cell of kind 3 is heard as, by its class, its address and its first tandem byte.
+pub fn third(class: u8, number: u8, tandem: u8) -> Heard
+    ensures { λ r. ⌜ r ≡ thirdOf class number tandem ⌝ }
+{
+    if 31 < number {
+        return Heard::Damaged;
+    }
+    if class == 0 {
+        return Heard::Control(number);
+    }
+    if (class == 1) & (tandem <= 31) {
+        return Heard::Loopback(number);
+    }
+    Heard::Damaged
+}
+
+// What a frame of these bytes is heard as, its parity being right.
+fn carried(bytes: &[u8]) -> Heard
+    requires { ⌜ 56 ≤ length (now bytes) ⌝ }
+    ensures { λ r. ⌜ r ≡ carriedIn (now (bytes .entry)) ⌝ }
+{
+    match read(octets::two(bytes, 0)) {
+        Address::Bad => Heard::Damaged,
+        Address::To { target, class } => {
+            let header = octets::four(bytes, 4);
+            Heard::Cell {
+                target,
+                class,
+                header,
+            }
+        }
+        Address::Third { class, number } => third(class, number, bytes[2]),
+    }
+}
+
 // What a heard frame is.
 pub fn hear(frame: &[u8]) -> Heard
     ensures { λ r. ⌜ r ≡ heardOf (now (frame .entry)) ⌝ }
@@ -150,13 +196,14 @@ pub fn hear(frame: &[u8]) -> Heard
     if parity(&frame[..56]) != frame[56] {
         return Heard::Damaged;
     }
-    let Address::To { target, class } = read(octets::two(frame, 0)) else {
-        return Heard::Damaged;
-    };
-    let header = octets::four(frame, 4);
-    Heard::Cell {
-        target,
-        class,
-        header,
-    }
+    carried(frame)
+}
+
+// A loopback cell becomes a control cell for the unit named in its first tandem byte.
+pub fn turn_back(cell: &mut [u8])
+    requires { ⌜ length (now cell) ≡ 56 ⌝ }
+    ensures { λ _. ⌜ now (cell .exit) ≡ returnedAs (now (cell .entry)) ⌝ }
+{
+    let unit = cell[2];
+    octets::put_two(cell, 0, control_to(unit));
 }

@@ -88,6 +88,7 @@ fn say_answer(answer: Answer) {
         }
         Answer::Taken => say(b"take"),
         Answer::Empty => say(b"take empty"),
+        Answer::Handed => say(b"hand"),
     }
 }
 

@@ -8,7 +8,7 @@ use Rattle.command.specs.declared.Reading.the-variants.{Does}
 use Rattle.command.specs.Fields.{numberIn, unitIn, spanIn}
 use Rattle.command.specs.Lent.{num, octet, span}
 
--- `load HEX`, `arrive UNIT HEX`, `hear UNIT HEX`: to 70,000 bytes
+-- `load HEX`, `arrive UNIT HEX`, `hear UNIT HEX`, `hand UNIT HEX`: to 70,000 bytes
 unfoldable pub loadLine : List ℕ → Reading
 loadLine text = span (spanIn text 2 70000) λ from. Does (command.Load from)
 
@@ -18,12 +18,18 @@ arriveLine text = octet (unitIn (fieldsOf text) 2) λ unit. span (spanIn text 3 
 unfoldable pub hearLine : List ℕ → Reading
 hearLine text = octet (unitIn (fieldsOf text) 2) λ unit. span (spanIn text 3 70000) λ from. Does (command.Hear unit from)
 
--- `frame LENGTH`, `take UNIT LENGTH`: to 1,000; `count UNIT`
+unfoldable pub handLine : List ℕ → Reading
+handLine text = octet (unitIn (fieldsOf text) 2) λ unit. span (spanIn text 3 70000) λ from. Does (command.Hand unit from)
+
+-- `frame LENGTH`, `take UNIT LENGTH`, `collect UNIT LENGTH`: to 1,000; `count UNIT`
 unfoldable pub frameLine : List (List ℕ) → Reading
 frameLine fs = num (numberIn fs 2 1000) λ bytes. Does (command.Frame bytes)
 
 unfoldable pub takeLine : List (List ℕ) → Reading
 takeLine fs = octet (unitIn fs 2) λ unit. num (numberIn fs 3 1000) λ bytes. Does (command.Take unit bytes)
+
+unfoldable pub collectLine : List (List ℕ) → Reading
+collectLine fs = octet (unitIn fs 2) λ unit. num (numberIn fs 3 1000) λ bytes. Does (command.Collect unit bytes)
 
 unfoldable pub countLine : List (List ℕ) → Reading
 countLine fs = octet (unitIn fs 2) λ unit. Does (command.Count unit)

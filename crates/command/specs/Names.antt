@@ -23,6 +23,12 @@ wFrame = 102 ∷ 114 ∷ 97 ∷ 109 ∷ 101 ∷ []
 abbrev pub wTake : List ℕ
 wTake = 116 ∷ 97 ∷ 107 ∷ 101 ∷ []
 
+abbrev pub wHand : List ℕ
+wHand = 104 ∷ 97 ∷ 110 ∷ 100 ∷ []
+
+abbrev pub wCollect : List ℕ
+wCollect = 99 ∷ 111 ∷ 108 ∷ 108 ∷ 101 ∷ 99 ∷ 116 ∷ []
+
 abbrev pub wCount : List ℕ
 wCount = 99 ∷ 111 ∷ 117 ∷ 110 ∷ 116 ∷ []
 
@@ -34,4 +40,4 @@ wShow = 115 ∷ 104 ∷ 111 ∷ 119 ∷ []
 
 -- the first word of a line, in the order of docs/CONSOLE.md
 abbrev pub commands : List (List ℕ)
-commands = wCard ∷ wLend ∷ wLoad ∷ wArrive ∷ wHear ∷ wFrame ∷ wTake ∷ wCount ∷ wPoke ∷ wShow ∷ []
+commands = wCard ∷ wLend ∷ wLoad ∷ wArrive ∷ wHear ∷ wFrame ∷ wTake ∷ wHand ∷ wCollect ∷ wCount ∷ wPoke ∷ wShow ∷ []

@@ -6,7 +6,7 @@ ghost use lib.ListN.{getD};
 ghost use Rattle.text.specs.Text.{fieldsOf};
 ghost use Rattle.command.specs.Fields.{placeIn, numberIn, unitIn, byteIn, spanIn};
 ghost use Rattle.command.specs.Lent.{cardLine, lendBank, lendRows, lendLine, pokeBank, pokeState, pokeLine, showLent, showUnit, showLine};
-ghost use Rattle.command.specs.Called.{loadLine, arriveLine, hearLine, frameLine, takeLine, countLine};
+ghost use Rattle.command.specs.Called.{loadLine, arriveLine, hearLine, frameLine, takeLine, handLine, collectLine, countLine};
 ghost use Rattle.command.specs.Commands.{counts, lines, spoken as spokenBy, readingOf};
 ghost use Rattle.command.specs.Names.{commands};
 
@@ -117,6 +117,8 @@ pub enum Command {
     Hear { unit: u8, from: usize },
     Frame(u16),
     Take { unit: u8, length: u16 },
+    Hand { unit: u8, from: usize },
+    Collect { unit: u8, length: u16 },
     Count(u8),
     Poke { bank: Bank, at: u32, from: usize },
     PokeState { at: u32, from: usize },
@@ -336,6 +338,33 @@ pub fn take_line(s: &[u8]) -> Reading
     }
 }
 
+pub fn hand_line(s: &[u8]) -> Reading
+    ensures { λ r. ⌜ r ≡ handLine (now (s .entry)) ⌝ }
+{
+    match unit_at(s, 2) {
+        Octet::Byte(unit) => match span_at(s, 3, 70000) {
+            Span::From(from) => Reading::Does(Command::Hand { unit, from }),
+            Span::NoSpan => Reading::Bad,
+        },
+        Octet::NoByte => Reading::Bad,
+    }
+}
+
+pub fn collect_line(s: &[u8]) -> Reading
+    ensures { λ r. ⌜ r ≡ collectLine (fieldsOf (now (s .entry))) ⌝ }
+{
+    match unit_at(s, 2) {
+        Octet::Byte(unit) => match number_at(s, 3, 1000) {
+            Num::Is(n) => {
+                let length = n as u16;
+                Reading::Does(Command::Collect { unit, length })
+            }
+            Num::NoNum => Reading::Bad,
+        },
+        Octet::NoByte => Reading::Bad,
+    }
+}
+
 pub fn count_line(s: &[u8]) -> Reading
     ensures { λ r. ⌜ r ≡ countLine (fieldsOf (now (s .entry))) ⌝ }
 {
@@ -346,10 +375,10 @@ pub fn count_line(s: &[u8]) -> Reading
 }
 
 // For each command but `show` how many fields its lines have.
-const COUNTS: [usize; 9] = [2, 4, 2, 3, 3, 2, 3, 2, 4];
+const COUNTS: [usize; 11] = [2, 4, 2, 3, 3, 2, 3, 3, 3, 2, 4];
 
 // The place of `show` among the commands: its lines have two fields or three.
-const SHOW: usize = 9;
+const SHOW: usize = 11;
 
 // The line of the k-th command.
 fn line_of(k: usize, s: &[u8]) -> Reading
@@ -363,8 +392,10 @@ fn line_of(k: usize, s: &[u8]) -> Reading
         4 => hear_line(s),
         5 => frame_line(s),
         6 => take_line(s),
-        7 => count_line(s),
-        8 => poke_line(s),
+        7 => hand_line(s),
+        8 => collect_line(s),
+        9 => count_line(s),
+        10 => poke_line(s),
         _ => Reading::Bad,
     }
 }
@@ -373,7 +404,7 @@ fn line_of(k: usize, s: &[u8]) -> Reading
 fn count_of(k: usize) -> usize
     ensures { λ r. ⌜ r ≡ getD counts k 0 ⌝ }
 {
-    if k < 9 { COUNTS[k] } else { 0 }
+    if k < 11 { COUNTS[k] } else { 0 }
 }
 
 fn spoken(k: usize, s: &[u8]) -> Reading
@@ -393,7 +424,7 @@ fn command_named(w: &[u8]) -> usize
     ensures { λ r. ⌜ r ≡ placeIn commands (now (w .entry)) ⌝ }
 {
     find(
-        b"card\tlend\tload\tarrive\thear\tframe\ttake\tcount\tpoke\tshow",
+        b"card\tlend\tload\tarrive\thear\tframe\ttake\thand\tcollect\tcount\tpoke\tshow",
         w,
     )
 }

@@ -251,6 +251,7 @@ fn wanted(command: Command) -> usize
     match command {
         Command::Frame(length) => least(length as usize, 1000),
         Command::Take { unit: _, length } => least(length as usize, 1000),
+        Command::Collect { unit: _, length } => least(length as usize, 1000),
         _ => 0,
     }
 }
@@ -290,7 +291,7 @@ fn act(
     }
 }
 
-// The same, of an event that needs no memory; of all other commands nothing.
+// The same, of an event that needs no memory.
 fn call(
     w: World,
     state: &mut [u8; 2048],
@@ -308,6 +309,30 @@ fn call(
         Command::Frame(_) => owned::frame(card, state, store, rows, lent, &mut buffer[..n]),
         Command::Take { unit, length: _ } => {
             owned::take(card, state, store, rows, lent, unit, &mut buffer[..n])
+        }
+        _ => serve(w, state, store, text, &mut buffer[..n], command),
+    }
+}
+
+// The same, of an event of a unit's processor; of all other commands nothing.
+fn serve(
+    w: World,
+    state: &mut [u8; 2048],
+    store: &mut [u8],
+    text: &[u8],
+    buffer: &mut [u8],
+    command: Command,
+) -> After {
+    let card = w.card;
+    let rows = w.rows;
+    let lent = w.lent;
+    match command {
+        Command::Hand { unit, from: _ } => {
+            let answer = owned::hand(card, state, store, rows, lent, unit, text);
+            owned::joined(answer, rows)
+        }
+        Command::Collect { unit, length: _ } => {
+            owned::collect(card, state, store, rows, lent, unit, buffer)
         }
         _ => owned::joined(Answer::Empty, rows),
     }
@@ -376,6 +401,8 @@ fn say_after(
         Command::Hear { unit, from: _ } => say_event(out, at, line, unit, answer),
         Command::Frame(_) => say_buffer(out, at, line, 0, answer, buffer, n),
         Command::Take { unit, length: _ } => say_buffer(out, at, line, unit, answer, buffer, n),
+        Command::Hand { unit, from: _ } => say_event(out, at, line, unit, answer),
+        Command::Collect { unit, length: _ } => say_buffer(out, at, line, unit, answer, buffer, n),
         _ => say_done(out, at, line, good),
     }
 }

@@ -14,8 +14,10 @@ use Rattle.refining.proofs.Refined.{refines, counters-are-history, too-wide, sa
 use Rattle.refining.proofs.Bare.{refines-refused}
 use Rattle.flow.proofs.Kept.{nothing-lost, in-order, counters-true}
 use Rattle.flow.proofs.Once.{numbers-once}
-use Rattle.flow.proofs.Bytes.{taken-handed, sent-framed, lowest-first}
-use Rattle.flow.proofs.Streets.{right-street}
+use Rattle.flow.proofs.Bytes.{taken-handed, collected-handed, sent-framed, lowest-first, sending-order}
+use Rattle.flow.proofs.Senders.{moved-later}
+use Rattle.flow.proofs.Silent.{quiet}
+use Rattle.flow.proofs.Streets.{right-street, bytes-stay}
 use Rattle.flow.proofs.Follows.{line-followed}
 use Rattle.flow.proofs.Apart.{once-only}
 use Rattle.flow.proofs.Out.{taken-right, line-delivered, sent-right}
@@ -24,19 +26,22 @@ use Rattle.sentences.specs.Frame.{FrameRule}
 use Rattle.sentences.specs.Hearing.{HearingRule}
 use Rattle.sentences.specs.Take.{TakeRule}
 use Rattle.sentences.specs.Count.{CountRule}
+use Rattle.sentences.specs.Hand.{HandRule}
+use Rattle.sentences.specs.Collect.{CollectRule}
 use Rattle.sentences.proofs.InPlace.{in-bytes}
 use Rattle.sentences.proofs.Refused.{refused as refused-rule, state-kept}
 use Rattle.sentences.proofs.Arrives.{arrival-rule}
 use Rattle.sentences.proofs.Frames.{frame-rule}
 use Rattle.sentences.proofs.Hears.{hearing-rule}
 use Rattle.sentences.proofs.Takes.{take-rule, count-rule}
+use Rattle.sentences.proofs.Hands.{hand-rule, collect-rule}
 use Rattle.fates.proofs.Fated.{fate-iff}
 use Rattle.fates.proofs.Damages.{damaged-iff}
 use Rattle.fates.proofs.Holding.{held-means-held}
 use Rattle.fates.proofs.Going.{frames-go-on}
 use Rattle.fates.proofs.Cleaned.{clean-table-clean-bus}
 use Rattle.fates.proofs.Isolated.{isolation}
-use Rattle.witness.proofs.Witnessed.{listing-prints, bus-alone, all-run, refusals, spoiled-state, link-byte, beyond-loaded}
+use Rattle.witness.proofs.Witnessed.{listing-prints, bus-alone, all-run, refusals, spoiled-state, link-byte, beyond-loaded, control-asks}
 use Rattle.demands.specs.Demands.{Demand1, Demand2, Demand3, Witnessed}
 
 pub demand-1 : Demand1
@@ -73,6 +78,8 @@ demand-2 =
       hearing-rule = in-bytes HearingRule hearing-rule;
       take-rule = in-bytes TakeRule take-rule;
       count-rule = in-bytes CountRule count-rule;
+      hand-rule = in-bytes HandRule hand-rule;
+      collect-rule = in-bytes CollectRule collect-rule;
       refines = refines;
       refines-refused = refines-refused;
       fate-iff = fate-iff;
@@ -86,9 +93,14 @@ demand-2 =
       clean-table-clean-bus = clean-table-clean-bus;
       in-order = in-order;
       taken-handed = taken-handed;
+      collected-handed = collected-handed;
       sent-framed = sent-framed;
       lowest-first = lowest-first;
+      sending-order = sending-order;
+      moved-later = moved-later;
       right-street = right-street;
+      bytes-stay = bytes-stay;
+      quiet = quiet;
       line-followed = line-followed;
       once-only = once-only;
       taken-right = taken-right;
@@ -101,4 +113,4 @@ pub demand-3 : Demand3
 demand-3 = record { too-wide = too-wide; wide-or-not = wide-or-not; same-card = same-card }
 
 pub witnessed : Witnessed
-witnessed = record { listing-prints = listing-prints; bus-alone = bus-alone; all-run = all-run; refusals = refusals; spoiled = spoiled-state; link-byte = link-byte; beyond-loaded = beyond-loaded }
+witnessed = record { listing-prints = listing-prints; bus-alone = bus-alone; all-run = all-run; refusals = refusals; spoiled = spoiled-state; link-byte = link-byte; beyond-loaded = beyond-loaded; control-asks = control-asks }

@@ -23,11 +23,12 @@ use Rattle.running.specs.Contracts.{EntryMeets, EntryAsksNothing, EntrySays, St
 use Rattle.refining.specs.Refines.{Refines, RefinesRefused, CountersAreHistory}
 use Rattle.refining.specs.Cards.{TooWide, SameCard}
 use Rattle.flow.specs.Lost.{NothingLost, NumbersOnce}
-use Rattle.flow.specs.Order.{InOrder, TakenHanded, SentFramed, LowestFirst}
+use Rattle.flow.specs.Order.{InOrder, TakenHanded, CollectedHanded, SentFramed, LowestFirst, SendingOrder}
 use Rattle.flow.specs.Counted.{CountersTrue}
-use Rattle.flow.specs.Street.{RightStreet, LineFollowed}
+use Rattle.flow.specs.Street.{RightStreet, BytesStay, LineFollowed}
 use Rattle.flow.specs.Apart.{OnceOnly}
-use Rattle.flow.specs.Out.{TakenRight, LineDelivered, SentRight}
+use Rattle.flow.specs.Out.{TakenRight, LineDelivered, SentRight, MovedLater}
+use Rattle.flow.specs.Quiet.{Quiet}
 use Rattle.sentences.specs.Changes.{InBytes}
 use Rattle.sentences.specs.Refusals.{RefusedRule, StateKept}
 use Rattle.sentences.specs.Arrival.{ArrivalRule}
@@ -35,22 +36,24 @@ use Rattle.sentences.specs.Frame.{FrameRule}
 use Rattle.sentences.specs.Hearing.{HearingRule}
 use Rattle.sentences.specs.Take.{TakeRule}
 use Rattle.sentences.specs.Count.{CountRule}
+use Rattle.sentences.specs.Hand.{HandRule}
+use Rattle.sentences.specs.Collect.{CollectRule}
 use Rattle.fates.specs.Fates.{FateIff}
 use Rattle.fates.specs.Damage.{DamagedIff}
 use Rattle.fates.specs.Held.{HeldMeansHeld}
 use Rattle.fates.specs.Frames.{FramesGoOn}
 use Rattle.fates.specs.Clean.{CleanTableCleanBus}
 use Rattle.fates.specs.Isolation.{Isolation}
-use Rattle.witness.specs.Witness.{ListingPrints, BusAlone, AllRun, Refusals, Spoiled, LinkByte, BeyondLoaded}
+use Rattle.witness.specs.Witness.{ListingPrints, BusAlone, AllRun, Refusals, Spoiled, LinkByte, BeyondLoaded, ControlAsks}
 
 -- 1. "Every entry point takes every input, finishes, and does nothing undefined. A bad table, frame, cell, buffer or shelf state is refused with a fixed number. A refused table leaves
 -- the translation memory zeroed, its first 262,144 bytes where it is longer; every other refusal changes nothing."
 pub record Demand1 : Type 2 where
-  -- "finishes, and does nothing undefined": Rattle's own theorem of the code of each of the six
+  -- "finishes, and does nothing undefined": Rattle's own theorem of the code of each of the eight
   pub entry-meets : (M : Type 1) → EntryMeets M
-  -- "takes every input": none of the six has a `requires`
+  -- "takes every input": none of the eight has a `requires`
   pub entry-asks-nothing : EntryAsksNothing
-  -- what Rattle has as the `ensures` of each of the six is the contract that the next two speak of
+  -- what Rattle has as the `ensures` of each of the eight is the contract that the next two speak of
   pub entry-says : EntrySays
   -- whatever meets such a contract is the step that every promise below speaks of
   pub steps : (card : Card) → Steps card
@@ -77,12 +80,12 @@ pub record Demand1 : Type 2 where
   -- and that is all of a shelf but the places that are not declared: bytes are one shelf
   pub layout-once : LayoutOnce
   -- an event on bytes that are a state is the event on the shelf that they are: what is said, each lent byte, the shelf afterwards; they are a state again, and no byte has changed
-  -- but requests, grants, the frame number and the rings of declared units. Bytes that are none are refused, and stay
+  -- but requests, grants, the frame number and the rings and places of declared units. Bytes that are none are refused, and stay
   pub in-place : InPlace
   -- so it is from every load on, which leaves a state, all 2,048 bytes of it, whatever they were: those that say nothing are zero and stay so
   pub runs-in-place : RunsInPlace
-  -- "A bad .. frame, cell, buffer or shelf state is refused with a fixed number.": each of 8 to 10, over every event on all bytes, a state or not, exactly when 01 says so, a bad state item
-  -- by item; "every other refusal changes nothing", not one byte
+  -- "A bad .. frame, cell, buffer or shelf state is refused with a fixed number.": each of 8 to 11, over every event on all bytes, a state or not, exactly when 01 says so, a bad state item
+  -- by item, and 02: "Length for other than 56 bytes, then 11 Busy, place taken"; "every other refusal changes nothing", not one byte
   pub refused-rule : RefusedRule
   -- every event leaves a good state good
   pub state-kept : StateKept
@@ -107,17 +110,22 @@ pub record Demand2 : Type 0 where
   pub take-rule : InBytes TakeRule
   -- "`count` lists the thirteen"
   pub count-rule : InBytes CountRule
+  -- 02, W1: "The processor hands in .. the 56 bytes before parity"
+  pub hand-rule : InBytes HandRule
+  -- "and takes from the control outlet (or `empty`)"; "leaving either outlet is `taken`"
+  pub collect-rule : InBytes CollectRule
   -- "The shelf does what .. document 01 say, for frames written and frames heard.": every answer and every lent byte, from a good load on; what follows of the document's shelf is so of ours
   pub refines : Refines
   -- and from a refused one on: "a fresh 16 bus with no units"
   pub refines-refused : RefinesRefused
   -- "Each arriving cell meets exactly one fate, each copy on the bus meets exactly one fate at each unit it addresses"
   pub fate-iff : FateIff
-  -- "Bad parity, bad check, kind 3, unicast above 31 or broadcast address not 0 is `damaged`."
+  -- "Bad parity, bad check, kind 3, unicast above 31 or broadcast address not 0 is `damaged`.", kind 3 as 02 has it: "another class, or an address above 31, is `damaged`"; "a tandem byte above
+  -- 31 is `damaged`"
   pub damaged-iff : DamagedIff
   -- "one that says `queued` and holds nothing" is none of ours
   pub held-means-held : HeldMeansHeld
-  -- "Each arriving cell meets exactly one fate": after every sequence of events it was lost and counted so, was sent or waits, and each copy queued was taken or is there
+  -- "Each arriving cell meets exactly one fate": after every sequence of events it, or one handed in or moved, was lost and counted so, was sent or waits, and each copy queued was taken or is there
   pub nothing-lost : NothingLost
   -- "and the counters equal that history, modulo 4,294,967,296"
   pub counters-are-history : CountersAreHistory
@@ -127,29 +135,40 @@ pub record Demand2 : Type 0 where
   pub numbers-once : NumbersOnce
   -- "a frame that sends once and then only numbers frames" is none of ours
   pub frames-go-on : FramesGoOn
-  -- no frame of ours is damaged; "A sent cell addressing no declared unit also counts `unheard` at its sender"
+  -- no frame of a cell that arrived is damaged; "A sent cell addressing no declared unit also counts `unheard` at its sender"
   pub clean-table-clean-bus : CleanTableCleanBus
   -- cells leave an inlet and a queue in the order in which they came
   pub in-order : InOrder
   -- a take hands out the cell that it takes, or "`empty` with the buffer unchanged"
   pub taken-handed : TakenHanded
+  -- a collect hands out the cell that it takes, byte for byte, or the buffer is unchanged
+  pub collected-handed : CollectedHanded
   -- "Then the unit granted in the frame before sends its oldest cell.": the frame is that cell's
   pub sent-framed : SentFramed
   -- "the oldest cell of the lowest class held (mode `four`)"
   pub lowest-first : LowestFirst
-  -- every cell held or taken was meant for that unit, and every cell that waits or is sent arrived there
+  -- "Sending order is document 001's default: data, then control, then loopback."
+  pub sending-order : SendingOrder
+  -- "moves at the start of the next frame .. to the loopback inlet": it is sent in a later one
+  pub moved-later : MovedLater
+  -- every cell held or taken was meant for that unit, and every cell that waits or is sent arrived there, was handed in there or had moved there
   pub right-street : RightStreet
+  -- "as a control cell for the unit named in its first tandem byte": what a processor collects is a control cell for its unit, and its other bytes are those of a cell handed in or heard
+  pub bytes-stay : BytesStay
+  -- and without such cells all is as document 01 has it
+  pub quiet : Quiet
   -- "route, VCI kept; page, the VCI's record"; "PT and CLP are kept.": target, class, outgoing VPI and VCI are those of a line of the table; that the lines are in range is part of `Accepts`
   pub line-followed : LineFollowed
-  -- no cell goes out twice: of those that meet any test no more are sent than arrived and were routed, and no more are taken than came in frames meant for the unit
+  -- no cell goes out twice: of those that meet any test no more are sent than arrived and were routed, or were handed in, and no more are taken, collected or moved
+  -- than came in frames meant for the unit
   pub once-only : OnceOnly
   -- the bytes that a take hands out are those of a cell meant for that unit
   pub taken-right : TakenRight
   -- and their VPI and VCI are the line's, payload and CLP the arrival's, PT but for the mark: "A UNI unit writes GFC 0. The check is new."
   pub line-delivered : LineDelivered
-  -- those of a frame after a grant are the oldest cell of the unit granted, which arrived there
+  -- those of a frame after a grant are the oldest cell of the unit granted, which arrived there, was handed in there, "sent as they are", or had moved there
   pub sent-right : SentRight
-  -- an event at a unit leaves every other unit, row and part of the store alone, and of the state's bytes all but that unit's rings
+  -- an event at a unit leaves every other unit, row and part of the store alone, and of the state's bytes all but that unit's rings and places
   pub isolation : Isolation
 
 -- 3. "Take a route table that the twelve-bit card accepts, and lend both cards equal room. The eight-bit card refuses it as too wide .. Otherwise .. it gives the same answers, cells and
@@ -169,7 +188,7 @@ pub record Witnessed : Type 0 where
   pub listing-prints : ListingPrints
   -- "A table of the `bus` line alone is good."
   pub bus-alone : BusAlone
-  -- every fate of an arrival and of a copy, an ABR cell taken, Unit and Length
+  -- every fate of an arrival and of a copy, an ABR cell taken, Unit, Length and Busy; control and loopback cells handed in, heard, returned and collected, byte for byte
   pub all-run : AllRun
   -- each refusal of a table
   pub refusals : Refusals
@@ -179,3 +198,5 @@ pub record Witnessed : Type 0 where
   pub link-byte : LinkByte
   -- a sound state that no load leaves
   pub beyond-loaded : BeyondLoaded
+  -- and one in which a control cell asks
+  pub control-asks : ControlAsks

@@ -1,4 +1,4 @@
--- Cases of document 01 on the document's shelf, to be computed: scripts of events, and what each says. Assumes nothing.
+-- Cases of documents 01 and 02 on the document's shelf, to be computed: scripts of events, and what each says. Assumes nothing.
 use Prim.Native.Nat.{ℕ, _+_, _*_}
 use mathlib.Core.Bool.{true, false}
 use mathlib.Core.List.{List, [], _∷_, _++_, map}
@@ -19,11 +19,11 @@ use Rattle.answer.specs.declared.Arrival as A
 use Rattle.answer.specs.declared.Arrival.the-variants as arrival
 use Rattle.answer.specs.declared.Hearing as H
 use Rattle.answer.specs.declared.Hearing.the-variants as hearing
-use Rattle.answer.specs.declared.Answer.the-variants.{Refused, Arrived, Framed, Heard, Taken, Empty}
-use Rattle.document.specs.Events.{Event, arrive, frame, hear, take-cell, count, Said, answers}
-use Rattle.document.specs.Shelf.{Unit, Shelf, unitAt, withQueue, after, opened}
+use Rattle.answer.specs.declared.Answer.the-variants.{Refused, Arrived, Framed, Heard, Taken, Empty, Handed}
+use Rattle.document.specs.Events.{Event, arrive, frame, hear, take-cell, count, hand, collect, Said, answers, counts, Back}
+use Rattle.document.specs.Shelf.{Shelf, unitAt, withQueue, after, opened}
 use Rattle.document.specs.Steps.{gives}
-use Rattle.document.specs.Examples.{one, four as limits, uni, lent}
+use Rattle.document.specs.Examples.{back, one, four as limits, uni, lent}
 
 abbrev pub nni : ℕ → ℕ → ℕ → Settings
 nni number top priority = record { number = number; link = Nni; top = top; priority = priority }
@@ -118,14 +118,14 @@ frames-say =
     arrives (arrival.Queued ∷ arrival.Queued ∷ arrival.Queued ∷ []) ++
     map (λ a. answers a) (Framed 0 nobody 7 0 ∷ Framed 1 7 0 0 ∷ Framed 2 0 0 1 ∷ Framed 3 0 nobody 3 ∷ Framed 4 nobody nobody 0 ∷ [])
 
--- D. frames handed in: 57 zero bytes are a sound frame to unit 0, at 3 another's; bad parity; bad check; kind 3; unicast above 31; VPI 256 at a UNI
+-- D. frames handed in: 57 zero bytes are a sound frame to unit 0, at 3 another's; bad parity; bad check; kind 3 of class 2; unicast above 31; VPI 256 at a UNI
 abbrev pub heard : List Event
 heard =
     hear 0 (replicate 57 0) ∷
     hear 3 (replicate 57 0) ∷
     hear 0 (set (replicate 57 0) 56 1) ∷
     hear 0 (sound 1 0) ∷
-    hear 0 (sound (0xc00 * 16 + routingCheck 0xc00) 0) ∷
+    hear 0 (sound (0xe00 * 16 + routingCheck 0xe00) 0) ∷
     hear 0 (sound (routing (target.Unit 32) 0) 0) ∷
     hear 0 (sound (routing (target.Unit 0) 0) 0x10000000) ∷
     hear 7 (sound (routing (target.Unit 7) 0) 0x10000000) ∷
@@ -210,6 +210,102 @@ abr = to 3 3 0 ∷ taking 3
 abbrev pub abr-say : List Said
 abr-say = hears (hearing.Queued ∷ []) ++ took
 
+-- I. 02's control and loopback cells. A cell of 56 bytes of kind 3, of this class, for this unit and with this tandem header
+abbrev pub third : ℕ → ℕ → ℕ → List ℕ
+third class unit tandem =
+    let upper = 0xc00 + class * 0x100 + unit in
+    cell (upper * 16 + routingCheck upper) tandem 0 (replicate 48 7)
+
+-- an update: control cells from unit 0's processor to unit 3's, with whatever tandem header
+abbrev pub update : List Event
+update =
+    hand 0 (third 0 3 0xffff) ∷ frame (lent 57) ∷ frame (lent 57) ∷ hand 0 (third 0 3 1) ∷ frame (lent 57) ∷ frame (lent 57) ∷
+    collect 3 (lent 56) ∷ collect 3 (lent 56) ∷ collect 3 (lent 56) ∷ []
+
+abbrev pub update-gives : List Back
+update-gives =
+    back (answers Handed) (third 0 3 0xffff) ∷ back (answers (Framed 0 nobody 0 0)) (lent 57) ∷ back (answers (Framed 1 0 nobody 1)) (sealed (third 0 3 0xffff)) ∷
+    back (answers Handed) (third 0 3 1) ∷ back (answers (Framed 2 nobody 0 0)) (lent 57) ∷ back (answers (Framed 3 0 nobody 1)) (sealed (third 0 3 1)) ∷
+    back (answers Taken) (third 0 3 0xffff) ∷ back (answers Taken) (third 0 3 1) ∷ back (answers Empty) (lent 56) ∷ []
+
+-- a loopback test of unit 3 from unit 0: it comes back to unit 0, which its first tandem byte names, with its other bytes as they were
+abbrev pub test : List Event
+test =
+    hand 0 (third 1 3 0x00a5) ∷ frame (lent 57) ∷ frame (lent 57) ∷ frame (lent 57) ∷ frame (lent 57) ∷ collect 0 (lent 56) ∷ []
+
+abbrev pub test-gives : List Back
+test-gives =
+    back (answers Handed) (third 1 3 0x00a5) ∷ back (answers (Framed 0 nobody 0 0)) (lent 57) ∷ back (answers (Framed 1 0 nobody 1)) (sealed (third 1 3 0x00a5)) ∷
+    back (answers (Framed 2 nobody 3 0)) (lent 57) ∷ back (answers (Framed 3 3 nobody 1)) (sealed (third 0 0 0x00a5)) ∷
+    back (answers Taken) (third 0 0 0x00a5) ∷ []
+
+-- Unit before Length, Length before Busy; the place is taken until its cell is sent; a cell of kind 0 from a processor is heard as data
+abbrev pub busy : List Event
+busy =
+    hand 9 [] ∷ hand 0 [] ∷ hand 0 (third 0 3 0) ∷ hand 0 [] ∷ hand 0 (third 0 3 0) ∷ frame (lent 57) ∷ hand 0 (third 0 3 0) ∷ frame (lent 57) ∷
+    hand 0 (cell (routing (target.Unit 3) 1) 0 0 (replicate 48 7)) ∷ frame (lent 57) ∷ frame (lent 57) ∷ take-cell 3 (lent 53) ∷ collect 9 [] ∷ collect 3 [] ∷ []
+
+abbrev pub busy-says : List Said
+busy-says =
+    map (λ a. answers a)
+    (Refused 9 ∷ Refused 10 ∷ Handed ∷ Refused 10 ∷ Refused 11 ∷ Framed 0 nobody 0 0 ∷ Refused 11 ∷ Framed 1 0 nobody 1
+    ∷ Handed ∷ Framed 2 nobody 0 0 ∷ Framed 3 0 nobody 1 ∷ Taken ∷ Refused 9 ∷ Refused 10 ∷ [])
+
+-- a control outlet holds four, a loopback outlet one
+abbrev pub hears-third : ℕ → ℕ → ℕ → Event
+hears-third class unit tandem = hear unit (sealed (third class unit tandem))
+
+abbrev pub crowded : List Event
+crowded =
+    replicate 5 (hears-third 0 3 0) ++ (hears-third 1 3 0 ∷ hears-third 1 3 0 ∷ collect 3 (lent 56) ∷ hears-third 0 3 0 ∷ hears-third 0 3 0 ∷ [])
+
+abbrev pub crowded-says : List Said
+crowded-says =
+    hears (replicate 4 hearing.Queued ++ (hearing.Full ∷ hearing.Queued ∷ hearing.Full ∷ [])) ++ (answers Taken ∷ hears (hearing.Queued ∷ hearing.Full ∷ []))
+
+-- "another class, or an address above 31, is `damaged`"; "a tandem byte above 31 is `damaged`", of a loopback cell, and all eight bits of it count
+abbrev pub kinds : List Event
+kinds =
+    hears-third 2 3 0 ∷ hears-third 3 3 0 ∷ hear 3 (sealed (third 0 32 0)) ∷ hear 3 (sealed (third 1 32 0)) ∷ hear 3 (sealed (third 0 31 0)) ∷
+    hears-third 0 3 0x2000 ∷ hears-third 1 3 0x2000 ∷ hears-third 1 3 0x1fff ∷ []
+
+abbrev pub kinds-say : List Said
+kinds-say =
+    hears (hearing.Damaged ∷ hearing.Damaged ∷ hearing.Damaged ∷ hearing.Damaged ∷ hearing.Other ∷ hearing.Queued ∷ hearing.Damaged ∷ hearing.Queued ∷ [])
+
+-- "data, then control, then loopback": the last to come is the first to go
+abbrev pub last-first : List Event
+last-first =
+    hears-third 1 0 0 ∷ frame (lent 57) ∷ hand 0 (third 0 3 0) ∷ arrive 0 (good Uni 4 1) ∷ frame (lent 57) ∷ frame (lent 57) ∷ frame (lent 57) ∷ []
+
+abbrev pub last-first-gives : List Back
+last-first-gives =
+    back (answers (Heard hearing.Queued)) (sealed (third 1 0 0)) ∷ back (answers (Framed 0 nobody 0 0)) (lent 57) ∷
+    back (answers Handed) (third 0 3 0) ∷ back (answers (Arrived arrival.Queued)) (good Uni 4 1) ∷
+    back (answers (Framed 1 0 0 3)) (sealed (cell (routing target.All 3) 0 0x00700010 (replicate 48 7))) ∷
+    back (answers (Framed 2 0 0 1)) (sealed (third 0 3 0)) ∷
+    back (answers (Framed 3 0 nobody 1)) (sealed (third 0 0 0)) ∷ []
+
+-- "once that is free": a loopback cell waits in the outlet while the inlet is taken, also in the frame in which that is sent
+abbrev pub standing : List Event
+standing =
+    hears-third 1 3 0 ∷ frame (lent 57) ∷ hears-third 1 3 0 ∷ frame (lent 57) ∷ hears-third 1 3 0 ∷ frame (lent 57) ∷ frame (lent 57) ∷ count 3 ∷ []
+
+abbrev pub standing-says : List Said
+standing-says =
+    answers (Heard hearing.Queued) ∷ answers (Framed 0 nobody 3 0) ∷ answers (Heard hearing.Queued) ∷ answers (Framed 1 3 nobody 1) ∷
+    answers (Heard hearing.Full) ∷ answers (Framed 2 nobody 3 0) ∷ answers (Framed 3 3 nobody 1) ∷
+    counts (record { arrived = 0; hec = 0; ignored = 0; misrouted = 0; inletfull = 0; sent = 2; unheard = 0; damaged = 0; queued = 2; full = 1; clp = 0; wide = 0; taken = 2 }) ∷ []
+
+-- those of which the bytes count
+pub record Exchange : Type 0 where
+  pub script : List Event
+  pub gives : List Back
+
+abbrev pub exchanges : List Exchange
+exchanges =
+    record { script = update; gives = update-gives } ∷ record { script = test; gives = test-gives } ∷ record { script = last-first; gives = last-first-gives } ∷ []
+
 -- all of them
 abbrev pub cases : List Case
 cases =
@@ -237,4 +333,9 @@ cases =
     ∷ case (filled 1 2 1 (opened table)) (taking 3) took
     ∷ case (filled 1 3 1 (opened table)) (taking 3) took
     ∷ case (filled 0 0 1 (opened table)) (taking 0) took
+    -- 02's control and loopback cells
+    ∷ case (opened table) busy busy-says
+    ∷ case (opened table) crowded crowded-says
+    ∷ case (opened table) kinds kinds-say
+    ∷ case (opened table) standing standing-says
     ∷ []

@@ -1,4 +1,4 @@
--- The events of document 01, and what one gives back. Assumes nothing.
+-- The events of documents 01 and 02, and what one gives back. Assumes nothing.
 use Prim.Native.Nat.{ℕ}
 use mathlib.Core.List.{List, []}
 use mathlib.Core.Option.{Option, none, some}
@@ -13,6 +13,8 @@ pub data Event : Type 0 where
   hear : ℕ → List ℕ → Event
   take-cell : ℕ → List ℕ → Event
   count : ℕ → Event
+  hand : ℕ → List ℕ → Event
+  collect : ℕ → List ℕ → Event
 
 -- the bytes that are lent with an event
 unfoldable pub bytesOf : Event → List ℕ
@@ -21,6 +23,8 @@ bytesOf (frame buffer) = buffer
 bytesOf (hear unit heard) = heard
 bytesOf (take-cell unit buffer) = buffer
 bytesOf (count unit) = []
+bytesOf (hand unit cell) = cell
+bytesOf (collect unit buffer) = buffer
 
 -- the unit that an event names; a frame is every unit's
 unfoldable pub named : Event → Option ℕ
@@ -29,6 +33,8 @@ named (frame buffer) = none
 named (hear unit heard) = some unit
 named (take-cell unit buffer) = some unit
 named (count unit) = some unit
+named (hand unit cell) = some unit
+named (collect unit buffer) = some unit
 
 -- what an event says: an answer, or the counters of a unit
 pub data Said : Type 0 where

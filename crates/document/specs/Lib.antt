@@ -5,6 +5,7 @@ pub mod Arrival
 pub mod Hearing
 pub mod Frame
 pub mod Take
+pub mod Processor
 pub mod Steps
 pub mod Examples
 pub mod Cases

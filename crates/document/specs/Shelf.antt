@@ -27,12 +27,21 @@ pub record Routed : Type 0 where
   pub class : ℕ
   pub cell : Cell
 
+-- 02, W1: "each unit gets an inlet place for a control cell from its processor, one for a loopback cell, a four-cell control outlet and a one-cell
+-- loopback outlet", each holding "the 56 bytes before parity", the oldest first
+pub record Side : Type 0 where
+  pub controlin : List (List ℕ)
+  pub loopbackin : List (List ℕ)
+  pub controlout : List (List ℕ)
+  pub loopbackout : List (List ℕ)
+
 -- a unit: its `unit` line, the cells that wait, and the cells of its outlet, the oldest first. Queue q holds class q; in mode `one` all are in queue 0
 pub record Unit : Type 0 where
   pub settings : Settings
   pub limits : Limits
   pub inlet : List Routed
   pub queues : List (List Cell)
+  pub side : Side
 
 -- the lines have the latest first, the units are in `unit` line order; `arbiter` has the last unit granted at each priority and what each unit asks,
 -- `granted` the unit granted in the frame before or nobody, `frame` the next frame's number; the history has the latest first
@@ -54,18 +63,45 @@ queueAt u q = getD (u .queues) q []
 abbrev pub held : Unit → ℕ → ℕ
 held u q = length (queueAt u q)
 
--- in the four queues together, and the cells in a unit's outlet
+-- the cells that wait for the bus: data, control and loopback
+abbrev pub waiting : Unit → ℕ
+waiting u = length (u .inlet) + length (u .side .controlin) + length (u .side .loopbackin)
+
+-- in the four queues together, and the cells in a unit's outlets
 abbrev pub inAll : (ℕ → List Cell) → ℕ
 inAll f = length (f 0) + length (f 1) + length (f 2) + length (f 3)
 
 abbrev pub inOutlet : Unit → ℕ
-inOutlet u = inAll (queueAt u)
+inOutlet u = inAll (queueAt u) + length (u .side .controlout) + length (u .side .loopbackout)
 
 abbrev pub withInlet : Unit → List Routed → Unit
-withInlet u inlet = record { settings = u .settings; limits = u .limits; inlet = inlet; queues = u .queues }
+withInlet u inlet = record { settings = u .settings; limits = u .limits; inlet = inlet; queues = u .queues; side = u .side }
 
 abbrev pub withQueue : Unit → ℕ → List Cell → Unit
-withQueue u q cells = record { settings = u .settings; limits = u .limits; inlet = u .inlet; queues = set (u .queues) q cells }
+withQueue u q cells = record { settings = u .settings; limits = u .limits; inlet = u .inlet; queues = set (u .queues) q cells; side = u .side }
+
+-- with other cells in a place beside the data queues
+abbrev pub withSide : Unit → Side → Unit
+withSide u side = record { settings = u .settings; limits = u .limits; inlet = u .inlet; queues = u .queues; side = side }
+
+abbrev pub withControlIn : Unit → List (List ℕ) → Unit
+withControlIn u cells =
+    withSide u (record { controlin = cells; loopbackin = u .side .loopbackin; controlout = u .side .controlout; loopbackout = u .side .loopbackout })
+
+abbrev pub withLoopbackIn : Unit → List (List ℕ) → Unit
+withLoopbackIn u cells =
+    withSide u (record { controlin = u .side .controlin; loopbackin = cells; controlout = u .side .controlout; loopbackout = u .side .loopbackout })
+
+abbrev pub withControlOut : Unit → List (List ℕ) → Unit
+withControlOut u cells =
+    withSide u (record { controlin = u .side .controlin; loopbackin = u .side .loopbackin; controlout = cells; loopbackout = u .side .loopbackout })
+
+abbrev pub withLoopbackOut : Unit → List (List ℕ) → Unit
+withLoopbackOut u cells =
+    withSide u (record { controlin = u .side .controlin; loopbackin = u .side .loopbackin; controlout = u .side .controlout; loopbackout = cells })
+
+abbrev pub emptySide : Side
+emptySide = record { controlin = []; loopbackin = []; controlout = []; loopbackout = [] }
 
 -- the place of the unit with a number, and the unit in a place
 abbrev pub findIn : List Unit → ℕ → Found
@@ -78,6 +114,7 @@ blank =
       limits = record { mode = One; cbrlength = 0; cbrlimit = 0; vbrlimit = 0; mark = false };
       inlet = [];
       queues = [] ∷ [] ∷ [] ∷ [] ∷ [];
+      side = emptySide;
     }
 
 abbrev pub unitAt : Shelf → ℕ → Unit
@@ -98,7 +135,7 @@ after shelf place u happened =
 
 -- "A good load zeroes its rows and starts with all queues empty": a freshly declared unit, the units of these lines, their bus, and the shelf
 abbrev pub freshUnit : Settings → Limits → Unit
-freshUnit settings limits = record { settings = settings; limits = limits; inlet = []; queues = [] ∷ [] ∷ [] ∷ [] ∷ [] }
+freshUnit settings limits = record { settings = settings; limits = limits; inlet = []; queues = [] ∷ [] ∷ [] ∷ [] ∷ []; side = emptySide }
 
 abbrev pub unitsBy : Line → List Unit
 unitsBy (Bus bus) = []

@@ -8,13 +8,14 @@ use Rattle.bus.specs.Frame.{heard}
 use Rattle.shelf.specs.declared.Found as F
 use Rattle.shelf.specs.declared.Found.the-variants.{At, Nothing}
 use Rattle.answer.specs.declared.Answer.the-variants.{Refused, Arrived, Heard}
-use Rattle.document.specs.Events.{Event, arrive, frame, hear, take-cell, count, Said, answers, counts, Back}
+use Rattle.document.specs.Events.{Event, arrive, frame, hear, take-cell, count, hand, collect, Said, answers, counts, Back}
 use Rattle.document.specs.Counters.{countersOf}
 use Rattle.document.specs.Shelf.{Shelf, findIn, unitAt, numberOf}
 use Rattle.document.specs.Arrival.{arrivalOf, arrived}
 use Rattle.document.specs.Hearing.{hearingOf, handedIn}
-use Rattle.document.specs.Frame.{sentIn, framed, framedAnswer}
+use Rattle.document.specs.Frame.{framed, framedAnswer, framedBytes}
 use Rattle.document.specs.Take.{Took, takes}
+use Rattle.document.specs.Processor.{hands, collects}
 
 -- what comes of an event: what it says, the shelf and the lent bytes as they are afterwards
 pub record Step : Type 0 where
@@ -44,7 +45,7 @@ happensTo shelf (arrive unit c) =
     (λ number. refused shelf number c)
 happensTo shelf (frame buffer) =
     cond (eqb (length buffer) 57)
-    (step (answers (framedAnswer shelf buffer)) (framed shelf buffer) (sentIn shelf buffer .bytes))
+    (step (answers (framedAnswer shelf buffer)) (framed shelf buffer) (framedBytes shelf buffer))
     (refused shelf 10 buffer)
 happensTo shelf (hear unit f) =
     admitted (findIn (shelf .units) unit) (eqb (length f) 57)
@@ -56,6 +57,11 @@ happensTo shelf (count unit) =
     admitted (findIn (shelf .units) unit) true
     (λ place. step (counts (countersOf (shelf .history) (numberOf (unitAt shelf place)))) shelf [])
     (λ number. refused shelf number [])
+-- "Length for other than 56 bytes, then 11 Busy"
+happensTo shelf (hand unit c) =
+    admitted (findIn (shelf .units) unit) (eqb (length c) 56) (λ place. tookStep (hands shelf place c)) (λ number. refused shelf number c)
+happensTo shelf (collect unit buffer) =
+    admitted (findIn (shelf .units) unit) (eqb (length buffer) 56) (λ place. tookStep (collects shelf place buffer)) (λ number. refused shelf number buffer)
 
 -- what a sequence of events gives back, and the shelf after it
 unfoldable pub gives : Shelf → List Event → List Back

@@ -1,4 +1,4 @@
--- What comes of each of the six: what is given back, and what was lent, as it is afterwards; b is the state's bytes. The contracts of `entry` and `owned` cite these, and every promise speaks of them.
+-- What comes of each of the eight: what is given back, and what was lent, as it is afterwards; b is the state's bytes. The contracts of `entry` and `owned` cite these, and every promise speaks of them.
 -- Assumes nothing.
 use Prim.Native.Nat.{ℕ}
 use mathlib.Core.Path.{_≡_}
@@ -14,6 +14,7 @@ use Rattle.arriving.specs.InPlace.{arriveOut, arriveState, arriveStoreIn}
 use Rattle.framing.specs.InPlace.{frameOut, frameState, frameStoreIn, frameBufferIn}
 use Rattle.hearing.specs.InPlace.{hearOut, hearState, hearStoreIn}
 use Rattle.taking.specs.InPlace.{takeOut, takeState, takeBufferIn}
+use Rattle.handing.specs.InPlace.{handOut, handState, handStoreIn, collectOut, collectState, collectBufferIn}
 use Rattle.table.specs.EventInPlace.{loadOut, loadState}
 use Rattle.table.specs.Loads.{loadMemory}
 use Rattle.entry.specs.declared.Counted.{Counted}
@@ -47,6 +48,14 @@ abbrev pub takes : Card → List ℕ → List ℕ → List C.Counters → ℕ �
 takes card b store rows many unit buffer =
     left (takeOut card b (length store) many unit (length buffer)) (takeState card b (length store) many unit (length buffer)) store rows (takeBufferIn card b store many unit buffer)
 
+abbrev pub hands : Card → List ℕ → List ℕ → List C.Counters → ℕ → ℕ → List ℕ → Left
+hands card b store rows many unit cell =
+    left (handOut card b (length store) many unit (length cell)) (handState card b (length store) many unit (length cell)) (handStoreIn card b store many unit cell) rows cell
+
+abbrev pub collects : Card → List ℕ → List ℕ → List C.Counters → ℕ → ℕ → List ℕ → Left
+collects card b store rows many unit buffer =
+    left (collectOut card b (length store) many unit (length buffer)) (collectState card b (length store) many unit (length buffer)) store rows (collectBufferIn card b store many unit buffer)
+
 abbrev pub countsOf : Card → List ℕ → List ℕ → List C.Counters → ℕ → ℕ → Counted
 countsOf card b store rows many unit = countOf (countedIn card b (length store) many unit) rows
 
@@ -67,7 +76,8 @@ loads card text memory store rows many =
       rows = settled rows (out .rises);
     }
 
--- that these are what is given back and left: the state, the store and the rows; those and the bytes; the state, the bytes and the rows; the memory, the state and the rows
+-- that these are what is given back and left: the state, the store and the rows; those and the bytes; the state, the bytes and the rows; the state and the store; the memory, the
+-- state and the rows
 abbrev pub LeavesStore : Left → Answer → List ℕ → List ℕ → List C.Counters → Type 0
 LeavesStore l r state store rows = (r ≡ l .answer) × ((state ≡ l .state) × ((store ≡ l .store) × (rows ≡ l .rows)))
 
@@ -76,6 +86,9 @@ LeavesAll l r state store bytes rows = (r ≡ l .answer) × ((state ≡ l .state
 
 abbrev pub LeavesBytes : Left → Answer → List ℕ → List ℕ → List C.Counters → Type 0
 LeavesBytes l r state bytes rows = (r ≡ l .answer) × ((state ≡ l .state) × ((bytes ≡ l .bytes) × (rows ≡ l .rows)))
+
+abbrev pub LeavesCell : Left → Answer → List ℕ → List ℕ → Type 0
+LeavesCell l r state store = (r ≡ l .answer) × ((state ≡ l .state) × (store ≡ l .store))
 
 abbrev pub LeavesMemory : Laden → Answer → List ℕ → List ℕ → List C.Counters → Type 0
 LeavesMemory l r memory state rows = (r ≡ l .answer) × ((memory ≡ l .memory) × ((state ≡ l .state) × (rows ≡ l .rows)))

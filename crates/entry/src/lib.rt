@@ -1,4 +1,4 @@
-// The six functions that others call, with the state lent. Each has a covered function do all but the counters, and `counters` writes those.
+// The eight functions that others call, with the state lent. Each has a covered function do all but the counters, and `counters` writes those.
 use answer::Answer;
 use answer::Counters;
 use card::Card;
@@ -6,7 +6,7 @@ use framing::Framed;
 use soundness::Place;
 ghost use mathlib.Core.Path.{_≡_};
 ghost use lib.ListN.{length};
-ghost use Rattle.entry.specs.Outcomes.{arrives, frames, hears, takes, countsOf, loads, LeavesStore, LeavesAll, LeavesBytes, LeavesMemory};
+ghost use Rattle.entry.specs.Outcomes.{arrives, frames, hears, takes, hands, collects, countsOf, loads, LeavesStore, LeavesAll, LeavesBytes, LeavesCell, LeavesMemory};
 ghost use Rattle.entry.specs.declared.Counted.the-variants as counted;
 
 // A route table is loaded.
@@ -106,6 +106,39 @@ pub fn take(
 {
     let n = rows.len();
     let done = taking::take(card, state, store, n, unit, buffer);
+    answer::raise_one(rows, done);
+    answer::answer_by(done)
+}
+
+// A unit's processor hands in a cell. Nothing is counted: of the rows only their number is read.
+pub fn hand(
+    card: Card,
+    state: &mut [u8; 2048],
+    store: &mut [u8],
+    rows: &[Counters],
+    unit: u8,
+    cell: &[u8],
+) -> Answer
+    ensures { λ r. ⌜ LeavesCell (hands card (now (state .entry)) (now (store .entry)) (now (rows .entry)) (length (now (rows .entry))) unit (now (cell .entry))) r (now (state .exit)) (now (store .exit)) ⌝ }
+{
+    let n = rows.len();
+    let done = handing::hand(card, state, store, n, unit, cell);
+    answer::answer_by(done)
+}
+
+// A unit's processor takes the oldest cell from the control outlet.
+pub fn collect(
+    card: Card,
+    state: &mut [u8; 2048],
+    store: &[u8],
+    rows: &mut [Counters],
+    unit: u8,
+    buffer: &mut [u8],
+) -> Answer
+    ensures { λ r. ⌜ LeavesBytes (collects card (now (state .entry)) (now (store .entry)) (now (rows .entry)) (length (now (rows .entry))) unit (now (buffer .entry))) r (now (state .exit)) (now (buffer .exit)) (now (rows .exit)) ⌝ }
+{
+    let n = rows.len();
+    let done = handing::collect(card, state, store, n, unit, buffer);
     answer::raise_one(rows, done);
     answer::answer_by(done)
 }

@@ -1,48 +1,43 @@
--- No sent frame is damaged, and `unheard` counts the sent cells that address no declared unit. Assumes nothing.
+-- A sent frame is heard as the cell that was sent; no cell that arrived is damaged, and `unheard` counts the sent cells that address no declared unit. Assumes nothing.
 use Prim.Native.Nat.{ℕ, zero, suc, _+_, _<_}
 use native.Mathlib.Omega.{arith}
 use mathlib.Core.Path.{_≡_, refl, sym, ap, subst, _∙_}
 use mathlib.Core.Logic.{_↔_, ⊎-elim}
-use mathlib.Core.Bool.{Bool, true, false, cond, _&&_, _||_}
-use mathlib.Core.List.{List, [], _∷_, _++_, Memᴰ·cast}
-use lib.Dec.{eqb, leb}
-use lib.ListN.{length, length-set, getD, set}
+use mathlib.Core.Bool.{Bool, true, false, _||_}
+use mathlib.Core.List.{List, [], _∷_, _++_, map, List·Memᴰ as In, List·Memᴰ·head}
+use lib.Dec.{eqb}
+use lib.ListN.{length, getD, set}
 use lib.Seq.{take-at}
-use borrow.Author.Tests.{eqb-true, eqb-false}
+use borrow.Author.Tests.{eqb-true, eqb-false, eq-eqb}
 use Rattle.bus.specs.Routing.{routing}
-use Rattle.bus.specs.declared.Target as T
-use Rattle.bus.specs.declared.Target.the-variants as target
 use Rattle.bus.specs.Frame.{cell, parity, sealed, heard, payload}
+use Rattle.bus.specs.declared.Heard as B
 use Rattle.bus.specs.declared.Heard.the-variants as sort
-use Rattle.bus.proofs.Wire.{sent-is-heard}
-use Rattle.outlet.specs.Outlets.{capacity}
-use Rattle.outlet.specs.Hearing.{queueOf, limit, tooWide, busClp}
-use Rattle.card.specs.declared.Card.{Card}
+use Rattle.bus.proofs.Wire.{heard-sealed}
 use Rattle.arbiter.specs.Arbitration.{nobody}
 use Rattle.line.specs.declared.Line.{Line}
-use Rattle.line.specs.declared.Line.the-variants.{Mc}
 use Rattle.told.proofs.Grown.{decide}
-use Rattle.shelf.specs.declared.Found.the-variants as found
 use Rattle.answer.specs.declared.Hearing as Q
 use Rattle.answer.specs.declared.Hearing.the-variants as hearing
 use Rattle.answer.specs.Answers.{isAddressed}
-use Rattle.document.specs.Events.{frame}
-use Rattle.paper.specs.Counters.{Counter, unheard, damaged, placeOf, hearingCounts, sentCounts, occurs}
-use Rattle.document.specs.Counters.{entries, times}
-use Rattle.document.specs.Shelf.{Routed, Unit as D·Unit, Shelf, numberOf, held, withInlet, blank, findIn, unitAt}
-use Rattle.document.specs.Hearing.{addressed, fateIn, hearingOf}
-use Rattle.document.specs.Frame.{asHeard, someAddressed, heardEntries, sendsFrom}
-use Rattle.document.specs.Steps.{happensTo}
-use Rattle.running.specs.Events.{World}
-use Rattle.running.proofs.Changed.{set-or}
-use Rattle.refining.proofs.Alike.{WorldAlike, Sendable, AllSendable}
-use Rattle.refining.proofs.Rows.{times-append, times-here, times-other}
-use Rattle.fates.specs.Fates.{Addressed}
-use Rattle.fates.specs.Frames.{afterFrame}
-use Rattle.fates.specs.Clean.{SomeAddressed, risen, CleanFrame, CleanTableCleanBus}
+use Rattle.paper.specs.Counters.{Counter, unheard, damaged, taken, placeOf, hearingCounts, sentCounts, occurs}
+use Rattle.document.specs.Counters.{Entry, entries, times}
+use Rattle.document.specs.Shelf.{Routed, Unit as D·Unit, Shelf, numberOf, blank, unitAt}
+use Rattle.document.specs.Hearing.{OnBus, hearingOf}
+use Rattle.document.specs.Frame.{moving, movedBy, movedUnit, movedCounts, movedEntries, moved, frameOf, someAddressed, heardEntries, sendsOne}
+use Rattle.flow.specs.Parts.{From, from-inlet, from-control, from-loopback, cellOf, without, isFor}
+use Rattle.flow.specs.Order.{InTurn}
+use Rattle.flow.proofs.Times.{times-append, times-here, times-other, moved-unit}
+use Rattle.flow.proofs.Turns.{addressed-for, number-moved, numbers-moved, number-without, some-same}
+use Rattle.flow.proofs.Moves.{moved-by}
+use Rattle.flow.proofs.Senders.{not-both}
+use Rattle.fates.specs.Fates.{Addressed, SoundWith}
+use Rattle.fates.specs.Frames.{afterFrame, Waits, SendsOldest}
+use Rattle.fates.specs.Clean.{SomeAddressed, risen, heardIn, CleanData, CleanFrame, CleanTableCleanBus}
 use Rattle.fates.proofs.Fated.{either-true, right-true, untrue, addressed-iff, fate-iff}
-use Rattle.fates.proofs.Loads.{from-load, found-at}
-use Rattle.fates.proofs.Going.{let-in, open-grant, has-cell, sent-is, sent-at}
+use Rattle.fates.proofs.Standing.{Stands}
+use Rattle.fates.proofs.Loads.{from-load}
+use Rattle.fates.proofs.Going.{let-in, waits-in, open-grant, has-cell, sent-is, sent-at}
 
 -- the payload of a sealed cell
 sealed-payload : (routing header : ℕ) (bytes : List ℕ) → length bytes ≡ 48 → payload (sealed (cell routing 0 header bytes)) ≡ bytes
@@ -82,147 +77,183 @@ unfolding occurs sentCounts
 no-sent-damaged true = refl
 no-sent-damaged false = refl
 
-module _ (lines : List Line) (r : Routed) where
-  -- a sent cell is sound: its fate is not `damaged`
-  undamaged : (u : D·Unit) → hearingOf lines u (asHeard r) ≡ hearing.Damaged → ⊥
-  undamaged u e = fate-iff .1 lines u (asHeard r) hearing.Damaged .0 e tt
+-- nor does a move count either
+no-moved : (u : D·Unit) (c : Counter) → (occurs (movedCounts u) (placeOf c) ≡ 0) → (n : ℕ) → times (entries (numberOf u) (movedCounts u)) n c ≡ 0
+no-moved u c e n = entries-none (numberOf u) (movedCounts u) n c e
 
+none-moved : (cells : List (List ℕ)) → (occurs (map (λ c. taken) cells) (placeOf unheard) ≡ 0) × (occurs (map (λ c. taken) cells) (placeOf damaged) ≡ 0)
+unfolding occurs
+none-moved [] = (refl, refl)
+none-moved (c ∷ cells) = none-moved cells
+
+moved-none : (us : List D·Unit) (n : ℕ) (c : Counter) → ((u : D·Unit) → occurs (movedCounts u) (placeOf c) ≡ 0) → times (movedEntries us) n c ≡ 0
+unfolding movedEntries times
+moved-none [] n c none = refl
+moved-none (u ∷ us) n c none =
+    let a = times-append (entries (numberOf u) (movedCounts u)) (movedEntries us) n c in
+    let b = no-moved u c (none u) n in
+    let e = moved-none us n c none in
+    omega arith
+
+module _ (lines : List Line) (x : OnBus) where
   -- units that hear it: none counts these
-  heard-none : (us : List D·Unit) (n : ℕ) (c : Counter) → ((u : D·Unit) → occurs (hearingCounts (hearingOf lines u (asHeard r))) (placeOf c) ≡ 0) → times (heardEntries lines us r) n c ≡ 0
+  heard-none : (us : List D·Unit) (n : ℕ) (c : Counter) → ((u : D·Unit) → occurs (hearingCounts (hearingOf lines u (x .heard))) (placeOf c) ≡ 0) → times (heardEntries lines us x) n c ≡ 0
   unfolding heardEntries times
   heard-none [] n c none = refl
   heard-none (u ∷ us) n c none =
-      let a = times-append (entries (numberOf u) (hearingCounts (hearingOf lines u (asHeard r)))) (heardEntries lines us r) n c in
-      let b = entries-none (numberOf u) (hearingCounts (hearingOf lines u (asHeard r))) n c (none u) in
+      let a = times-append (entries (numberOf u) (hearingCounts (hearingOf lines u (x .heard)))) (heardEntries lines us x) n c in
+      let b = entries-none (numberOf u) (hearingCounts (hearingOf lines u (x .heard))) n c (none u) in
       let e = heard-none us n c none in
       omega arith
 
-  -- 2. whether a unit is addressed
-  is-addressed : (u : D·Unit) → isAddressed (hearingOf lines u (asHeard r)) ≡ addressed lines u (r .target)
-  unfolding hearingOf fateIn isAddressed
-  is-addressed u =
-      pick (addressed lines u (r .target)) (tooWide (u .settings .link) (r .cell .header)) (leb (capacity (u .limits) q) (held u q)) (eqb (busClp (r .cell .header)) 1 && leb (limit (u .limits) q) (held u q))
-    where
-      q : ℕ
-      q = queueOf (u .limits) (r .class)
+-- 2. whether a unit is addressed, as a fact
+abbrev IsFor : List Line → D·Unit → B.Heard → Type 0
+IsFor lines u h = SoundWith u h (λ target class header. Addressed lines u target) (λ unit cells most. numberOf u ≡ unit)
 
-      pick : (a w f l : Bool) → isAddressed (cond a (cond w hearing.Wide (cond f hearing.Full (cond l hearing.Clp hearing.Queued))) hearing.Other) ≡ a
-      pick false w f l = refl
-      pick true true f l = refl
-      pick true false true l = refl
-      pick true false false true = refl
-      pick true false false false = refl
+for-iff : (lines : List Line) (u : D·Unit) (h : B.Heard) → (isFor lines u h ≡ true) ↔ IsFor lines u h
+unfolding isFor
+for-iff lines u sort.Length = (λ e. let z : _≡_ {A = ℕ} 0 1 = cc in absurd (omega arith), λ e. absurd e)
+for-iff lines u sort.Damaged = (λ e. let z : _≡_ {A = ℕ} 0 1 = cc in absurd (omega arith), λ e. absurd e)
+for-iff lines u (sort.Cell t class header) = addressed-iff lines u t
+for-iff lines u (sort.Control unit) = (eqb-true (numberOf u) unit, eq-eqb (numberOf u) unit)
+for-iff lines u (sort.Loopback unit) = (eqb-true (numberOf u) unit, eq-eqb (numberOf u) unit)
 
-  -- so of all the units
-  some-iff : (us : List D·Unit) → (someAddressed lines us r ≡ true) ↔ ((j : ℕ) × (j < length us) × Addressed lines (getD us j blank) (r .target))
-  unfolding someAddressed
-  some-iff [] = (λ e. let z : _≡_ {A = ℕ} 0 1 = cc in absurd (omega arith), λ s. absurd (omega (arith, s .1)))
-  some-iff (u ∷ us) = (
-    λ e.
-        ⊎-elim
-        (λ t. (0, omega arith, addressed-iff lines u (r .target) .0 (sym (is-addressed u) ∙ t)))
-        (λ t. let s = some-iff us .0 t in (suc (s .0), omega (arith, s .1), s .2))
-        (either-true (isAddressed (hearingOf lines u (asHeard r))) (someAddressed lines us r) e),
-    λ s. from (some-iff us .1) (s .0) (s .1) (s .2),
-  )
-    where
-      from : (((j : ℕ) × (j < length us) × Addressed lines (getD us j blank) (r .target)) → someAddressed lines us r ≡ true) →
-          (j : ℕ) → j < suc (length us) → Addressed lines (getD (u ∷ us) j blank) (r .target) → (isAddressed (hearingOf lines u (asHeard r)) || someAddressed lines us r) ≡ true
-      from others zero h a = rw (is-addressed u ∙ addressed-iff lines u (r .target) .1 a)
-      from others (suc j) h a = right-true (isAddressed (hearingOf lines u (asHeard r))) (someAddressed lines us r) (others (j, omega arith, a))
-
--- an address is a matter of the unit's number
-same-address : (lines : List Line) (u v : D·Unit) (t : T.Target) → numberOf u ≡ numberOf v → Addressed lines u t → Addressed lines v t
-same-address lines u v (target.Unit number) e a = sym e ∙ a
-same-address lines u v (target.Session session) e a = Memᴰ·cast (λ i. Mc (sym e i) session) a
-same-address lines u v target.All e a = tt
-
-module _ (card : Card) (w : World) (d : Shelf) (a : WorldAlike card w d) (buffer : List ℕ) (whole : length buffer ≡ 57) (i : ℕ) (there : findIn (d .units) (d .granted) ≡ found.At i) (r : Routed) (rest : List Routed) (e : unitAt d i .inlet ≡ r ∷ rest) where
-  -- the units once the cell has left; each has the number that it had
-  abbrev left : List D·Unit
-  left = set (d .units) i (withInlet (unitAt d i) rest)
-
-  same-number : (j : ℕ) → numberOf (getD left j blank) ≡ numberOf (unitAt d j)
-  same-number j =
+-- so of all the units
+some-iff : (lines : List Line) (x : OnBus) (us : List D·Unit) → (someAddressed lines us x ≡ true) ↔ ((j : ℕ) × (j < length us) × IsFor lines (getD us j blank) (x .heard))
+unfolding someAddressed
+some-iff lines x [] = (λ e. let z : _≡_ {A = ℕ} 0 1 = cc in absurd (omega arith), λ s. absurd (omega (arith, s .1)))
+some-iff lines x (u ∷ us) = (
+  λ e.
       ⊎-elim
-      (λ o. ap numberOf (o .1) ∙ ap (λ k. numberOf (unitAt d k)) (sym (o .0)))
-      (λ o. ap numberOf o)
-      (set-or (d .units) i (withInlet (unitAt d i) rest) blank j)
+      (λ t. (0, omega arith, for-iff lines u (x .heard) .0 (sym (addressed-for lines u (x .heard)) ∙ t)))
+      (λ t. let s = some-iff lines x us .0 t in (suc (s .0), omega (arith, s .1), s .2))
+      (either-true (isAddressed (hearingOf lines u (x .heard))) (someAddressed lines us x) e),
+  λ s. from (some-iff lines x us .1) (s .0) (s .1) (s .2),
+)
+  where
+    from : (((j : ℕ) × (j < length us) × IsFor lines (getD us j blank) (x .heard)) → someAddressed lines us x ≡ true) →
+        (j : ℕ) → j < suc (length us) → IsFor lines (getD (u ∷ us) j blank) (x .heard) → (isAddressed (hearingOf lines u (x .heard)) || someAddressed lines us x) ≡ true
+    from others zero h a = rw (addressed-for lines u (x .heard) ∙ for-iff lines u (x .heard) .1 a)
+    from others (suc j) h a = right-true (isAddressed (hearingOf lines u (x .heard))) (someAddressed lines us x) (others (j, omega arith, a))
 
-  -- whether a declared unit is addressed
+-- the numbers of the units stay when one of them is without the cell that it sends
+same-numbers : (us : List D·Unit) (i : ℕ) (f : From) → map numberOf (set us i (without f (getD us i blank))) ≡ map numberOf us
+same-numbers [] i f = refl
+same-numbers (u ∷ us) zero f = λ t. number-without f u t ∷ map numberOf us
+same-numbers (u ∷ us) (suc i) f = λ t. numberOf u ∷ same-numbers us i f t
+
+-- 3. a frame after a grant
+module _ (d : Shelf) (s : Stands d) (some : d .granted ≡ nobody → ⊥) (buffer : List ℕ) (whole : length buffer ≡ 57) where
+  abbrev w : Waits d (d .granted)
+  w = waits-in d (s .backed) some
+
+  abbrev u : D·Unit
+  u = unitAt d (waits-in d (s .backed) some .place)
+
+  abbrev f : From
+  f = has-cell d s some .0
+
+  abbrev sent : SendsOldest d buffer
+  sent = sent-at d s buffer whole (waits-in d (s .backed) some) (open-grant d s some) (has-cell d s some .0) (has-cell d s some .1)
+
+  -- a loopback cell that is sent has not just moved
+  not-moved : (c : List ℕ) (rest : List (List ℕ)) → InTurn (movedUnit u) (from-loopback c rest) → movedUnit u ≡ u
+  unfolding movedBy
+  not-moved c rest turn = ap (λ cells. movedBy cells u) (not-both d (s .backed) (s .once) (w .place) (w .declared) (w .named) some c rest turn)
+
+  -- a sent cell has its 56 bytes, so it is heard as what it carries
+  sent-heard : (g : From) → InTurn (movedUnit u) g → heard (frameOf (cellOf g)) ≡ cellOf g .heard
+  unfolding cellOf
+  sent-heard (from-inlet r rest) turn = s .units (w .place) (w .declared) .clean r rest (sym (moved-by (λ v. v .inlet) u (λ back out. refl)) ∙ turn) .sound
+  sent-heard (from-control c rest) turn =
+      heard-sealed c (s .units (w .place) (w .declared) .control c (subst (In c) (sym (sym (moved-by (λ v. v .side .controlin) u (λ back out. refl)) ∙ turn .1)) (List·Memᴰ·head refl)))
+  sent-heard (from-loopback c rest) turn =
+      heard-sealed c
+      (s .units (w .place) (w .declared) .loopback c (subst (In c) (sym (ap (λ v. v .side .loopbackin) (sym (not-moved c rest turn)) ∙ turn .2)) (List·Memᴰ·head refl)))
+
+  heard-as : heardIn d buffer ≡ cellOf f .heard
+  heard-as = ap heard (sent .bytes) ∙ sent-heard f (has-cell d s some .1)
+
+  -- the units once the cell has left; whether one of them is addressed
+  abbrev left : List D·Unit
+  left = set (moved d .units) (w .place) (without f (unitAt (moved d) (w .place)))
+
   abbrev some-hears : Bool
-  some-hears = someAddressed (d .lines) left r
+  some-hears = someAddressed (d .lines) left (cellOf f)
 
-  -- it is, exactly when one of the units as they were is
-  hears-iff : (some-hears ≡ true) ↔ SomeAddressed d (r .target)
+  hears-iff : (some-hears ≡ true) ↔ SomeAddressed d (heardIn d buffer)
   hears-iff =
-      let l = length-set (d .units) i (withInlet (unitAt d i) rest) in (
-        λ t. let s = some-iff (d .lines) r left .0 t in (s .0, omega (arith, s .1), same-address (d .lines) (getD left (s .0) blank) (unitAt d (s .0)) (r .target) (same-number (s .0)) (s .2)),
-        λ s. some-iff (d .lines) r left .1 (s .0, omega (arith, s .1), same-address (d .lines) (unitAt d (s .0)) (getD left (s .0) blank) (r .target) (sym (same-number (s .0))) (s .2)),
-      )
+      let same = some-same (d .lines) (cellOf f) left (d .units) (same-numbers (moved d .units) (w .place) f ∙ numbers-moved (d .units)) in
+      let iff = some-iff (d .lines) (cellOf f) (d .units) in
+      (λ t. subst (SomeAddressed d) (sym heard-as) (iff .0 (sym same ∙ t)), λ a. same ∙ iff .1 (subst (SomeAddressed d) heard-as a))
 
   -- what is new in the history
-  new-is : afterFrame d buffer .history ≡ (entries (d .granted) (sentCounts some-hears) ++ heardEntries (d .lines) left r) ++ d .history
-  unfolding sendsFrom
+  abbrev own : List Entry
+  own = entries (d .granted) (sentCounts some-hears)
+
+  new-is : afterFrame d buffer .history ≡ (own ++ heardEntries (d .lines) left (cellOf f)) ++ (movedEntries (d .units) ++ d .history)
+  unfolding sendsOne
   new-is =
       ap (λ s. s .shelf .history) (let-in d buffer whole)
-      ∙ ap (λ s. s .happened ++ d .history) (sent-is card w d a buffer whole i there r rest e)
-      ∙ ap (λ n. (entries n (sentCounts some-hears) ++ heardEntries (d .lines) left r) ++ d .history) (found-at (d .units) (d .granted) i there .1)
+      ∙ ap (λ s. s .happened ++ moved d .history) (sent-is d s buffer whole (waits-in d (s .backed) some) (open-grant d s some) f (has-cell d s some .1))
+      ∙ ap (λ n. (entries n (sentCounts some-hears) ++ heardEntries (d .lines) left (cellOf f)) ++ (movedEntries (d .units) ++ d .history))
+      (ap numberOf (moved-unit (d .units) (w .place)) ∙ number-moved u ∙ w .named)
 
-  -- so a counter that no hearing unit counts rises as the sender's entries say
-  rises : (n : ℕ) (c : Counter) → ((u : D·Unit) → occurs (hearingCounts (hearingOf (d .lines) u (asHeard r))) (placeOf c) ≡ 0) →
-      risen (afterFrame d buffer) n c ≡ times (entries (d .granted) (sentCounts some-hears)) n c + risen d n c
-  rises n c none =
-      let own = entries (d .granted) (sentCounts some-hears) in
+  -- so a counter that no move and no hearing unit counts rises as the sender's entries say
+  rises : (n : ℕ) (c : Counter) → ((v : D·Unit) → occurs (movedCounts v) (placeOf c) ≡ 0) → ((v : D·Unit) → occurs (hearingCounts (hearingOf (d .lines) v (cellOf f .heard))) (placeOf c) ≡ 0) →
+      risen (afterFrame d buffer) n c ≡ times own n c + risen d n c
+  rises n c still none =
       let x = ap (λ h. times h n c) new-is in
-      let y = times-append (own ++ heardEntries (d .lines) left r) (d .history) n c in
-      let z = times-append own (heardEntries (d .lines) left r) n c in
-      let o = heard-none (d .lines) r left n c none in
-      omega arith
+      let y = times-append (own ++ heardEntries (d .lines) left (cellOf f)) (movedEntries (d .units) ++ d .history) n c in
+      let z = times-append own (heardEntries (d .lines) left (cellOf f)) n c in
+      let m = times-append (movedEntries (d .units)) (d .history) n c in
+      let o = heard-none (d .lines) (cellOf f) left n c none in
+      let k = moved-none (d .units) n c still in
+      omega (arith, x, y, z, m, o, k)
+
+  unheard-rises : (n : ℕ) → risen (afterFrame d buffer) n unheard ≡ times own n unheard + risen d n unheard
+  unheard-rises n = rises n unheard (λ v. none-moved (moving v) .0) (λ v. no-unheard (hearingOf (d .lines) v (cellOf f .heard)))
 
   -- `unheard` at the sender
   unheard-is : (b : Bool) → some-hears ≡ b → risen (afterFrame d buffer) (d .granted) unheard ≡ occurs (sentCounts b) (placeOf unheard) + risen d (d .granted) unheard
   unheard-is b t =
-      rises (d .granted) unheard (λ u. no-unheard (hearingOf (d .lines) u (asHeard r)))
+      unheard-rises (d .granted)
       ∙ ap (λ k. k + risen d (d .granted) unheard) (times-here (d .granted) (sentCounts some-hears) unheard ∙ ap (λ x. occurs (sentCounts x) (placeOf unheard)) t)
 
-  -- the cell is one that a line of the table made
-  sendable : Sendable r
-  sendable = subst AllSendable e (a .shelf .units i (found-at (d .units) (d .granted) i there .0) .sendable) .0
-
-  -- so its frame is heard as that cell
-  sounds : heard (happensTo d (frame buffer) .bytes) ≡ sort.Cell (r .target) (r .class) (r .cell .header)
-  sounds =
-      ap heard (sent-at card w d a buffer whole i there r rest e .bytes)
-      ∙ sent-is-heard (r .target) (r .class) 0 (r .cell .header) (r .cell .payload) (sendable .target) (sendable .class) (sendable .header) (sendable .payload)
-
-  -- with its payload
-  carries : payload (happensTo d (frame buffer) .bytes) ≡ r .cell .payload
-  carries = ap payload (sent-at card w d a buffer whole i there r rest e .bytes) ∙ sealed-payload (routing (r .target) (r .class)) (r .cell .header) (r .cell .payload) (sendable .payload)
+  -- a data cell, which a line of the table made
+  clean-data : (r : Routed) (rest : List Routed) → f ≡ from-inlet r rest → CleanData d buffer r
+  unfolding cellOf
+  clean-data r rest e =
+      let as-cell : cellOf f .heard ≡ sort.Cell (r .target) (r .class) (r .cell .header) = ap (λ g. cellOf g .heard) e in
+      let turn : InTurn (movedUnit u) (from-inlet r rest) = subst (InTurn (movedUnit u)) e (has-cell d s some .1) in
+      let clean = s .units (w .place) (w .declared) .clean r rest (sym (moved-by (λ v. v .inlet) u (λ back out. refl)) ∙ turn) in
+      record {
+        sound = heard-as ∙ as-cell;
+        carried = ap payload (sent .bytes) ∙ ap (λ g. payload (frameOf (cellOf g))) e ∙ sealed-payload (routing (r .target) (r .class)) (r .cell .header) (r .cell .payload) (clean .whole);
+        undamaged = λ n.
+            rises n damaged (λ v. none-moved (moving v) .1)
+            (λ v.
+            no-damaged (hearingOf (d .lines) v (cellOf f .heard))
+            (λ q. fate-iff .1 (d .lines) v (sort.Cell (r .target) (r .class) (r .cell .header)) hearing.Damaged .0 (ap (hearingOf (d .lines) v) (sym as-cell) ∙ q) tt))
+            ∙ ap (λ k. k + risen d n damaged) (entries-none (d .granted) (sentCounts some-hears) n damaged (no-sent-damaged some-hears)) ∙ omega arith;
+      }
 
   -- all of it, of the frame that is sent
   clean-frame : CleanFrame d buffer
   unfolding occurs sentCounts
   clean-frame =
       record {
-        sent = sent-at card w d a buffer whole i there r rest e;
-        sound = sounds;
-        carried = carries;
-        undamaged = λ n.
-            rises n damaged (λ u. no-damaged (hearingOf (d .lines) u (asHeard r)) (undamaged (d .lines) r u))
-            ∙ ap (λ k. k + risen d n damaged) (entries-none (d .granted) (sentCounts some-hears) n damaged (no-sent-damaged some-hears)) ∙ omega arith;
+        sent = sent;
+        heard-as = heard-as;
+        arrived = clean-data;
         unheard-once = λ none. unheard-is false (untrue some-hears (λ t. none (hears-iff .0 t))) ∙ omega arith;
-        heard-by-some = λ some. unheard-is true (hears-iff .1 some) ∙ omega arith;
+        heard-by-some = λ a. unheard-is true (hears-iff .1 a) ∙ omega arith;
         elsewhere = λ n apart.
-            rises n unheard (λ u. no-unheard (hearingOf (d .lines) u (asHeard r)))
+            unheard-rises n
             ∙ ap (λ k. k + risen d n unheard) (times-other (d .granted) (sentCounts some-hears) n unheard (λ q. apart (sym q))) ∙ omega arith;
       }
 
 -- from a good load on there is a sender, and it has a cell
 pub clean-table-clean-bus : CleanTableCleanBus
 clean-table-clean-bus =
-    from-load (λ d. (d .granted ≡ nobody → ⊥) → (buffer : List ℕ) → length buffer ≡ 57 → CleanFrame d buffer)
-    (λ card w d a full some buffer whole.
-    let o = open-grant card w d a some in
-    let c = has-cell card w d a (o .0) (o .1) in
-    clean-frame card w d a buffer whole (o .0) (o .1) (c .0) (c .1) (c .2))
+    from-load (λ d. (d .granted ≡ nobody → ⊥) → (buffer : List ℕ) → length buffer ≡ 57 → CleanFrame d buffer) (λ d s some buffer whole. clean-frame d s some buffer whole)

@@ -1,5 +1,5 @@
 -- Each fate is met exactly when its fact holds. Assumes nothing.
-use Prim.Native.Nat.{ℕ}
+use Prim.Native.Nat.{ℕ, _<_, _≤_}
 use native.Mathlib.Omega.{arith}
 use mathlib.Core.Path.{_≡_, refl, sym, ap, subst, _∙_}
 use mathlib.Core.Logic.{_↔_, _⊎_, inl, inr, ⊎-elim}
@@ -34,7 +34,7 @@ use Rattle.paper.specs.Counters.{arrivalCounts, hearingCounts}
 use Rattle.document.specs.Counters.{entries}
 use Rattle.document.specs.Shelf.{Unit as D·Unit, numberOf, unitAt}
 use Rattle.document.specs.Arrival.{headerOf, lost, wayBy, wayFor, wayOf, arrivalBy, arrivalOf, arrived}
-use Rattle.document.specs.Hearing.{addressed, fateIn, hearingOf, handedIn}
+use Rattle.document.specs.Hearing.{addressed, fateIn, roomIn, hearingOf, handedIn}
 use Rattle.document.specs.Steps.{admitted, happensTo}
 use Rattle.fates.specs.Fates.{Zeros, lineFor, Routes, Goes, ArrivalIs, LineIs, Addressed, Fits, room, limitOf, heldOf, HearingIs, ArrivalFateIff, HearingFateIff, FateCounted, FateIff}
 
@@ -259,10 +259,77 @@ module _ (lines : List Line) (u : D·Unit) (t : T.Target) (class header : ℕ) w
       go true false false true false ea ew ef eo el = (fits ea ew, leb-false (room u class) (heldOf u class) ef, λ x. leb-false (limitOf u class) (heldOf u class) el)
       go true false false false l ea ew ef eo el = (fits ea ew, leb-false (room u class) (heldOf u class) ef, λ x. absurd (eqb-false (busClp header) 1 eo x))
 
+-- a control or a loopback cell for this unit, of which an outlet with these cells takes so many
+module _ (u : D·Unit) (unit : ℕ) (cells : List (List ℕ)) (most : ℕ) where
+  abbrev own-number : Bool
+  own-number = eqb (numberOf u) unit
+
+  abbrev no-room : Bool
+  no-room = leb most (length cells)
+
+  -- the fate by the two tests, and as it is found
+  abbrev placed : Bool → Bool → Q.Hearing
+  placed m f = cond m (cond f hearing.Full hearing.Queued) hearing.Other
+
+  abbrev aside : Q.Hearing
+  aside = cond own-number (roomIn most cells) hearing.Other
+
+  is-placed : aside ≡ placed own-number no-room
+  unfolding roomIn
+  is-placed = refl
+
+  -- its facts
+  AsideIs : Q.Hearing → Type 0
+  AsideIs hearing.Damaged = Unit {0} → ⊥
+  AsideIs hearing.Other = numberOf u ≡ unit → ⊥
+  AsideIs hearing.Wide = ⊥
+  AsideIs hearing.Full = (numberOf u ≡ unit) × (most ≤ length cells)
+  AsideIs hearing.Clp = ⊥
+  AsideIs hearing.Queued = (numberOf u ≡ unit) × (length cells < most)
+
+  aside-from : (fate : Q.Hearing) → AsideIs fate → aside ≡ fate
+  unfolding AsideIs
+  aside-from hearing.Damaged f = absurd (f tt)
+  aside-from hearing.Other f = is-placed ∙ (λ t. placed (ne-eqb (numberOf u) unit f t) no-room)
+  aside-from hearing.Wide f = absurd f
+  aside-from hearing.Full f = is-placed ∙ (λ t. placed (eq-eqb (numberOf u) unit (f .0) t) (le-leb most (length cells) (f .1) t))
+  aside-from hearing.Clp f = absurd f
+  aside-from hearing.Queued f = is-placed ∙ (λ t. placed (eq-eqb (numberOf u) unit (f .0) t) (lt-leb most (length cells) (f .1) t))
+
+  aside-holds : AsideIs aside
+  unfolding AsideIs
+  aside-holds = subst AsideIs (sym is-placed) (go own-number no-room refl refl)
+    where
+      go : (m f : Bool) → own-number ≡ m → no-room ≡ f → AsideIs (placed m f)
+      go false f em ef = eqb-false (numberOf u) unit em
+      go true true em ef = (eqb-true (numberOf u) unit em, leb-true most (length cells) ef)
+      go true false em ef = (eqb-true (numberOf u) unit em, leb-false most (length cells) ef)
+
+-- these are the facts of either kind
+control-is : (lines : List Line) (u : D·Unit) (unit : ℕ) (fate : Q.Hearing) → AsideIs u unit (u .side .controlout) 4 fate ↔ HearingIs lines u (frame.Control unit) fate
+unfolding AsideIs
+control-is lines u unit hearing.Damaged = (λ f. f, λ f. f)
+control-is lines u unit hearing.Other = (λ f. f, λ f. f)
+control-is lines u unit hearing.Wide = (λ f. f, λ f. f)
+control-is lines u unit hearing.Full = (λ f. f, λ f. f)
+control-is lines u unit hearing.Clp = (λ f. f, λ f. f)
+control-is lines u unit hearing.Queued = (λ f. f, λ f. f)
+
+loopback-is : (lines : List Line) (u : D·Unit) (unit : ℕ) (fate : Q.Hearing) → AsideIs u unit (u .side .loopbackout) 1 fate ↔ HearingIs lines u (frame.Loopback unit) fate
+unfolding AsideIs
+loopback-is lines u unit hearing.Damaged = (λ f. f, λ f. f)
+loopback-is lines u unit hearing.Other = (λ f. f, λ f. f)
+loopback-is lines u unit hearing.Wide = (λ f. f, λ f. f)
+loopback-is lines u unit hearing.Full = (λ f. f, λ f. f)
+loopback-is lines u unit hearing.Clp = (λ f. f, λ f. f)
+loopback-is lines u unit hearing.Queued = (λ f. f, λ f. f)
+
 -- the same of anything heard: what is no sound frame is damaged
 hearing-from : (lines : List Line) (u : D·Unit) (h : B.Heard) (fate : Q.Hearing) → HearingIs lines u h fate → hearingOf lines u h ≡ fate
 unfolding hearingOf
 hearing-from lines u (frame.Cell t class header) fate f = cell-from lines u t class header fate f
+hearing-from lines u (frame.Control unit) fate f = aside-from u unit (u .side .controlout) 4 fate (control-is lines u unit fate .1 f)
+hearing-from lines u (frame.Loopback unit) fate f = aside-from u unit (u .side .loopbackout) 1 fate (loopback-is lines u unit fate .1 f)
 hearing-from lines u frame.Length hearing.Damaged f = refl
 hearing-from lines u frame.Length hearing.Other f = absurd f
 hearing-from lines u frame.Length hearing.Wide f = absurd f
@@ -282,6 +349,8 @@ unfolding hearingOf
 hearing-holds lines u frame.Length = λ s. s
 hearing-holds lines u frame.Damaged = λ s. s
 hearing-holds lines u (frame.Cell t class header) = cell-holds lines u t class header
+hearing-holds lines u (frame.Control unit) = control-is lines u unit (hearingOf lines u (frame.Control unit)) .0 (aside-holds u unit (u .side .controlout) 4)
+hearing-holds lines u (frame.Loopback unit) = loopback-is lines u unit (hearingOf lines u (frame.Loopback unit)) .0 (aside-holds u unit (u .side .loopbackout) 1)
 
 -- each hearing fate exactly when its fact holds
 hearing-fate-iff : HearingFateIff

@@ -4,68 +4,69 @@ use native.Mathlib.Omega.{arith}
 use mathlib.Core.Path.{_≡_, refl, sym, ap, subst, _∙_}
 use mathlib.Core.Logic.{_⊎_, inl, inr, ⊎-elim}
 use mathlib.Core.Bool.{true, false, cond}
-use mathlib.Core.List.{List, [], _∷_, _++_}
+use mathlib.Core.List.{List, [], _∷_, _++_, map}
+use mathlib.Core.Option as O
 use lib.Dec.{eqb, ltb}
-use lib.ListN.{length, length-set, getD, set, replicate, getD-replicate, List·getD-eq-default, List·getD-map}
+use lib.ListN.{length, length-set, length-append, length-map, getD, set, replicate, getD-replicate, List·getD-eq-default}
 use lib.Seq.{getD-set-same, getD-set-other}
-use borrow.Author.Tests.{eqb-true, eq-eqb, ltb-true, ltb-false, lt-ltb, le-ltb}
-use Rattle.card.specs.declared.Card.{Card}
-use Rattle.arbiter.specs.Arbitration.{nobody, fresh, besides, due, arbiterOf, Asks, Changed}
+use borrow.Author.Tests.{eqb-true, eqb-false, eq-eqb, ltb-true, ltb-false, lt-ltb, le-ltb}
+use Rattle.bus.specs.Frame.{returned}
+use Rattle.arbiter.specs.Arbitration.{nobody, fresh, besides, due, arbiterOf, asksNow, Asks, Changed}
 use Rattle.arbiter.proofs.Requests.{renewed-many, renewed-at, asks-with, asks-without}
 use Rattle.arbiter.proofs.Grants.{not-granted, grants-if-asked, granted-highest, granted-first, granted-changes}
 use Rattle.store.proofs.Slots.{by-lt}
-use Rattle.store.proofs.Queues.{length-cells}
-use Rattle.shelf.specs.Shelves as S
+use Rattle.shelf.specs.Shelves.{placeFrom}
 use Rattle.shelf.specs.declared.Found as F
 use Rattle.shelf.specs.declared.Found.the-variants as found
-use Rattle.shelf.proofs.Finding.{find-nothing}
-use Rattle.soundness.specs.State.{Sound}
-use Rattle.soundness.proofs.Facts.{sound-iff}
 use Rattle.line.specs.declared.Line.{Line}
 use Rattle.told.proofs.Grown.{decide}
-use Rattle.soundness.specs.Admission.{unitAt}
 use Rattle.answer.specs.declared.Answer.the-variants.{Framed}
 use Rattle.document.specs.Events.{frame, answers}
 use Rattle.document.specs.Shelf as D
-use Rattle.arbiter.specs.Arbitration.{asksNow}
-use Rattle.document.specs.Frame.{requests, askingOf, frameOf, sendsFrom, sends, sentIn, framed, framedAnswer}
-use Rattle.document.specs.Steps.{step, happensTo}
-use Rattle.document.proofs.Fixed.{givenOf, given-kept}
-use Rattle.running.specs.Events.{World, happens}
-use Rattle.refining.proofs.Alike.{WorldAlike, onBus}
-use Rattle.refining.proofs.Rows.{Different}
-use Rattle.refining.proofs.Steps.{once}
-use Rattle.refining.proofs.Refined.{then-alike}
-use Rattle.refining.proofs.Finds.{length-map, find-alike, declared-is}
-use Rattle.fates.specs.Frames.{asksOf, grantedNow, afterFrame, Renewed, leftBy, AsksRightly, Waits, GrantedInTurn, inOutlets, SendsOldest, Idle, Starts, GoesOn, FramesGoOn}
-use Rattle.fates.proofs.Loads.{Full, from-load, found-at, four-queues}
+use Rattle.document.specs.Frame.{moving, movedUnit, moved, requests, askingOf, frameOf, sendsOne, sends, sentIn, framed, framedAnswer, framedBytes}
+use Rattle.document.specs.Steps.{step, happensTo, becomes}
+use Rattle.document.proofs.Fixed.{unit-moved, given-kept}
+use Rattle.flow.specs.Lost.{Different}
+use Rattle.flow.specs.Parts.{From, from-inlet, from-control, from-loopback, chosenOf, cellOf, without}
+use Rattle.flow.specs.Order.{InTurn}
+use Rattle.flow.proofs.Times.{moved-unit, found as found-at}
+use Rattle.flow.proofs.Turns.{number-moved, numbers-moved, asSending, as-sending, moved-different}
+use Rattle.flow.proofs.Moves.{moved-by, moved-in}
+use Rattle.flow.proofs.Kept.{number-at, as-many}
+use Rattle.flow.proofs.Senders.{Backed, backed, found-here}
+use Rattle.fates.specs.Frames.{asksOf, grantedNow, afterFrame, Renewed, leftBy, AsksRightly, Waits, GrantedInTurn, inOutlets, movingAll, SendsOldest, Idle, Starts, GoesOn, FramesGoOn}
+use Rattle.fates.proofs.Standing.{Stands}
+use Rattle.fates.proofs.Loads.{from-load}
 use Rattle.fates.proofs.Fated.{untrue}
-use Rattle.fates.proofs.Holding.{hears-all}
+use Rattle.fates.proofs.Holding.{is-chosen, found-moved, hears-all}
 use Rattle.fates.proofs.Copying.{copies-queued}
 
 -- a frame whose buffer has its length is not refused
-pub let-in : (d : D.Shelf) (buffer : List ℕ) → length buffer ≡ 57 → happensTo d (frame buffer) ≡ step (answers (framedAnswer d buffer)) (framed d buffer) (sentIn d buffer .bytes)
+pub let-in : (d : D.Shelf) (buffer : List ℕ) → length buffer ≡ 57 → happensTo d (frame buffer) ≡ step (answers (framedAnswer d buffer)) (framed d buffer) (framedBytes d buffer)
 unfolding happensTo
 let-in d buffer whole = rw (eq-eqb (length buffer) 57 whole)
 
 -- what a unit asks now stands at its number, where no other unit has that number
 module _ (g : ℕ) where
+  abbrev asked : D.Unit → ℕ
+  asked u = asksNow g (D.numberOf u) (u .settings .priority) (D.waiting u)
+
   asked-other : (now : List ℕ) (us : List D.Unit) (n : ℕ) → ((j : ℕ) → j < length us → D.numberOf (getD us j D.blank) ≡ n → ⊥) → getD (askingOf g now us) n 0 ≡ getD now n 0
   unfolding askingOf
   asked-other now [] n f = refl
   asked-other now (u ∷ us) n f =
-      asked-other (set now (D.numberOf u) (asksNow g (D.numberOf u) (u .settings .priority) (length (u .inlet)))) us n (λ j h. f (suc j) (omega arith)) ∙ getD-set-other now (D.numberOf u) n (asksNow g (D.numberOf u) (u .settings .priority) (length (u .inlet))) 0 (λ e. f 0 (omega arith) (sym e))
+      asked-other (set now (D.numberOf u) (asked u)) us n (λ j h. f (suc j) (omega arith)) ∙ getD-set-other now (D.numberOf u) n (asked u) 0 (λ e. f 0 (omega arith) (sym e))
 
   -- so each unit finds its own
   asked-at : (now : List ℕ) (us : List D.Unit) (i : ℕ) → i < length us → Different us → D.numberOf (getD us i D.blank) < length now →
-      getD (askingOf g now us) (D.numberOf (getD us i D.blank)) 0 ≡ asksNow g (D.numberOf (getD us i D.blank)) ((getD us i D.blank) .settings .priority) (length ((getD us i D.blank) .inlet))
+      getD (askingOf g now us) (D.numberOf (getD us i D.blank)) 0 ≡ asked (getD us i D.blank)
   unfolding askingOf
   asked-at now [] i h once low = absurd (omega arith)
   asked-at now (u ∷ us) zero h once low =
-      asked-other (set now (D.numberOf u) (asksNow g (D.numberOf u) (u .settings .priority) (length (u .inlet)))) us (D.numberOf u) (λ j k e. once 0 (suc j) (omega arith) (omega arith) (sym e))
-      ∙ getD-set-same now (D.numberOf u) (asksNow g (D.numberOf u) (u .settings .priority) (length (u .inlet))) 0 low
+      asked-other (set now (D.numberOf u) (asked u)) us (D.numberOf u) (λ j k e. once 0 (suc j) (omega arith) (omega arith) (sym e))
+      ∙ getD-set-same now (D.numberOf u) (asked u) 0 low
   asked-at now (u ∷ us) (suc i) h once low =
-      asked-at (set now (D.numberOf u) (asksNow g (D.numberOf u) (u .settings .priority) (length (u .inlet)))) us i (omega arith) (λ j k l m. once (suc j) (suc k) (omega arith) (omega arith)) (omega (arith, low, length-set now (D.numberOf u) (asksNow g (D.numberOf u) (u .settings .priority) (length (u .inlet)))))
+      asked-at (set now (D.numberOf u) (asked u)) us i (omega arith) (λ j k l m. once (suc j) (suc k) (omega arith) (omega arith)) (omega (arith, low, length-set now (D.numberOf u) (asked u)))
 
 -- before any request
 no-requests : (n : ℕ) → getD (fresh .asks) n 0 ≡ 0
@@ -97,7 +98,7 @@ module _ (d : D.Shelf) (n : ℕ) where
 module _ (d : D.Shelf) where
   -- what all units ask now
   abbrev asksAll : List ℕ
-  asksAll = askingOf (d .granted) (replicate 32 0) (d .units)
+  asksAll = askingOf (d .granted) (replicate 32 0) (map movedUnit (d .units))
 
   -- a request, renewed or not
   request-at : (n : ℕ) → n < length (d .arbiter .asks) → getD (asksOf d) n 0 ≡ cond (due (d .bus) (d .frame) n) (getD asksAll n 0) (getD (d .arbiter .asks) n 0)
@@ -130,159 +131,140 @@ module _ (d : D.Shelf) where
         (ap (λ s. s .shelf .arbiter) (sym (let-in d buffer whole))) (granted-changes (d .arbiter .last) (asksOf d) some)
 
     -- or no grant
-    rested : grantedNow d ≡ nobody → afterFrame d buffer .arbiter ≡ requests d
+    rested : grantedNow d ≡ nobody → afterFrame d buffer .arbiter ≡ requests (moved d)
     rested none = ap (λ s. s .shelf .arbiter) (let-in d buffer whole) ∙ ap arbiterOf (not-granted (d .arbiter .last) (asksOf d) none)
 
-module _ (card : Card) (w : World) (d : D.Shelf) (a : WorldAlike card w d) where
-  facts : Sound card (w .shelf) (length (w .store)) (length (w .rows))
-  facts = sound-iff card (w .shelf) (length (w .store)) (length (w .rows)) .0 (a .sound)
+-- a cell waits when the cells have moved, if one did before; and one is then in turn
+waits-moved : (u : D.Unit) → D.waiting u ≤ D.waiting (movedUnit u)
+waits-moved u =
+    let a = ap length (moved-by (λ v. v .inlet) u (λ back out. refl)) in
+    let b = ap length (moved-by (λ v. v .side .controlin) u (λ back out. refl)) in
+    let c = sym (length-append (u .side .loopbackin) (map returned (moving u))) ∙ ap length (moved-in u) in
+    omega (arith, a, b, c)
 
-  -- a unit's number and how many cells wait, on both
-  number-is : (i : ℕ) → i < length (d .units) → S.numberOf (getD (S.declared (w .shelf)) i S.blank) ≡ D.numberOf (D.unitAt d i)
-  number-is i h = ap S.numberOf (declared-is card (w .shelf) (w .memory) (w .store) d (a .shelf) i h) ∙ ap (λ s. s .number) (a .shelf .units i h .settings)
+in-turn-one : (u : D.Unit) → 1 ≤ D.waiting u → (f : From) × InTurn u f
+in-turn-one u some = go (u .inlet) refl (u .side .controlin) refl (u .side .loopbackin) refl
+  where
+    go : (inlet : List D.Routed) → u .inlet ≡ inlet → (control : List (List ℕ)) → u .side .controlin ≡ control → (loopback : List (List ℕ)) → u .side .loopbackin ≡ loopback → (f : From) × InTurn u f
+    go (r ∷ rest) a control b loopback c = (from-inlet r rest, a)
+    go [] a (x ∷ rest) b loopback c = (from-control x rest, (a, b))
+    go [] a [] b (x ∷ rest) c = (from-loopback x rest, (a, b, c))
+    go [] a [] b [] c = absurd (omega (arith, some, ap length a, ap length b, ap length c))
 
-  waiting-is : (i : ℕ) → i < length (d .units) → getD (S.declared (w .shelf)) i S.blank .inlet .count ≡ length (D.unitAt d i .inlet)
-  waiting-is i h =
-      ap (λ u. u .inlet .count) (declared-is card (w .shelf) (w .memory) (w .store) d (a .shelf) i h)
-      ∙ sym (length-cells (w .store) i 123 4 (unitAt (w .shelf) i .inlet)) ∙ ap length (a .shelf .units i h .inlet) ∙ length-map onBus (D.unitAt d i .inlet)
+-- who waits, in our words
+pub waits-in : (d : D.Shelf) → Backed d → (d .granted ≡ nobody → ⊥) → Waits d (d .granted)
+waits-in d b some = let w = b .grant some in record { place = w .place; declared = w .inside; named = w .named; cell = w .enough }
 
-  -- a unit's number is below 32
-  below-32 : (i : ℕ) → i < length (d .units) → D.numberOf (D.unitAt d i) < 32
-  below-32 i h =
-      let low = facts .units i (omega (arith, h, a .shelf .many)) .below in
-      let same = number-is i h in
-      ⊎-elim (λ b. omega arith) (λ b. omega arith) (facts .bus)
-
-  -- "an open grant at a unit without a cell" is no sound state
-  pub grant-held : (i : ℕ) → i < length (d .units) → D.numberOf (D.unitAt d i) ≡ d .granted → 1 ≤ length (D.unitAt d i .inlet)
-  grant-held i h e =
-      let g = facts .units i (omega (arith, h, a .shelf .many)) .grant (number-is i h ∙ e ∙ sym (a .shelf .granted)) in
-      omega (arith, g, waiting-is i h)
-
-  -- the unit with the open grant is found, or there is no open grant
-  pub open-grant : (d .granted ≡ nobody → ⊥) → (i : ℕ) × (D.findIn (d .units) (d .granted) ≡ found.At i)
-  open-grant some = go (D.findIn (d .units) (d .granted)) refl
-    where
-      go : (f : F.Found) → D.findIn (d .units) (d .granted) ≡ f → (i : ℕ) × (D.findIn (d .units) (d .granted) ≡ found.At i)
-      go (found.At i) e = (i, e)
-      go found.Nothing e =
-          ⊎-elim
-          (λ n. absurd (some (sym (a .shelf .granted) ∙ n)))
-          (λ k.
-          let nowhere = find-nothing (w .shelf .granted) (S.declared (w .shelf)) .0 (find-alike card (w .shelf) (w .memory) (w .store) d (a .shelf) (w .shelf .granted) ∙ ap (D.findIn (d .units)) (a .shelf .granted) ∙ e) in
-          absurd (nowhere (k .0) (k .1) (k .2)))
-          (facts .granted)
+module _ (d : D.Shelf) (s : Stands d) where
+  -- the unit with the open grant is found
+  pub open-grant : (some : d .granted ≡ nobody → ⊥) → D.findIn (d .units) (d .granted) ≡ found.At (waits-in d (s .backed) some .place)
+  open-grant some =
+      let w = waits-in d (s .backed) some in
+      ap (D.findIn (d .units)) (sym (w .named)) ∙ found-here (d .units) (s .once) (w .place) (w .declared)
 
   -- no unit is nobody
-  nobody-found : D.findIn (d .units) nobody ≡ found.Nothing
-  nobody-found = go (D.findIn (d .units) nobody) refl
+  nobody-found : D.findIn (moved d .units) nobody ≡ found.Nothing
+  nobody-found = ap (λ l. placeFrom 0 l nobody) (numbers-moved (d .units)) ∙ go (D.findIn (d .units) nobody) refl
     where
       go : (f : F.Found) → D.findIn (d .units) nobody ≡ f → f ≡ found.Nothing
       go found.Nothing e = refl
       go (found.At i) e =
           let at = found-at (d .units) nobody i e in
           let n = at .1 in
-          absurd (omega (arith, below-32 i (at .0)))
-
-  -- the unit with the open grant is declared, and has a cell
-  waits : (d .granted ≡ nobody → ⊥) → Waits d (d .granted)
-  waits some =
-      let o = open-grant some in
-      let at = found-at (d .units) (d .granted) (o .0) (o .1) in
-      record { place = o .0; declared = at .0; named = at .1; cell = grant-held (o .0) (at .0) (at .1) }
+          absurd (omega (arith, s .units i (at .0) .below))
 
   -- the cell that is sent
-  pub has-cell : (i : ℕ) → D.findIn (d .units) (d .granted) ≡ found.At i → (r : D.Routed) × (rest : List D.Routed) × (D.unitAt d i .inlet ≡ r ∷ rest)
-  has-cell i there = go (D.unitAt d i .inlet) refl
-    where
-      go : (l : List D.Routed) → D.unitAt d i .inlet ≡ l → (r : D.Routed) × (rest : List D.Routed) × (D.unitAt d i .inlet ≡ r ∷ rest)
-      go [] e = let at = found-at (d .units) (d .granted) i there in absurd (omega (arith, grant-held i (at .0) (at .1), ap length e))
-      go (r ∷ rest) e = (r, rest, e)
+  pub has-cell : (some : d .granted ≡ nobody → ⊥) → (f : From) × InTurn (movedUnit (D.unitAt d (waits-in d (s .backed) some .place))) f
+  has-cell some =
+      let w = waits-in d (s .backed) some in
+      let u = D.unitAt d (w .place) in
+      in-turn-one (movedUnit u) (omega (arith, w .cell, waits-moved u))
 
-  module _ (buffer : List ℕ) (whole : length buffer ≡ 57) (i : ℕ) (there : D.findIn (d .units) (d .granted) ≡ found.At i) (r : D.Routed) (rest : List D.Routed) (e : D.unitAt d i .inlet ≡ r ∷ rest) where
+  module _ (buffer : List ℕ) (whole : length buffer ≡ 57) (w : Waits d (d .granted)) (there : D.findIn (d .units) (d .granted) ≡ found.At (w .place)) (f : From) (turn : InTurn (movedUnit (D.unitAt d (w .place))) f) where
     -- what is left when that cell has been on the bus
-    pub sent-is : sentIn d buffer ≡ sendsFrom (r ∷ rest) d i buffer
-    unfolding sends
-    sent-is = ap (λ f. sends f d buffer) there ∙ ap (λ l. sendsFrom l d i buffer) e
+    pub sent-is : sentIn (moved d) buffer ≡ sendsOne (O.some (record { cell = cellOf f; left = without f (D.unitAt (moved d) (w .place)) })) (moved d) (w .place) buffer
+    unfolding sends asSending
+    sent-is =
+        let u = D.unitAt (moved d) (w .place) in
+        ap (λ g. sends g (moved d) buffer) (found-moved d (d .granted) (w .place) there)
+        ∙ ap (λ o. sendsOne o (moved d) (w .place) buffer)
+        (as-sending u ∙ ap (asSending u) (ap chosenOf (moved-unit (d .units) (w .place)) ∙ is-chosen (movedUnit (D.unitAt d (w .place))) f turn))
 
     -- its bytes
-    pub sent-bytes : happensTo d (frame buffer) .bytes ≡ frameOf r
-    unfolding sendsFrom
+    pub sent-bytes : happensTo d (frame buffer) .bytes ≡ frameOf (cellOf f)
+    unfolding sendsOne
     sent-bytes = ap (λ s. s .bytes) (let-in d buffer whole) ∙ ap (λ s. s .bytes) sent-is
 
     -- the copies that are queued
-    pub sent-copies : inOutlets (afterFrame d buffer .units) ≡ sentIn d buffer .queued + inOutlets (d .units)
-    unfolding sendsFrom
+    pub sent-copies : inOutlets (afterFrame d buffer .units) + length (movingAll (d .units)) ≡ sentIn (moved d) buffer .queued + inOutlets (d .units)
+    unfolding sendsOne
     sent-copies =
-        ap (λ s. inOutlets (s .shelf .units)) (let-in d buffer whole) ∙ ap (λ s. inOutlets (s .units)) sent-is
-        ∙ copies-queued d (four-queues card w d a) i r rest ∙ ap (λ s. s .queued + inOutlets (d .units)) (sym sent-is)
+        ap (λ s. inOutlets (s .shelf .units) + length (movingAll (d .units))) (let-in d buffer whole) ∙ ap (λ s. inOutlets (s .units) + length (movingAll (d .units))) sent-is
+        ∙ copies-queued d (s .fours) (w .place) f (cellOf f) ∙ ap (λ s. s .queued + inOutlets (d .units)) (sym sent-is)
 
     -- all of it
     abbrev pub sent-at : SendsOldest d buffer
     sent-at =
         record {
-          sender =
-              record {
-                place = i;
-                declared = found-at (d .units) (d .granted) i there .0;
-                named = found-at (d .units) (d .granted) i there .1;
-                cell = grant-held i (found-at (d .units) (d .granted) i there .0) (found-at (d .units) (d .granted) i there .1);
-              };
+          sender = w;
           found = there;
-          oldest = r;
-          others = rest;
-          waiting = e;
-          copies = sentIn d buffer .queued;
+          from = f;
+          oldest = turn;
+          copies = sentIn (moved d) buffer .queued;
           says = ap (λ s. s .said) (let-in d buffer whole);
           bytes = sent-bytes;
-          gone = hears-all d (four-queues card w d a) buffer i r rest whole there e i (found-at (d .units) (d .granted) i there .0) .2 refl;
+          gone = hears-all d (s .fours) buffer (w .place) f whole there turn (w .place) (w .declared) .2 refl;
           grown = sent-copies;
         }
 
   -- the unit granted in the frame before sends its oldest cell
   sends-oldest : (d .granted ≡ nobody → ⊥) → (buffer : List ℕ) → length buffer ≡ 57 → SendsOldest d buffer
-  sends-oldest some buffer whole =
-      let o = open-grant some in let c = has-cell (o .0) (o .1) in sent-at buffer whole (o .0) (o .1) (c .0) (c .1) (c .2)
+  sends-oldest some buffer whole = let c = has-cell some in sent-at buffer whole (waits-in d (s .backed) some) (open-grant some) (c .0) (c .1)
 
   -- nobody was granted: the frame is idle
   idles : d .granted ≡ nobody → (buffer : List ℕ) → length buffer ≡ 57 → Idle d buffer
   unfolding sends
   idles n buffer whole =
-      let none = ap (D.findIn (d .units)) n ∙ nobody-found in
+      let none = ap (D.findIn (moved d .units)) n ∙ nobody-found in
       record {
-        says = ap (λ s. s .said) (let-in d buffer whole) ∙ (λ t. answers (Framed (d .frame) (n t) (grantedNow d) (sends (none t) d buffer .queued)));
-        bytes = ap (λ s. s .bytes) (let-in d buffer whole) ∙ (λ t. sends (none t) d buffer .bytes);
-        units = ap (λ s. s .shelf .units) (let-in d buffer whole) ∙ (λ t. sends (none t) d buffer .units);
-        history = ap (λ s. s .shelf .history) (let-in d buffer whole) ∙ (λ t. sends (none t) d buffer .happened ++ d .history);
+        says = ap (λ s. s .said) (let-in d buffer whole) ∙ (λ t. answers (Framed (d .frame) (n t) (grantedNow d) (sends (none t) (moved d) buffer .queued)));
+        bytes = ap (λ s. s .bytes) (let-in d buffer whole) ∙ (λ t. sends (none t) (moved d) buffer .bytes);
+        units = ap (λ s. s .shelf .units) (let-in d buffer whole) ∙ (λ t. sends (none t) (moved d) buffer .units);
+        history = ap (λ s. s .shelf .history) (let-in d buffer whole) ∙ (λ t. sends (none t) (moved d) buffer .happened ++ moved d .history);
       }
 
-  -- a unit's request that is renewed is what it asks now
-  request-is : Full (d .arbiter) → (i : ℕ) → i < length (d .units) → due (d .bus) (d .frame) (D.numberOf (D.unitAt d i)) ≡ true →
-      getD (asksOf d) (D.numberOf (D.unitAt d i)) 0 ≡ asksNow (d .granted) (D.numberOf (D.unitAt d i)) ((D.unitAt d i) .settings .priority) (length ((D.unitAt d i) .inlet))
-  request-is full i h turn =
-      let n = D.numberOf (D.unitAt d i) in
-      let low : n < 32 = below-32 i h in
-      let many = full .asks in
+  -- a unit's request that is renewed is what it asks now, its cell moved
+  request-is : (i : ℕ) → i < length (d .units) → due (d .bus) (d .frame) (D.numberOf (D.unitAt d i)) ≡ true →
+      getD (asksOf d) (D.numberOf (D.unitAt d i)) 0 ≡ asksNow (d .granted) (D.numberOf (D.unitAt d i)) (D.unitAt d i .settings .priority) (D.waiting (movedUnit (D.unitAt d i)))
+  request-is i h turn =
+      let u = D.unitAt d i in
+      let v = D.unitAt (moved d) i in
+      let n = D.numberOf u in
+      let is : v ≡ movedUnit u = moved-unit (d .units) i in
+      let number : D.numberOf v ≡ n = ap D.numberOf is ∙ number-moved u in
+      let priority : v .settings .priority ≡ u .settings .priority = ap (λ x. x .settings .priority) is ∙ ap (λ g. g .settings .priority) (unit-moved u) in
+      let low : n < 32 = s .units i h .below in
+      let many = s .full .asks in
       request-at d n (omega arith)
       ∙ ap (λ b. cond b (getD (asksAll d) n 0) (getD (d .arbiter .asks) n 0)) turn
-      ∙ asked-at (d .granted) (replicate 32 0) (d .units) i h (once card w d a) low
+      ∙ ap (λ k. getD (asksAll d) k 0) (sym number)
+      ∙ asked-at (d .granted) (replicate 32 0) (moved d .units) i (omega (arith, h, length-map (d .units) movedUnit)) (moved-different d (s .once)) (omega (arith, low, number))
+      ∙ (λ t. asksNow (d .granted) (number t) (priority t) (D.waiting (is t)))
 
   -- so it asks at its priority exactly if it has a cell besides a granted one
-  asks-rightly : Full (d .arbiter) → (i : ℕ) → i < length (d .units) → Renewed d (D.numberOf (D.unitAt d i)) → AsksRightly d (D.unitAt d i)
-  asks-rightly full i h renewed =
+  asks-rightly : (i : ℕ) → i < length (d .units) → Renewed d (D.numberOf (D.unitAt d i)) → AsksRightly d (D.unitAt d i)
+  asks-rightly i h renewed =
       let u = D.unitAt d i in
       let turn = is-due d (D.numberOf u) renewed in
       let mine = eqb (D.numberOf u) (d .granted) in
-      let cells = besides (length (u .inlet)) mine in
+      let cells = besides (D.waiting (movedUnit u)) mine in
       let with : 1 ≤ cells → getD (asksOf d) (D.numberOf u) 0 ≡ u .settings .priority =
-      λ s. request-is full i h turn ∙ asks-with (u .settings .priority) (length (u .inlet)) mine s in
+      λ c. request-is i h turn ∙ asks-with (u .settings .priority) (D.waiting (movedUnit u)) mine c in
       let without : cells ≡ 0 → getD (asksOf d) (D.numberOf u) 0 ≡ 0 =
-      λ s. request-is full i h turn ∙ asks-without (u .settings .priority) (length (u .inlet)) mine s in
-      let some : 1 ≤ getD (asksOf d) (D.numberOf u) 0 → 1 ≤ cells = λ r. by-lt 0 cells (λ s. s) (λ s. absurd (omega (arith, r, without (omega arith)))) in
-      let s = facts .units i (omega (arith, h, a .shelf .many)) in
-      let p : getD (S.declared (w .shelf)) i S.blank .settings .priority ≡ u .settings .priority =
-      ap (λ x. x .settings .priority) (declared-is card (w .shelf) (w .memory) (w .store) d (a .shelf) i h) ∙ ap (λ x. x .priority) (a .shelf .units i h .settings) in
-      let asking : 1 ≤ cells → Asks (asksOf d) (D.numberOf u) = λ c. (below-32 i h, omega (arith, with c, s .least, p), omega (arith, with c, s .most, p)) in
+      λ c. request-is i h turn ∙ asks-without (u .settings .priority) (D.waiting (movedUnit u)) mine c in
+      let some : 1 ≤ getD (asksOf d) (D.numberOf u) 0 → 1 ≤ cells = λ r. by-lt 0 cells (λ c. c) (λ c. absurd (omega (arith, r, without (omega arith)))) in
+      let k = s .units i h in
+      let asking : 1 ≤ cells → Asks (asksOf d) (D.numberOf u) = λ c. (k .below, omega (arith, with c, k .least), omega (arith, with c, k .most)) in
       record {
         exactly = (λ r. some (r .1), asking);
         at-own = λ r. with (some (r .1));
@@ -292,64 +274,61 @@ module _ (card : Card) (w : World) (d : D.Shelf) (a : WorldAlike card w d) where
   -- a number that no unit has
   unasked : (n : ℕ) → ((i : ℕ) → i < length (d .units) → D.numberOf (D.unitAt d i) ≡ n → ⊥) → getD (asksOf d) n 0 ≡ 0
   unasked n apart =
+      let none : (i : ℕ) → i < length (moved d .units) → D.numberOf (D.unitAt (moved d) i) ≡ n → ⊥ =
+      λ i h e. apart i (omega (arith, h, length-map (d .units) movedUnit)) (sym (ap D.numberOf (moved-unit (d .units) i) ∙ number-moved (D.unitAt d i)) ∙ e) in
       decide (due (d .bus) (d .frame) n)
       (λ t.
       by-lt n (length (d .arbiter .asks))
       (λ h.
       request-at d n h ∙ ap (λ b. cond b (getD (asksAll d) n 0) (getD (d .arbiter .asks) n 0)) t
-      ∙ asked-other (d .granted) (replicate 32 0) (d .units) n apart ∙ no-requests n)
+      ∙ asked-other (d .granted) (replicate 32 0) (moved d .units) n none ∙ no-requests n)
       (beyond d n))
       (λ t.
-      stands d n t ∙ ap (λ x. getD (x .asks) n 0) (sym (a .shelf .arbiter))
-      ∙ facts .asks n (λ i. let h : i .0 < length (d .units) = omega (arith, i .1, a .shelf .many) in apart (i .0) h (sym (number-is (i .0) h) ∙ i .2)))
+      stands d n t
+      ∙ decide (eqb (getD (d .arbiter .asks) n 0) 0)
+      (λ q. eqb-true (getD (d .arbiter .asks) n 0) 0 q)
+      (λ q. let w = s .backed .asked n (eqb-false (getD (d .arbiter .asks) n 0) 0 q) in absurd (apart (w .place) (w .inside) (w .named))))
 
   -- the others stand
   others-stand : (n : ℕ) → (Renewed d n → ⊥) → getD (asksOf d) n 0 ≡ getD (d .arbiter .asks) n 0
-  others-stand n not =
-      let same = a .shelf .bus in
-      let bus : (d .bus ≡ 16) ⊎ (d .bus ≡ 32) = ⊎-elim (λ b. inl (omega arith)) (λ b. inr (omega arith)) (facts .bus) in
-      stands d n (untrue (due (d .bus) (d .frame) n) (λ e. not (is-renewed d n bus e)))
+  others-stand n not = stands d n (untrue (due (d .bus) (d .frame) n) (λ e. not (is-renewed d n (s .bus) e)))
 
-module _ (card : Card) (w : World) (d : D.Shelf) (a : WorldAlike card w d) where
   -- who is granted has a cell after the frame, and is declared in it
   still-waits : (grantedNow d ≡ nobody → ⊥) → (buffer : List ℕ) → length buffer ≡ 57 → Waits (afterFrame d buffer) (grantedNow d)
+  unfolding becomes
   still-waits some buffer whole =
       let e = opened d buffer whole in
-      subst (Waits (afterFrame d buffer)) e
-      (waits card (happens card w (frame buffer) .world) (afterFrame d buffer) (then-alike card w d a (frame buffer)) (λ n. some (sym e ∙ n)))
+      subst (Waits (afterFrame d buffer)) e (waits-in (afterFrame d buffer) (backed d (frame buffer ∷ []) (s .backed)) (λ n. some (sym e ∙ n)))
 
   -- who is granted is declared, asks at the highest priority, and is the first in turn
   in-turn : (grantedNow d ≡ nobody → ⊥) → GrantedInTurn d
   in-turn some =
-      let v = still-waits some (replicate 57 0) refl in
-      let same = given-kept d (frame (replicate 57 0)) in
-      let long = sym (length-map givenOf (afterFrame d (replicate 57 0) .units)) ∙ ap length same ∙ length-map givenOf (d .units) in
+      let buffer : List ℕ = replicate 57 0 in
+      let v = still-waits some buffer refl in
+      let same = given-kept d (frame buffer) in
       record {
         place = v .place;
-        declared = omega (arith, v .declared, long);
-        named =
-            sym (ap (λ g. g .settings .number)
-            (sym (List·getD-map givenOf (afterFrame d (replicate 57 0) .units) (v .place) D.blank) ∙ ap (λ l. getD l (v .place) (givenOf D.blank)) same ∙ List·getD-map givenOf (d .units) (v .place) D.blank))
-            ∙ v .named;
+        declared = omega (arith, v .declared, as-many d (afterFrame d buffer) same);
+        named = sym (number-at d (afterFrame d buffer) same (v .place)) ∙ v .named;
         highest = granted-highest (d .arbiter .last) (asksOf d) some;
         first = granted-first (d .arbiter .last) (asksOf d) some;
       }
 
--- all of it, where both shelves are alike
-goes-on : (card : Card) (w : World) (d : D.Shelf) → WorldAlike card w d → Full (d .arbiter) → GoesOn d
-goes-on card w d a full =
+-- all of it, of a shelf that stands
+goes-on : (d : D.Shelf) → Stands d → GoesOn d
+goes-on d s =
     record {
-      asks = asks-rightly card w d a full;
-      stand = others-stand card w d a;
-      undeclared = unasked card w d a;
+      asks = asks-rightly d s;
+      stand = others-stand d s;
+      undeclared = unasked d s;
       granted = grants-if-asked (d .arbiter .last) (asksOf d);
-      in-turn = in-turn card w d a;
-      three = full .lasts;
+      in-turn = in-turn d s;
+      three = s .full .lasts;
       keeps = λ some buffer whole. changed d buffer whole some;
       rests = λ none buffer whole. rested d buffer whole none;
-      sends = sends-oldest card w d a;
-      idle = idles card w d a;
-      still = still-waits card w d a;
+      sends = sends-oldest d s;
+      idle = idles d s;
+      still = still-waits d s;
       opens = opened d;
       numbers = numbered d;
     }

@@ -4,23 +4,21 @@ use native.Mathlib.Omega.{arith}
 use mathlib.Core.Path.{_≡_, refl, sym, ap, subst, _∙_}
 use mathlib.Core.Logic.{_↔_, _≢_}
 use mathlib.Core.Bool.{Bool, true, false, cond, _&&_}
-use mathlib.Core.List.{List, [], _∷_, _++_, map}
+use mathlib.Core.List.{List, [], _∷_, _++_}
 use mathlib.Core.Option.{Option, none, some}
 use lib.Dec.{eqb, leb, ltb}
-use lib.ListN.{length, length-append, length-set, getD, set, List·getD-map}
+use lib.ListN.{length, length-append, getD}
 use lib.Seq.{getD-set-same, getD-set-other}
 use borrow.Author.Tests.{eqb-true, eqb-false, eq-eqb}
 use Rattle.octets.specs.Octets.{four, part}
-use Rattle.octets.proofs.Parts.{getD-any}
 use Rattle.header.specs.Check.{check}
 use Rattle.header.specs.declared.Header as H
-use Rattle.bus.specs.declared.Target as T
-use Rattle.bus.specs.declared.Target.the-variants as target
-use Rattle.bus.specs.Frame.{heard, payload}
+use Rattle.bus.specs.Frame.{heard}
 use Rattle.bus.specs.declared.Heard as B
 use Rattle.bus.specs.declared.Heard.the-variants as sort
 use Rattle.outlet.specs.Hearing.{queueOf}
 use Rattle.outlet.proofs.Fates.{queue-lt}
+use Rattle.shelf.specs.Shelves.{placeFrom}
 use Rattle.shelf.specs.declared.Found.the-variants as found
 use Rattle.line.specs.declared.Line.{Line}
 use Rattle.told.proofs.Grown.{decide}
@@ -29,20 +27,30 @@ use Rattle.answer.specs.declared.Arrival as A
 use Rattle.answer.specs.declared.Arrival.the-variants as arrival
 use Rattle.answer.specs.declared.Hearing as Q
 use Rattle.answer.specs.declared.Hearing.the-variants as hearing
-use Rattle.document.specs.Events.{arrive, frame, hear}
-use Rattle.document.specs.Shelf.{Cell, Routed, Unit as D·Unit, Shelf, queueAt, withInlet, blank, findIn, unitAt}
+use Rattle.answer.specs.declared.Answer.the-variants.{Handed, Taken}
+use Rattle.document.specs.Events.{arrive, frame, hear, hand, collect, answers}
+use Rattle.document.specs.Shelf.{Routed, Unit as D·Unit, Shelf, queueAt, withInlet, withSide, withControlIn, withControlOut, blank, findIn, unitAt}
 use Rattle.document.specs.Arrival.{Way, goes, lost, routed, headerOf, wayBy, wayFor, wayOf, arrivalBy, inletBy, arrived}
-use Rattle.document.specs.Hearing.{addressed, fateIn, hearingOf, keeping, hearingUnit, handedIn}
-use Rattle.document.specs.Frame.{asHeard, allHear, sendsFrom, sends}
+use Rattle.document.specs.Hearing.{fateIn, OnBus, hearingOf, placing, keeping, hearingUnit, asHanded, handedIn}
+use Rattle.document.specs.Frame.{movedUnit, moved}
+use Rattle.document.specs.Processor.{handsInto, collectsFrom}
 use Rattle.document.specs.Steps.{admitted, happensTo}
-use Rattle.refining.proofs.Finds.{length-map}
-use Rattle.fates.specs.Fates.{lineFor}
-use Rattle.fates.specs.Held.{RoutedBy, ArrivalHeld, CopyHeld, unitAfter, Holds, HeldMeansHeld}
-use Rattle.fates.proofs.Loads.{from-load, found-at, four-queues}
+use Rattle.flow.specs.Parts.{From, from-inlet, from-control, from-loopback, chosen, chosenOf, cellOf, without, rests, hears, sends, moves, sending, sendingBy, turnOf, partOf}
+use Rattle.flow.specs.Order.{InTurn}
+use Rattle.flow.proofs.Times.{moved-unit, found as found-at}
+use Rattle.flow.proofs.Turns.{unitBy, same-address, numbers-moved, does}
+use Rattle.flow.proofs.Moves.{Waiting, heard-waits, moved-by}
+use Rattle.fates.specs.Fates.{lineFor, SoundWith}
+use Rattle.fates.specs.Held.{RoutedBy, ArrivalHeld, Behind, SameOutlets, SameInlets, CopyHeld, HandHeld, CollectHeld, unitAfter, Others, Holds, HeldMeansHeld}
+use Rattle.fates.proofs.Loads.{from-load}
 
 -- a list with one more behind it is another list
 longer : {X : Type 0} (l : List X) (x : X) → l ≡ l ++ (x ∷ []) → ⊥
 longer l x e = let a = ap length e ∙ length-append l (x ∷ []) in omega arith
+
+-- so is one with one more before it, whatever was taken from it
+shorter : {X : Type 0} (l : List X) (x : X) → l ≡ x ∷ l → ⊥
+shorter l x e = let a = ap length e in omega arith
 
 -- 1. arrival, by the way of the cell
 module _ (lines : List Line) (u : D·Unit) (c : List ℕ) where
@@ -105,79 +113,123 @@ module _ (lines : List Line) (u : D·Unit) (c : List ℕ) where
 
   -- an arrival
   arrival-held : ArrivalHeld lines u c (withInlet u (inletBy (wayOf lines (u .settings) c) u))
-  arrival-held = let b = by-way (wayOf lines (u .settings) c) ends in record { queued = b .0; lost = b .1; queues = refl }
+  arrival-held = let b = by-way (wayOf lines (u .settings) c) ends in record { queued = b .0; lost = b .1; queues = refl; side = refl }
 
--- 2. a copy, by what is heard
-module _ (u : D·Unit) (wide : length (u .queues) ≡ 4) (q : ℕ) (few : q < 4) (x : Cell) where
-  -- a fate and the queues with it
-  abbrev HeldIn : Q.Hearing → D·Unit → Type 0
-  HeldIn fate v =
-      ((fate ≡ hearing.Queued) ↔ (queueAt v q ≡ queueAt u q ++ (x ∷ [])))
-      × ((fate ≡ hearing.Queued → ⊥) → v .queues ≡ u .queues) × ((p : ℕ) → p ≢ q → queueAt v p ≡ queueAt u p) × (v .inlet ≡ u .inlet)
+-- 2. a copy, by what is heard. The cells that wait for the bus have no part in it
+module _ (lines : List Line) (u : D·Unit) (wide : length (u .queues) ≡ 4) (inlet : List Routed) (control loopback : List (List ℕ)) (payload bytes : List ℕ) where
+  abbrev with : D·Unit
+  with = withSide (withInlet u inlet) (record { controlin = control; loopbackin = loopback; controlout = u .side .controlout; loopbackout = u .side .loopbackout })
 
-  -- the queues are as they were
-  as-it-was : (fate : Q.Hearing) → (fate ≡ hearing.Queued → ⊥) → HeldIn fate u
-  as-it-was fate n = ((λ e. absurd (n e), λ e. absurd (longer (queueAt u q) x e)), λ e. refl, λ p e. refl, refl)
+  abbrev on-bus : B.Heard → OnBus
+  on-bus h = record { heard = h; payload = payload; bytes = bytes }
+
+  -- a fate and the unit with it
+  pub record HeldWith (h : B.Heard) (fate : Q.Hearing) (v : D·Unit) : Type 0 where
+    pub queued : (fate ≡ hearing.Queued) ↔ Behind u (on-bus h) h v
+    pub lost : (fate ≡ hearing.Queued → ⊥) → SameOutlets u v
+    pub others : (q : ℕ) → SoundWith u h (λ target class header. q ≢ queueOf (u .limits) class) (λ unit cells most. Unit {0}) → queueAt v q ≡ queueAt u q
+    pub control-kept : ((unit : ℕ) → h ≡ sort.Control unit → ⊥) → v .side .controlout ≡ u .side .controlout
+    pub loopback-kept : ((unit : ℕ) → h ≡ sort.Loopback unit → ⊥) → v .side .loopbackout ≡ u .side .loopbackout
+
+  -- nothing stands behind where all is as it was
+  not-behind : (h : B.Heard) → Behind u (on-bus h) h with → ⊥
+  not-behind sort.Length b = b
+  not-behind sort.Damaged b = b
+  not-behind (sort.Cell target class header) b = longer (queueAt u (queueOf (u .limits) class)) (record { header = header; payload = payload }) b
+  not-behind (sort.Control unit) b = longer (u .side .controlout) bytes b
+  not-behind (sort.Loopback unit) b = longer (u .side .loopbackout) bytes b
+
+  as-it-was : (h : B.Heard) (fate : Q.Hearing) → (fate ≡ hearing.Queued → ⊥) → HeldWith h fate with
+  as-it-was h fate n =
+      record {
+        queued = (λ e. absurd (n e), λ e. absurd (not-behind h e));
+        lost = λ e. record { queues = refl; controlout = refl; loopbackout = refl };
+        others = λ q s. refl;
+        control-kept = λ e. refl;
+        loopback-kept = λ e. refl;
+      }
 
   -- each fate
-  by-fate : (fate : Q.Hearing) → HeldIn fate (keeping fate u q x)
+  by-fate : (h : B.Heard) → HeldWith h hearing.Queued (placing with (on-bus h) h) → (fate : Q.Hearing) → HeldWith h fate (keeping fate with (on-bus h))
   unfolding keeping
-  by-fate hearing.Damaged = as-it-was hearing.Damaged (λ e. let z : _≡_ {A = ℕ} 0 1 = cc in omega arith)
-  by-fate hearing.Other = as-it-was hearing.Other (λ e. let z : _≡_ {A = ℕ} 0 1 = cc in omega arith)
-  by-fate hearing.Wide = as-it-was hearing.Wide (λ e. let z : _≡_ {A = ℕ} 0 1 = cc in omega arith)
-  by-fate hearing.Full = as-it-was hearing.Full (λ e. let z : _≡_ {A = ℕ} 0 1 = cc in omega arith)
-  by-fate hearing.Clp = as-it-was hearing.Clp (λ e. let z : _≡_ {A = ℕ} 0 1 = cc in omega arith)
-  by-fate hearing.Queued = (
-    (λ e. getD-set-same (u .queues) q (queueAt u q ++ (x ∷ [])) [] (omega arith), λ e. refl),
-    λ n. absurd (n refl),
-    λ p apart. getD-set-other (u .queues) q p (queueAt u q ++ (x ∷ [])) [] apart,
-    refl,
-  )
+  by-fate h kept hearing.Damaged = as-it-was h hearing.Damaged (λ e. let z : _≡_ {A = ℕ} 0 1 = cc in omega arith)
+  by-fate h kept hearing.Other = as-it-was h hearing.Other (λ e. let z : _≡_ {A = ℕ} 0 1 = cc in omega arith)
+  by-fate h kept hearing.Wide = as-it-was h hearing.Wide (λ e. let z : _≡_ {A = ℕ} 0 1 = cc in omega arith)
+  by-fate h kept hearing.Full = as-it-was h hearing.Full (λ e. let z : _≡_ {A = ℕ} 0 1 = cc in omega arith)
+  by-fate h kept hearing.Clp = as-it-was h hearing.Clp (λ e. let z : _≡_ {A = ℕ} 0 1 = cc in omega arith)
+  by-fate h kept hearing.Queued = kept
 
--- what a unit is when it has heard, but for its inlet
-copy-held : (lines : List Line) (u : D·Unit) → length (u .queues) ≡ 4 → (h : B.Heard) (bytes : List ℕ) →
-    CopyHeld lines u h bytes (hearingUnit lines u h bytes) × (hearingUnit lines u h bytes .inlet ≡ u .inlet)
-unfolding hearingUnit hearingOf
-copy-held lines u wide sort.Length bytes = (
-  record { queued = (λ e. let z : _≡_ {A = ℕ} 0 1 = cc in absurd (omega arith), λ s. absurd s); lost = λ e. refl; others = λ q s. refl },
-  refl,
-)
-copy-held lines u wide sort.Damaged bytes = (
-  record { queued = (λ e. let z : _≡_ {A = ℕ} 0 1 = cc in absurd (omega arith), λ s. absurd s); lost = λ e. refl; others = λ q s. refl },
-  refl,
-)
-copy-held lines u wide (sort.Cell target class header) bytes =
-    let b = by-fate u wide (queueOf (u .limits) class) (queue-lt (u .limits) class) (record { header = header; payload = bytes }) (hearingOf lines u (sort.Cell target class header)) in
-    (record { queued = b .0; lost = b .1; others = b .2 }, b .3)
-
--- the inlet has no part in it
-inlet-apart : (lines : List Line) (u : D·Unit) (waiting : List Routed) (t : T.Target) → addressed lines (withInlet u waiting) t ≡ addressed lines u t
-unfolding addressed
-inlet-apart lines u waiting (target.Unit number) = refl
-inlet-apart lines u waiting (target.Session session) = refl
-inlet-apart lines u waiting target.All = refl
-
--- so a copy is held in the same way whatever waits there
-copy-apart : (lines : List Line) (u : D·Unit) → length (u .queues) ≡ 4 → (waiting : List Routed) (r : Routed) →
-    CopyHeld lines u (asHeard r) (r .cell .payload) (hearingUnit lines (withInlet u waiting) (asHeard r) (r .cell .payload))
-    × (hearingUnit lines (withInlet u waiting) (asHeard r) (r .cell .payload) .inlet ≡ waiting)
-unfolding hearingOf fateIn
-copy-apart lines u wide waiting r =
-    let b = copy-held lines (withInlet u waiting) wide (asHeard r) (r .cell .payload) in
-    let same : hearingOf lines (withInlet u waiting) (asHeard r) ≡ hearingOf lines u (asHeard r) =
-    λ t. cond (inlet-apart lines u waiting (r .target) t) (fateIn u (queueOf (u .limits) (r .class)) (r .cell .header)) hearing.Other in (
+  -- a queued copy, of each kind
+  data-behind : (target : _) (class header : ℕ) → HeldWith (sort.Cell target class header) hearing.Queued (placing with (on-bus (sort.Cell target class header)) (sort.Cell target class header))
+  unfolding placing
+  data-behind target class header =
+      let q = queueOf (u .limits) class in
+      let now = queueAt u q ++ (record { header = header; payload = payload } ∷ []) in
+      let few = queue-lt (u .limits) class in
       record {
-        queued = (λ e. b .0 .queued .0 (same ∙ e), λ s. sym same ∙ b .0 .queued .1 s);
-        lost = λ n. b .0 .lost (λ e. n (sym same ∙ e));
-        others = b .0 .others;
-      },
-      b .1,
-    )
+        queued = (λ e. getD-set-same (u .queues) q now [] (omega arith), λ e. refl);
+        lost = λ n. absurd (n refl);
+        others = λ p apart. getD-set-other (u .queues) q p now [] apart;
+        control-kept = λ e. refl;
+        loopback-kept = λ e. refl;
+      }
 
--- 3. the events
+  control-behind : (unit : ℕ) → HeldWith (sort.Control unit) hearing.Queued (placing with (on-bus (sort.Control unit)) (sort.Control unit))
+  unfolding placing
+  control-behind unit =
+      record { queued = (λ e. refl, λ e. refl); lost = λ n. absurd (n refl); others = λ p s. refl; control-kept = λ e. absurd (e unit refl); loopback-kept = λ e. refl }
+
+  loopback-behind : (unit : ℕ) → HeldWith (sort.Loopback unit) hearing.Queued (placing with (on-bus (sort.Loopback unit)) (sort.Loopback unit))
+  unfolding placing
+  loopback-behind unit =
+      record { queued = (λ e. refl, λ e. refl); lost = λ n. absurd (n refl); others = λ p s. refl; control-kept = λ e. refl; loopback-kept = λ e. absurd (e unit refl) }
+
+  -- so of whatever is heard, with the fate that the unit itself would give it
+  held-with : (h : B.Heard) → HeldWith h (hearingOf lines u h) (hearingUnit lines with (on-bus h))
+  unfolding hearingOf fateIn keeping
+  held-with sort.Length = as-it-was sort.Length hearing.Damaged (λ e. let z : _≡_ {A = ℕ} 0 1 = cc in omega arith)
+  held-with sort.Damaged = as-it-was sort.Damaged hearing.Damaged (λ e. let z : _≡_ {A = ℕ} 0 1 = cc in omega arith)
+  held-with (sort.Cell target class header) =
+      let h = sort.Cell target class header in
+      let same : hearingOf lines with h ≡ hearingOf lines u h = ap (λ b. cond b (fateIn u (queueOf (u .limits) class) header) hearing.Other) (same-address lines with u target refl) in
+      subst (λ f. HeldWith h f (hearingUnit lines with (on-bus h))) same (by-fate h (data-behind target class header) (hearingOf lines with h))
+  held-with (sort.Control unit) = by-fate (sort.Control unit) (control-behind unit) (hearingOf lines u (sort.Control unit))
+  held-with (sort.Loopback unit) = by-fate (sort.Loopback unit) (loopback-behind unit) (hearingOf lines u (sort.Loopback unit))
+
+  copy-with : (h : B.Heard) → CopyHeld lines u (on-bus h) (hearingUnit lines with (on-bus h))
+  copy-with h = let k = held-with h in record { queued = k .queued; lost = k .lost; others = k .others; control = k .control-kept; loopback = k .loopback-kept }
+
+-- a unit that hears, and the sender, without the cell that it sends
+copy-held : (lines : List Line) (u : D·Unit) → length (u .queues) ≡ 4 → (x : OnBus) → CopyHeld lines u x (hearingUnit lines u x)
+copy-held lines u wide x = copy-with lines u wide (u .inlet) (u .side .controlin) (u .side .loopbackin) (x .payload) (x .bytes) (x .heard)
+
+copy-sent : (lines : List Line) (u : D·Unit) → length (u .queues) ≡ 4 → (f : From) (x : OnBus) → CopyHeld lines u x (hearingUnit lines (without f u) x)
+unfolding without
+copy-sent lines u wide (from-inlet r rest) x = copy-with lines u wide rest (u .side .controlin) (u .side .loopbackin) (x .payload) (x .bytes) (x .heard)
+copy-sent lines u wide (from-control c rest) x = copy-with lines u wide (u .inlet) rest (u .side .loopbackin) (x .payload) (x .bytes) (x .heard)
+copy-sent lines u wide (from-loopback c rest) x = copy-with lines u wide (u .inlet) (u .side .controlin) rest (x .payload) (x .bytes) (x .heard)
+
+-- what waits is as it was
+still-waits : (lines : List Line) (u : D·Unit) (x : OnBus) → SameInlets u (hearingUnit lines u x)
+still-waits lines u x =
+    let w = heard-waits lines u x in
+    record { inlet = ap (λ (w : Waiting). w .inlet) w; controlin = ap (λ (w : Waiting). w .control) w; loopbackin = ap (λ (w : Waiting). w .loopback) w }
+
+-- 3. whose turn it is, is chosen
+pub is-chosen : (u : D·Unit) (f : From) → InTurn u f → chosenOf u ≡ some f
+unfolding chosen
+is-chosen u (from-inlet r rest) e = ap (λ l. chosen l (u .side .controlin) (u .side .loopbackin)) e
+is-chosen u (from-control c rest) e = λ t. chosen (e .0 t) (e .1 t) (u .side .loopbackin)
+is-chosen u (from-loopback c rest) e = λ t. chosen (e .0 t) (e .1 t) (e .2 t)
+
+-- the unit with the open grant stands where it stood when the cells have moved
+pub found-moved : (d : Shelf) (n place : ℕ) → findIn (d .units) n ≡ found.At place → findIn (moved d .units) n ≡ found.At place
+found-moved d n place there = ap (λ l. placeFrom 0 l n) (numbers-moved (d .units)) ∙ there
+
+-- 4. the events
 module _ (d : Shelf) (fours : (j : ℕ) → length (unitAt d j .queues) ≡ 4) where
   arrives : (unit place : ℕ) (c : List ℕ) → findIn (d .units) unit ≡ found.At place → length c ≡ 53 →
-      ArrivalHeld (d .lines) (unitAt d place) c (unitAfter d (arrive unit c) place) × ((j : ℕ) → j ≢ place → unitAfter d (arrive unit c) j ≡ unitAt d j)
+      ArrivalHeld (d .lines) (unitAt d place) c (unitAfter d (arrive unit c) place) × Others d (arrive unit c) place
   unfolding happensTo admitted arrived
   arrives unit place c there whole =
       let u = unitAt d place in
@@ -189,65 +241,121 @@ module _ (d : Shelf) (fours : (j : ℕ) → length (unitAt d j .queues) ≡ 4) w
 
   -- a frame handed in
   hears-one : (unit place : ℕ) (f : List ℕ) → findIn (d .units) unit ≡ found.At place → length f ≡ 57 →
-      CopyHeld (d .lines) (unitAt d place) (heard f) (payload f) (unitAfter d (hear unit f) place)
-      × (unitAfter d (hear unit f) place .inlet ≡ unitAt d place .inlet)
-      × ((j : ℕ) → j ≢ place → unitAfter d (hear unit f) j ≡ unitAt d j)
+      CopyHeld (d .lines) (unitAt d place) (asHanded f) (unitAfter d (hear unit f) place)
+      × SameInlets (unitAt d place) (unitAfter d (hear unit f) place)
+      × Others d (hear unit f) place
   unfolding happensTo admitted handedIn
   hears-one unit place f there whole =
       let u = unitAt d place in
-      let v = hearingUnit (d .lines) u (heard f) (payload f) in
+      let v = hearingUnit (d .lines) u (asHanded f) in
       let same = sym (getD-set-same (d .units) place v blank (found-at (d .units) unit place there .0)) in
-      let b = copy-held (d .lines) u (fours place) (heard f) (payload f) in
-      rw (there, eq-eqb (length f) 57 whole)
-      (subst (CopyHeld (d .lines) u (heard f) (payload f)) same (b .0), subst (λ x. x .inlet ≡ u .inlet) same (b .1), λ j apart. getD-set-other (d .units) place j v blank apart)
+      rw (there, eq-eqb (length f) 57 whole) (
+        subst (CopyHeld (d .lines) u (asHanded f)) same (copy-held (d .lines) u (fours place) (asHanded f)),
+        subst (SameInlets u) same (still-waits (d .lines) u (asHanded f)),
+        λ j apart. getD-set-other (d .units) place j v blank apart,
+      )
 
-  -- the units once the oldest cell has left the sender's inlet
-  module _ (place : ℕ) (r : Routed) (rest : List Routed) where
-    abbrev left : List D·Unit
-    left = set (d .units) place (withInlet (unitAt d place) rest)
-
-    -- each unit when it has heard
-    after-is : (j : ℕ) → j < length (d .units) → getD (allHear (d .lines) left r) j blank ≡ hearingUnit (d .lines) (getD left j blank) (asHeard r) (r .cell .payload)
-    after-is j h =
-        let f : D·Unit → D·Unit = λ u. hearingUnit (d .lines) u (asHeard r) (r .cell .payload) in
-        let l = length-map f left in
-        let m = length-set (d .units) place (withInlet (unitAt d place) rest) in
-        getD-any (map f left) j blank (f blank) (omega arith) ∙ List·getD-map f left j blank
-
-  -- a frame on the bus
-  pub hears-all : (buffer : List ℕ) (place : ℕ) (r : Routed) (rest : List Routed) → length buffer ≡ 57 → findIn (d .units) (d .granted) ≡ found.At place →
-      unitAt d place .inlet ≡ r ∷ rest → (j : ℕ) → j < length (d .units) →
-      CopyHeld (d .lines) (unitAt d j) (asHeard r) (r .cell .payload) (unitAfter d (frame buffer) j)
-      × (j ≢ place → unitAfter d (frame buffer) j .inlet ≡ unitAt d j .inlet)
-      × (j ≡ place → unitAfter d (frame buffer) j .inlet ≡ rest)
-  unfolding happensTo sends sendsFrom
-  hears-all buffer place r rest whole there oldest j h =
-      let now = after-is place r rest j h in
-      rw (eq-eqb (length buffer) 57 whole, there, oldest)
-      (decide (eqb j place)
-      (λ t.
-      let e = eqb-true j place t in
-      let is : getD (left place r rest) j blank ≡ withInlet (unitAt d j) rest =
-      ap (λ k. getD (left place r rest) k blank) e ∙ getD-set-same (d .units) place (withInlet (unitAt d place) rest) blank (found-at (d .units) (d .granted) place there .0)
-      ∙ ap (λ k. withInlet (unitAt d k) rest) (sym e) in
-      told j rest (now ∙ ap (λ u. hearingUnit (d .lines) u (asHeard r) (r .cell .payload)) is) (λ n. absurd (n e)) (λ y. refl))
-      (λ t.
-      let e = eqb-false j place t in
-      let is : getD (left place r rest) j blank ≡ unitAt d j = getD-set-other (d .units) place j (withInlet (unitAt d place) rest) blank e in
-      told j (unitAt d j .inlet) (now ∙ ap (λ u. hearingUnit (d .lines) u (asHeard r) (r .cell .payload)) is) (λ n. refl) (λ y. absurd (e y))))
+  -- a cell handed in, by what stands in its place
+  hands-in : (unit place : ℕ) (c : List ℕ) → findIn (d .units) unit ≡ found.At place → length c ≡ 56 →
+      HandHeld (unitAt d place) c (happensTo d (hand unit c) .said) (unitAfter d (hand unit c) place) × Others d (hand unit c) place
+  unfolding happensTo admitted handsInto
+  hands-in unit place c there whole = rw (there, eq-eqb (length c) 56 whole) (go (unitAt d place .side .controlin) refl)
     where
-      told : (j : ℕ) (waiting : List Routed) {v : D·Unit} → v ≡ hearingUnit (d .lines) (withInlet (unitAt d j) waiting) (asHeard r) (r .cell .payload) →
-          (j ≢ place → waiting ≡ unitAt d j .inlet) → (j ≡ place → waiting ≡ rest) →
-          CopyHeld (d .lines) (unitAt d j) (asHeard r) (r .cell .payload) v × (j ≢ place → v .inlet ≡ unitAt d j .inlet) × (j ≡ place → v .inlet ≡ rest)
-      told j waiting e other own =
-          let b = copy-apart (d .lines) (unitAt d j) (fours j) waiting r in
-          let i = ap (λ x. x .inlet) e ∙ b .1 in
-          (subst (CopyHeld (d .lines) (unitAt d j) (asHeard r) (r .cell .payload)) (sym e) (b .0), λ n. i ∙ other n, λ y. i ∙ own y)
+      go : (cells : List (List ℕ)) → unitAt d place .side .controlin ≡ cells →
+          HandHeld (unitAt d place) c (answers (handsInto cells d place c .answer)) (unitAt (handsInto cells d place c .shelf) place)
+          × ((j : ℕ) → j ≢ place → unitAt (handsInto cells d place c .shelf) j ≡ unitAt d j)
+      go [] e =
+          let v = withControlIn (unitAt d place) (c ∷ []) in (
+            subst (HandHeld (unitAt d place) c (answers Handed)) (sym (getD-set-same (d .units) place v blank (found-at (d .units) unit place there .0)))
+                (record {
+                  taken = (λ q. sym (ap (λ l. l ++ (c ∷ [])) e), λ q. refl);
+                  free = (λ q. e, λ q. refl);
+                  busy = λ n. absurd (n refl);
+                  only = refl;
+                }),
+            λ j apart. getD-set-other (d .units) place j v blank apart,
+          )
+      go (b ∷ others) e = (
+        record {
+          taken = (λ q. let z : _≡_ {A = ℕ} 0 1 = cc in absurd (omega arith), λ q. absurd (longer (unitAt d place .side .controlin) c q));
+          free = (λ q. let z : _≡_ {A = ℕ} 0 1 = cc in absurd (omega arith), λ q. let z : _≡_ {A = ℕ} 0 1 = cc in absurd (omega arith));
+          busy = λ n. (refl, refl);
+          only = refl;
+        },
+        λ j apart. refl,
+      )
+
+  -- a cell collected, by what stands in the outlet
+  collects-one : (unit place : ℕ) (buffer : List ℕ) → findIn (d .units) unit ≡ found.At place → length buffer ≡ 56 →
+      CollectHeld (unitAt d place) buffer (happensTo d (collect unit buffer) .said) (happensTo d (collect unit buffer) .bytes) (unitAfter d (collect unit buffer) place)
+      × Others d (collect unit buffer) place
+  unfolding happensTo admitted collectsFrom
+  collects-one unit place buffer there whole = rw (there, eq-eqb (length buffer) 56 whole) (go (unitAt d place .side .controlout) refl)
+    where
+      go : (cells : List (List ℕ)) → unitAt d place .side .controlout ≡ cells →
+          CollectHeld (unitAt d place) buffer (answers (collectsFrom cells d place buffer .answer)) (collectsFrom cells d place buffer .bytes) (unitAt (collectsFrom cells d place buffer .shelf) place)
+          × ((j : ℕ) → j ≢ place → unitAt (collectsFrom cells d place buffer .shelf) j ≡ unitAt d j)
+      go [] e = (
+        record {
+          oldest = (λ q. let z : _≡_ {A = ℕ} 0 1 = cc in absurd (omega arith), λ q. absurd (shorter (unitAt d place .side .controlout) buffer q));
+          empty = λ n. (refl, e, refl, refl);
+          only = refl;
+        },
+        λ j apart. refl,
+      )
+      go (c ∷ rest) e =
+          let v = withControlOut (unitAt d place) rest in (
+            subst (CollectHeld (unitAt d place) buffer (answers Taken) c) (sym (getD-set-same (d .units) place v blank (found-at (d .units) unit place there .0)))
+                (record { oldest = (λ q. e, λ q. refl); empty = λ n. absurd (n refl); only = refl }),
+            λ j apart. getD-set-other (d .units) place j v blank apart,
+          )
+
+  -- a frame on the bus: what each unit does in it
+  module _ (buffer : List ℕ) (place : ℕ) (f : From) (whole : length buffer ≡ 57) (there : findIn (d .units) (d .granted) ≡ found.At place) (turn : InTurn (movedUnit (unitAt d place)) f) where
+    pub part-is : (j : ℕ) → partOf d (frame buffer) j ≡ moves (cond (eqb j place) (sends f) (hears (cellOf f)))
+    unfolding partOf sendingBy sending
+    part-is j =
+        ap (λ x. cond x (moves (turnOf (moved d) j)) rests) (eq-eqb (length buffer) 57 whole)
+        ∙ ap (λ g. moves (sendingBy g (moved d) j)) (found-moved d (d .granted) place there)
+        ∙ ap (λ o. moves (sending o place j)) (ap chosenOf (moved-unit (d .units) place) ∙ is-chosen (movedUnit (unitAt d place)) f turn)
+
+    after-is : (j : ℕ) → j < length (d .units) → unitAfter d (frame buffer) j ≡ unitBy (d .lines) (movedUnit (unitAt d j)) (cond (eqb j place) (sends f) (hears (cellOf f)))
+    unfolding unitBy
+    after-is j h = does d (frame buffer) j h .unit ∙ ap (unitBy (d .lines) (unitAt d j)) (part-is j)
+
+    moved-four : (j : ℕ) → length (movedUnit (unitAt d j) .queues) ≡ 4
+    moved-four j = ap length (moved-by (λ v. v .queues) (unitAt d j) (λ back out. refl)) ∙ fours j
+
+    pub hears-all : (j : ℕ) → j < length (d .units) →
+        CopyHeld (d .lines) (movedUnit (unitAt d j)) (cellOf f) (unitAfter d (frame buffer) j)
+        × (j ≢ place → SameInlets (movedUnit (unitAt d j)) (unitAfter d (frame buffer) j))
+        × (j ≡ place → SameInlets (without f (movedUnit (unitAt d j))) (unitAfter d (frame buffer) j))
+    unfolding unitBy
+    hears-all j h =
+        let u = movedUnit (unitAt d j) in
+        decide (eqb j place)
+        (λ t.
+        let is : unitAfter d (frame buffer) j ≡ hearingUnit (d .lines) (without f u) (cellOf f) = after-is j h ∙ ap (λ b. unitBy (d .lines) u (cond b (sends f) (hears (cellOf f)))) t in (
+          subst (CopyHeld (d .lines) u (cellOf f)) (sym is) (copy-sent (d .lines) u (moved-four j) f (cellOf f)),
+          λ n. absurd (n (eqb-true j place t)),
+          λ y. subst (SameInlets (without f u)) (sym is) (still-waits (d .lines) (without f u) (cellOf f)),
+        ))
+        (λ t.
+        let is : unitAfter d (frame buffer) j ≡ hearingUnit (d .lines) u (cellOf f) = after-is j h ∙ ap (λ b. unitBy (d .lines) u (cond b (sends f) (hears (cellOf f)))) t in (
+          subst (CopyHeld (d .lines) u (cellOf f)) (sym is) (copy-held (d .lines) u (moved-four j) (cellOf f)),
+          λ n. subst (SameInlets u) (sym is) (still-waits (d .lines) u (cellOf f)),
+          λ y. absurd (eqb-false j place t y),
+        ))
 
 -- from a good load on each unit has four queues
 pub held-means-held : HeldMeansHeld
 held-means-held =
     from-load Holds
-    (λ card w d a full.
-    let fours = four-queues card w d a in
-    record { arrived = arrives d fours; heard-one = hears-one d fours; heard-all = hears-all d fours })
+    (λ d s.
+    record {
+      arrived = arrives d (s .fours);
+      heard-one = hears-one d (s .fours);
+      heard-all = λ buffer place f whole there turn. hears-all d (s .fours) buffer place f whole there turn;
+      handed = hands-in d (s .fours);
+      collected = collects-one d (s .fours);
+    })

@@ -1,6 +1,7 @@
 pub mod Isolated
 pub mod Fated
 pub mod Damages
+pub mod Standing
 pub mod Loads
 pub mod Holding
 pub mod Copying

@@ -11,6 +11,7 @@ use Rattle.paper.specs.Cells.{Damaged}
 use Rattle.document.specs.Shelf.{Unit as D·Unit}
 use Rattle.document.specs.Hearing.{hearingOf}
 
--- "Bad parity, bad check, kind 3, unicast above 31 or broadcast address not 0 is `damaged`.": at every unit, and nothing else is
+-- "Bad parity, bad check, unicast above 31 or broadcast address not 0 is `damaged`", and of kind 3 "another class, or an address above 31", and of a loopback cell "a tandem byte above
+-- 31": at every unit, and nothing else is
 abbrev pub DamagedIff : Type 0
 DamagedIff = (lines : List Line) (u : D·Unit) (f : List ℕ) → length f ≡ 57 → (hearingOf lines u (heard f) ≡ hearing.Damaged) ↔ Damaged f

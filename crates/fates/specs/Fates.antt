@@ -88,11 +88,14 @@ Addressed lines u (target.Unit number) = numberOf u ≡ number
 Addressed lines u (target.Session session) = In (Mc (numberOf u) session) lines
 Addressed lines u target.All = Unit {0}
 
--- what is heard is a sound frame, and this holds of its target, class and header
-abbrev pub SoundWith : B.Heard → (T.Target → ℕ → ℕ → Type 0) → Type 0
-SoundWith frame.Length P = ⊥
-SoundWith frame.Damaged P = ⊥
-SoundWith (frame.Cell target class header) P = P target class header
+-- what is heard is a sound frame: the first holds of a data cell's target, class and header; the second of a control or a loopback cell's unit, of what stands in the outlet that is for
+-- it and of how many cells that outlet takes: "a four-cell control outlet and a one-cell loopback outlet"
+abbrev pub SoundWith : D·Unit → B.Heard → (T.Target → ℕ → ℕ → Type 0) → (ℕ → List (List ℕ) → ℕ → Type 0) → Type 0
+SoundWith u frame.Length P Q = ⊥
+SoundWith u frame.Damaged P Q = ⊥
+SoundWith u (frame.Cell target class header) P Q = P target class header
+SoundWith u (frame.Control unit) P Q = Q unit (u .side .controlout) 4
+SoundWith u (frame.Loopback unit) P Q = Q unit (u .side .loopbackout) 1
 
 -- addressed, and not "VPI above 255 at a UNI unit"
 pub record Fits (lines : List Line) (u : D·Unit) (target : T.Target) (header : ℕ) : Type 0 where
@@ -110,20 +113,25 @@ abbrev pub heldOf : D·Unit → ℕ → ℕ
 heldOf u class = held u (queueOf (u .limits) class)
 
 -- "Bad parity .. is `damaged`. Not addressed: `other` .. Then: VPI above 255 at a UNI unit, `wide`; queue at capacity, `full`; CLP 1 and the queue at
--- its limit or above, `clp`; else `queued`."
+-- its limit or above, `clp`; else `queued`." Of control and loopback cells 02: "`full` if taken", "Neither cell meets `wide` or `clp`."
 abbrev pub HearingIs : List Line → D·Unit → B.Heard → Q.Hearing → Type 0
-HearingIs lines u h hearing.Damaged = SoundWith h (λ target class header. Unit {0}) → ⊥
-HearingIs lines u h hearing.Other = SoundWith h (λ target class header. Addressed lines u target → ⊥)
-HearingIs lines u h hearing.Wide = SoundWith h (λ target class header. Addressed lines u target × TooWide (u .settings .link) header)
-HearingIs lines u h hearing.Full = SoundWith h (λ target class header. Fits lines u target header × (room u class ≤ heldOf u class))
+HearingIs lines u h hearing.Damaged = SoundWith u h (λ target class header. Unit {0}) (λ unit cells most. Unit {0}) → ⊥
+HearingIs lines u h hearing.Other = SoundWith u h (λ target class header. Addressed lines u target → ⊥) (λ unit cells most. numberOf u ≡ unit → ⊥)
+HearingIs lines u h hearing.Wide = SoundWith u h (λ target class header. Addressed lines u target × TooWide (u .settings .link) header) (λ unit cells most. ⊥)
+HearingIs lines u h hearing.Full =
+    SoundWith u h
+    (λ target class header. Fits lines u target header × (room u class ≤ heldOf u class))
+    (λ unit cells most. (numberOf u ≡ unit) × (most ≤ length cells))
 HearingIs lines u h hearing.Clp =
-    SoundWith h
+    SoundWith u h
     (λ target class header.
     Fits lines u target header × (heldOf u class < room u class) × (busClp header ≡ 1) × (limitOf u class ≤ heldOf u class))
+    (λ unit cells most. ⊥)
 HearingIs lines u h hearing.Queued =
-    SoundWith h
+    SoundWith u h
     (λ target class header.
     Fits lines u target header × (heldOf u class < room u class) × (busClp header ≡ 1 → heldOf u class < limitOf u class))
+    (λ unit cells most. (numberOf u ≡ unit) × (length cells < most))
 
 -- each fate exactly when its fact holds
 abbrev pub ArrivalFateIff : Type 0

@@ -34,11 +34,15 @@ pub record OnlyAt (place : ℕ) (before after : World) : Type 0 where
   pub granted : after .shelf .granted ≡ before .shelf .granted
   pub frame : after .shelf .frame ≡ before .shelf .frame
 
--- of the bytes of the state none has changed but those of the unit's rings, in its place of the columns from 14 on
-abbrev pub OnlyRings : ℕ → List ℕ → List ℕ → Type 0
-OnlyRings place before after = (k : ℕ) → (448 ≤ k → k < 768 → k % 32 ≡ place → ⊥) → getD after k 0 ≡ getD before k 0
+-- the columns that say what a unit holds: 14 to 23 of its inlet and its queues, 26 to 30 of its places for control and loopback cells
+abbrev pub Rings : ℕ → Type 0
+Rings k = ((448 ≤ k) × (k < 768)) ⊎ ((832 ≤ k) × (k < 992))
 
--- Arrive, hear, take and count change no other unit, no other row and no byte of another part of the store, whatever the state, sound or not, and
+-- of the bytes of the state none has changed but those, in the unit's place
+abbrev pub OnlyRings : ℕ → List ℕ → List ℕ → Type 0
+OnlyRings place before after = (k : ℕ) → (Rings k → k % 32 ≡ place → ⊥) → getD after k 0 ≡ getD before k 0
+
+-- Arrive, hear, take, count, hand and collect change no other unit, no other row and no byte of another part of the store, whatever the state, sound or not, and
 -- whatever the event is handed; "9 Unit: unit not declared", "Refusals 8 to 10 .. change nothing"
 abbrev pub Isolation : Type 0
 Isolation =

@@ -19,18 +19,18 @@ use Rattle.answer.specs.declared.Hearing.the-variants as hearing
 use Rattle.answer.specs.Answers.{queuedOne}
 use Rattle.paper.specs.Counters.{placeOf, occurs}
 use Rattle.document.specs.Counters.{times}
-use Rattle.document.specs.Events.{Event, arrive, frame, hear, take-cell, count, named}
-use Rattle.document.specs.Shelf.{Cell, Routed, Unit, Shelf, numberOf, withInlet, findIn, unitAt, opened}
+use Rattle.document.specs.Events.{Event, arrive, frame, hear, take-cell, count, hand, collect, named}
+use Rattle.document.specs.Shelf.{Cell, Routed, Unit, Shelf, numberOf, findIn, unitAt, opened}
 use Rattle.document.specs.Arrival.{Way, goes, lost, wayOf}
 use Rattle.document.specs.Hearing.{addressed, fateIn, hearingOf}
-use Rattle.document.specs.Frame.{asHeard}
+use Rattle.document.specs.Frame.{movedUnit}
 use Rattle.document.specs.Steps.{happensTo}
 use Rattle.document.proofs.Fixed.{given-kept}
-use Rattle.flow.specs.Parts.{Part, rests, arrives, hears, takes, sends, onlyAt, partOf, among, roomFor, routedIn, routedBy, routedAt, broughtBy, broughtIn, copyIn, copyFor, queuedBy, queuedIn, meantBy, meantFor, countsBy}
-use Rattle.flow.specs.Order.{over, takenAll, sentAll}
+use Rattle.flow.specs.Parts.{From, from-inlet, from-control, from-loopback, cellOf, without, Part, rests, arrives, hears, takes, hands, collects, sends, moves, onlyAt, partOf, among, roomFor, routedIn, routedBy, routedAt, broughtBy, broughtIn, copyIn, copyFor, queuedBy, queuedIn, meantBy, meantFor, countsBy}
+use Rattle.flow.specs.Order.{over, takenAll, sentAll, controlSent, movedAll, collectedAll}
 use Rattle.flow.specs.Apart.{Isolation, OnceOnly}
 use Rattle.flow.proofs.Times.{found}
-use Rattle.flow.proofs.Turns.{does, unitBy, for-inlet}
+use Rattle.flow.proofs.Turns.{does, unitBy, same-address, number-without}
 use Rattle.flow.proofs.Kept.{number-at, in-order}
 
 -- a unit that is not named rests
@@ -52,6 +52,8 @@ rests-there d (frame buffer) unit i n other = let z : _≡_ {A = ℕ} 0 1 = cc i
 rests-there d (hear u f) unit i n other = let z : u ≡ unit = cc in not-named d u i (λ x. other (x ∙ z)) (findIn (d .units) u) refl (eqb (length f) 57) _
 rests-there d (take-cell u buffer) unit i n other = let z : u ≡ unit = cc in not-named d u i (λ x. other (x ∙ z)) (findIn (d .units) u) refl (eqb (length buffer) 53) takes
 rests-there d (count u) unit i n other = refl
+rests-there d (hand u c) unit i n other = let z : u ≡ unit = cc in not-named d u i (λ x. other (x ∙ z)) (findIn (d .units) u) refl (eqb (length c) 56) (hands c)
+rests-there d (collect u buffer) unit i n other = let z : u ≡ unit = cc in not-named d u i (λ x. other (x ∙ z)) (findIn (d .units) u) refl (eqb (length buffer) 56) collects
 
 -- so nothing of it changes
 pub isolation : Isolation
@@ -110,15 +112,20 @@ brought-routed : (test : Routed → Bool) (lines : List Line) (u : Unit) (p : Pa
 unfolding broughtBy routedBy
 brought-routed test lines u rests = omega arith
 brought-routed test lines u (arrives c) = room-routed test (wayOf lines (u .settings) c) u
-brought-routed test lines u (hears h bytes) = omega arith
+brought-routed test lines u (hears x) = omega arith
 brought-routed test lines u takes = omega arith
-brought-routed test lines u (sends r rest) = omega arith
+brought-routed test lines u (hands c) = omega arith
+brought-routed test lines u collects = omega arith
+brought-routed test lines u (sends f) = omega arith
+brought-routed test lines u (moves p) = brought-routed test lines (movedUnit u) p
 
 -- a queue takes no more than is meant for it
 copy-meant : (test : Cell → Bool) (lines : List Line) (u : Unit) (h : H.Heard) (bytes : List ℕ) (q : ℕ) → meet test (copyIn lines u h bytes q) ≤ meet test (copyFor lines u h bytes q)
 unfolding copyIn copyFor hearingOf queuedOne among
 copy-meant test lines u frames.Length bytes q = omega arith
 copy-meant test lines u frames.Damaged bytes q = omega arith
+copy-meant test lines u (frames.Control unit) bytes q = omega arith
+copy-meant test lines u (frames.Loopback unit) bytes q = omega arith
 copy-meant test lines u (frames.Cell target class header) bytes q = go (addressed lines u target) (fateIn u (queueOf (u .limits) class) header) (eqb q (queueOf (u .limits) class)) _
   where
     either : (a b : Bool) (cells : List Cell) → meet test (cond (a && b) cells []) ≤ meet test (cond b cells [])
@@ -129,16 +136,36 @@ copy-meant test lines u (frames.Cell target class header) bytes q = go (addresse
     go true fate b cells = either (eqb (queuedOne fate) 1) b cells
     go false fate b cells = omega arith
 
+-- what is meant for it goes by its number and its limits
+same-meant : (lines : List Line) (u v : Unit) (h : H.Heard) (bytes : List ℕ) (q : ℕ) → numberOf u ≡ numberOf v → u .limits ≡ v .limits → copyFor lines u h bytes q ≡ copyFor lines v h bytes q
+unfolding copyFor
+same-meant lines u v frames.Length bytes q n l = refl
+same-meant lines u v frames.Damaged bytes q n l = refl
+same-meant lines u v (frames.Cell target class header) bytes q n l =
+    λ t. cond (same-address lines u v target n t && eqb q (queueOf (l t) class)) (record { header = header; payload = bytes } ∷ []) []
+same-meant lines u v (frames.Control unit) bytes q n l = refl
+same-meant lines u v (frames.Loopback unit) bytes q n l = refl
+
+limits-without : (f : From) (u : Unit) → without f u .limits ≡ u .limits
+unfolding without
+limits-without (from-inlet r rest) u = refl
+limits-without (from-control c rest) u = refl
+limits-without (from-loopback c rest) u = refl
+
 -- whatever the part
 queued-meant : (test : Cell → Bool) (lines : List Line) (u : Unit) (p : Part) (q : ℕ) → meet test (queuedBy lines u p q) ≤ meet test (meantBy lines u p q)
-unfolding queuedBy meantBy copyFor
+unfolding queuedBy meantBy
 queued-meant test lines u rests q = omega arith
 queued-meant test lines u (arrives c) q = omega arith
-queued-meant test lines u (hears h bytes) q = copy-meant test lines u h bytes q
+queued-meant test lines u (hears x) q = copy-meant test lines u (x .heard) (x .payload) q
 queued-meant test lines u takes q = omega arith
-queued-meant test lines u (sends r rest) q =
-    subst (λ b. meet test (copyIn lines (withInlet u rest) (asHeard r) (r .cell .payload) q) ≤ meet test (cond (b && eqb q (queueOf (u .limits) (r .class))) (record { header = r .cell .header; payload = r .cell .payload } ∷ []) []))
-    (for-inlet lines u rest (r .target)) (copy-meant test lines (withInlet u rest) (asHeard r) (r .cell .payload) q)
+queued-meant test lines u (hands c) q = omega arith
+queued-meant test lines u collects q = omega arith
+queued-meant test lines u (sends f) q =
+    subst (λ cells. meet test (copyIn lines (without f u) (cellOf f .heard) (cellOf f .payload) q) ≤ meet test cells)
+    (same-meant lines (without f u) u (cellOf f .heard) (cellOf f .payload) q (number-without f u) (limits-without f u))
+    (copy-meant test lines (without f u) (cellOf f .heard) (cellOf f .payload) q)
+queued-meant test lines u (moves p) q = queued-meant test lines (movedUnit u) p q
 
 -- so over every sequence of events
 pub once-only : OnceOnly
@@ -150,4 +177,7 @@ once-only lines es i within =
           omega (arith, no-more test _ (sentAll d es i) _ (w .inlet), over-no-more test (λ x e. broughtIn x e i) (λ x e. routedAt x e i) (λ x e. brought-routed test (x .lines) (unitAt x i) (partOf x e i)) d es);
       copies = λ q test.
           omega (arith, no-more test _ (takenAll d es i q) _ (w .queues q), over-no-more test (λ x e. queuedIn x e i q) (λ x e. meantFor x e i q) (λ x e. queued-meant test (x .lines) (unitAt x i) (partOf x e i) q) d es);
+      controls = λ test. no-more test _ (controlSent d es i) _ (w .controlin);
+      collected = λ test. no-more test _ (collectedAll d es i) _ (w .controlout);
+      turned = λ test. no-more test _ (movedAll d es i) _ (w .loopbackout);
     }

@@ -1,4 +1,4 @@
--- Document 01's own table and events, computed: one cell goes into queue 2 of unit 3, in the second place, and is taken there. Assumes nothing.
+-- Computed: of document 01's own table and events, one cell goes into queue 2 of unit 3, in the second place, and is taken there; a loopback test of document 02. Assumes nothing.
 use mathlib.Core.Path.{_≡_, refl}
 use mathlib.Core.List.{[], _∷_}
 use lib.ListN.{replicate}
@@ -6,8 +6,8 @@ use Rattle.remainder.specs.Bits.{bits, number}
 use Rattle.remainder.specs.Division.{minus, divide, remainder, residue}
 use Rattle.header.specs.Fields.{fields, topOf, word}
 use Rattle.header.specs.Check.{check as header-check}
-use Rattle.bus.specs.Routing.{check as routing-check, upper, routing, address}
-use Rattle.bus.specs.Frame.{cell, exclusiveOr, sealed, heard}
+use Rattle.bus.specs.Routing.{check as routing-check, upper, routing, controlling, address}
+use Rattle.bus.specs.Frame.{cell, exclusiveOr, sealed, third as third-kind, carried, heard, returned}
 use Rattle.outlet.specs.Outlets.{capacity}
 use Rattle.outlet.specs.Hearing.{queueOf, limit, tooWide}
 use Rattle.outlet.specs.Taking.{lowest, marked, outgoing}
@@ -21,18 +21,25 @@ use Rattle.paper.specs.Counters.{arrivalCounts, hearingCounts, sentCounts}
 use Rattle.document.specs.Counters.{times}
 use Rattle.document.specs.Shelf.{Cell, unitsOf, busOf, opened}
 use Rattle.document.specs.Arrival.{wayBy, wayFor, wayOf, arrivalBy, inletBy, arrived}
-use Rattle.document.specs.Hearing.{addressed, fateIn, hearingOf, keeping, hearingUnit, handedIn}
-use Rattle.document.specs.Frame.{askingOf, copies, someAddressed, heardEntries, sendsFrom, sends}
+use Rattle.document.specs.Hearing.{addressed, fateIn, roomIn, hearingOf, placing, keeping, handedIn}
+use Rattle.document.specs.Frame.{movingFrom, movedBy, movedEntries, askingOf, copies, someAddressed, heardEntries, sendingFrom, sendsOne, sends}
 use Rattle.document.specs.Take.{congested, takesFrom, takesBy}
+use Rattle.document.specs.Processor.{handsInto, collectsFrom}
 use Rattle.document.specs.Steps.{admitted, happensTo}
 use Rattle.document.specs.Examples.{table, events}
-use Rattle.flow.specs.Parts.{onlyAt, sending, sendingBy, partOf, copyIn, queuedBy, oldestIn, takenBy}
-use Rattle.flow.specs.Order.{over, queuedAll, takenAll}
+use Rattle.document.specs.Cases.{table as cases-table, third, test}
+use Rattle.flow.specs.Parts.{chosen, cellOf, without, onlyAt, sending, sendingBy, partOf, handedBy, movedFrom, outBy, ofOut, controlIn, loopbackIn, copyIn, queuedBy, controlCopy, controlsBy, loopbackCopy, loopbacksBy, oldestIn, takenBy, collectedBy}
+use Rattle.flow.specs.Order.{over, queuedAll, takenAll, controlSent, movedAll, loopbackSent, collectedAll}
 
 -- VPI 9, VCI 40
 abbrev printed : Cell
 printed = record { header = 0x00900280; payload = replicate 48 0xa5 }
 
 pub listed : (queuedAll (opened table) events 1 2 ≡ printed ∷ []) × (takenAll (opened table) events 1 2 ≡ printed ∷ [])
-unfolding bits number minus divide remainder residue fields topOf word header-check routing-check upper routing address cell exclusiveOr sealed heard capacity queueOf limit tooWide lowest marked outgoing asking due renewedFrom run cyclic next someAsks highest first granted placeFrom hearsBy hearsIn serves served lineCell times arrivalCounts hearingCounts sentCounts unitsOf busOf wayBy wayFor wayOf arrivalBy inletBy arrived addressed fateIn hearingOf keeping hearingUnit handedIn askingOf queuedOne isAddressed copies someAddressed heardEntries sendsFrom sends congested takesFrom takesBy admitted happensTo table events onlyAt sending sendingBy partOf copyIn queuedBy oldestIn takenBy over
+unfolding bits number minus divide remainder residue fields topOf word header-check routing-check upper routing controlling third-kind address cell exclusiveOr sealed carried heard returned capacity queueOf limit tooWide lowest marked outgoing asking due renewedFrom run cyclic next someAsks highest first granted placeFrom hearsBy hearsIn serves served lineCell times arrivalCounts hearingCounts sentCounts unitsOf busOf wayBy wayFor wayOf arrivalBy inletBy arrived addressed fateIn roomIn hearingOf placing keeping handedIn movingFrom movedBy movedEntries askingOf queuedOne isAddressed copies someAddressed heardEntries sendingFrom sendsOne sends congested takesFrom takesBy handsInto collectsFrom admitted happensTo table events chosen cellOf without onlyAt sending sendingBy partOf copyIn queuedBy oldestIn takenBy over
 listed = (refl, refl)
+
+-- 02's loopback test of unit 3 from unit 0: the cell handed in is sent, moves at unit 3, is sent from there as a control cell for unit 0, and is collected
+pub tested : (controlSent (opened cases-table) test 0 ≡ third 1 3 0x00a5 ∷ []) × (movedAll (opened cases-table) test 1 ≡ third 1 3 0x00a5 ∷ []) × (loopbackSent (opened cases-table) test 1 ≡ third 0 0 0x00a5 ∷ []) × (collectedAll (opened cases-table) test 0 ≡ third 0 0 0x00a5 ∷ [])
+unfolding bits number minus divide remainder residue fields topOf word header-check routing-check upper routing controlling third-kind address cell exclusiveOr sealed carried heard returned capacity queueOf limit tooWide lowest marked outgoing asking due renewedFrom run cyclic next someAsks highest first granted placeFrom hearsBy hearsIn serves served lineCell times arrivalCounts hearingCounts sentCounts unitsOf busOf wayBy wayFor wayOf arrivalBy inletBy arrived addressed fateIn roomIn hearingOf placing keeping handedIn movingFrom movedBy movedEntries askingOf queuedOne isAddressed copies someAddressed heardEntries sendingFrom sendsOne sends congested takesFrom takesBy handsInto collectsFrom admitted happensTo cases-table chosen cellOf without onlyAt sending sendingBy partOf copyIn queuedBy oldestIn takenBy over handedBy movedFrom outBy ofOut controlIn loopbackIn controlCopy controlsBy loopbackCopy loopbacksBy collectedBy
+tested = (refl, refl, refl, refl)

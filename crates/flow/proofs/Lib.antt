@@ -3,10 +3,11 @@ pub mod Turns
 pub mod Moves
 pub mod Kept
 pub mod Once
-pub mod Streets
-pub mod Bytes
-pub mod Examples
-pub mod Apart
 pub mod Follows
+pub mod Bytes
+pub mod Apart
 pub mod Senders
+pub mod Streets
 pub mod Out
+pub mod Examples
+pub mod Silent

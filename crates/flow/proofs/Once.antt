@@ -1,4 +1,4 @@
--- The lines of a good table have no unit number twice. Assumes nothing.
+-- The lines of a good table have no unit number twice, and none above 31. Assumes nothing.
 use Prim.Native.Nat.{ℕ, zero, suc, _<_}
 use native.Mathlib.Omega.{arith}
 use mathlib.Core.Path.{_≡_, refl, sym, subst}
@@ -12,6 +12,7 @@ use Rattle.line.specs.declared.Line.{Line}
 use Rattle.line.specs.declared.Line.the-variants.{Bus, Unit as L·Unit, Vp, Drop, Page, Vc, Mc}
 use Rattle.told.specs.Told.{ofUnit, same, opens, only, either, topOf}
 use Rattle.told.proofs.Fits.{fine-unit}
+use Rattle.paper.specs.Words.{AllInRange}
 use Rattle.document.specs.Shelf.{Unit, numberOf, blank, freshUnit, unitsOf}
 use Rattle.flow.specs.Lost.{Different, NumbersOnce}
 
@@ -85,3 +86,23 @@ numbers-once card room (Drop u v ∷ told) g = no-more (unitsOf told) (numbers-o
 numbers-once card room (Page u v top ∷ told) g = no-more (unitsOf told) (numbers-once card room told (g .1))
 numbers-once card room (Vc u v w target class outvpi outvci ∷ told) g = no-more (unitsOf told) (numbers-once card room told (g .1))
 numbers-once card room (Mc u session ∷ told) g = no-more (unitsOf told) (numbers-once card room told (g .1))
+
+-- "units 0 to 31"
+abbrev Low : List Unit → Type 0
+Low us = (i : ℕ) → i < length us → numberOf (getD us i blank) < 32
+
+still-low : (us : List Unit) → Low us → Low (us ++ [])
+still-low us low = subst Low (sym (append-nil us)) low
+
+pub numbers-low : (told : List Line) → AllInRange told → (i : ℕ) → i < length (unitsOf told) → numberOf (getD (unitsOf told) i blank) < 32
+unfolding unitsOf
+numbers-low [] r = λ i h. absurd (omega arith)
+numbers-low (Bus bus ∷ told) r = still-low (unitsOf told) (numbers-low told (r .1))
+numbers-low (L·Unit settings limits ∷ told) r =
+    let small : settings .number < 32 = omega (arith, r .0 .0) in
+    each-two (λ u. numberOf u < 32) (unitsOf told) (freshUnit settings limits ∷ []) (numbers-low told (r .1)) (each-one (λ u. numberOf u < 32) (freshUnit settings limits) small)
+numbers-low (Vp u v target class outvpi ∷ told) r = still-low (unitsOf told) (numbers-low told (r .1))
+numbers-low (Drop u v ∷ told) r = still-low (unitsOf told) (numbers-low told (r .1))
+numbers-low (Page u v top ∷ told) r = still-low (unitsOf told) (numbers-low told (r .1))
+numbers-low (Vc u v w target class outvpi outvci ∷ told) r = still-low (unitsOf told) (numbers-low told (r .1))
+numbers-low (Mc u session ∷ told) r = still-low (unitsOf told) (numbers-low told (r .1))

@@ -4,7 +4,7 @@ use native.Mathlib.Omega.{arith}
 use mathlib.Core.Path.{_≡_, refl, sym, ap, subst, _∙_}
 use mathlib.Core.Logic.{_↔_, ⊎-elim}
 use mathlib.Core.Bool.{Bool, true, false, cond}
-use mathlib.Core.List.{List, [], _∷_, List·Memᴰ as In, List·Memᴰ·head}
+use mathlib.Core.List.{List, [], _∷_, _++_, append-nil, map, List·Memᴰ as In, List·Memᴰ·head}
 use lib.Dec.{eqb}
 use lib.ListN.{length, getD, drop, take as first, length-drop}
 use lib.Seq.{length-take-le}
@@ -16,7 +16,7 @@ use Rattle.header.specs.Check.{check}
 use Rattle.header.specs.declared.Header as H
 use Rattle.header.specs.declared.Link.{Link}
 use Rattle.header.specs.declared.Link.the-variants.{Nni}
-use Rattle.bus.specs.Frame.{heard}
+use Rattle.bus.specs.Frame.{heard, returned}
 use Rattle.bus.specs.declared.Heard.the-variants as frames
 use Rattle.bus.proofs.Laws.{heard-length}
 use Rattle.bus.specs.declared.Target.{Target}
@@ -30,23 +30,27 @@ use Rattle.outlet.specs.declared.Leaving as L
 use Rattle.outlet.specs.declared.Leaving.the-variants as leaves
 use Rattle.outlet.proofs.Headers.{outgoing-fields, vpi-kept, outgoing-lt}
 use Rattle.document.specs.Take.{lineCell}
+use Rattle.arbiter.specs.Arbitration.{nobody}
 use Rattle.line.specs.declared.Line.{Line}
 use Rattle.told.proofs.Grown.{decide}
 use Rattle.document.specs.Arrival.{headerOf}
 use Rattle.document.specs.Events.{Event, take-cell}
-use Rattle.document.specs.Shelf.{Cell, Unit, queueAt, held, unitAt, opened}
+use Rattle.document.specs.Shelf.{Cell, Unit, Shelf, numberOf, queueAt, held, unitAt, unitsOf, opened}
+use Rattle.document.specs.Frame.{movedUnit}
 use Rattle.document.specs.Take.{leaving, atLimit, congested, marks}
 use Rattle.document.proofs.Fixed.{given-stays}
-use Rattle.flow.specs.Parts.{Part, rests, arrives, hears, takes, sends, partOf, oldestIn, takenBy}
-use Rattle.flow.specs.Order.{HandedOut}
-use Rattle.flow.specs.Street.{declaredAt, CameFrom, by-bus, by-hand}
+use Rattle.flow.specs.Parts.{From, from-inlet, from-control, from-loopback, Part, rests, arrives, hears, takes, hands, collects, sends, moves, partOf, oldestIn, takenBy}
+use Rattle.flow.specs.Order.{HandedOut, InTurn}
+use Rattle.flow.specs.Lost.{Different}
+use Rattle.flow.specs.Street.{declaredAt, CameFrom, by-bus, by-hand, by-processor}
 use Rattle.paper.specs.Outlets.{Crowded, Marks}
-use Rattle.flow.specs.Out.{reached, out, linkAt, heldAt, ReadsAs, RightlyTaken, TakenRight, LineDelivered, SentRight}
+use Rattle.flow.specs.Out.{reached, out, linkAt, heldAt, ReadsAs, RightlyTaken, TakenRight, LineDelivered, Origin, SentRight}
 use Rattle.flow.proofs.Kept.{given-at, number-at, as-many, still-different}
-use Rattle.flow.proofs.Streets.{right-street}
+use Rattle.flow.proofs.Streets.{right-street, control-waits, loopback-waits}
 use Rattle.flow.proofs.Follows.{payload-kept, line-followed}
 use Rattle.flow.proofs.Bytes.{taken-handed}
-use Rattle.flow.proofs.Senders.{sends-after}
+use Rattle.flow.proofs.Senders.{backed, backed-first, sends-after, not-both}
+use Rattle.flow.proofs.Moves.{moved-by, moved-in}
 
 -- the one cell that leaves a queue was its oldest
 abbrev First : List Cell → Cell → Type 0
@@ -70,14 +74,18 @@ was-first : (u : Unit) (p : Part) (q : ℕ) (c : Cell) → takenBy u p q ≡ c �
 unfolding takenBy
 was-first u rests q c e = let z : _≡_ {A = ℕ} 0 1 = cc in absurd (omega arith)
 was-first u (arrives x) q c e = let z : _≡_ {A = ℕ} 0 1 = cc in absurd (omega arith)
-was-first u (hears h bytes) q c e = let z : _≡_ {A = ℕ} 0 1 = cc in absurd (omega arith)
+was-first u (hears x) q c e = let z : _≡_ {A = ℕ} 0 1 = cc in absurd (omega arith)
 was-first u takes q c e = was-oldest (leaving u) u q c e
-was-first u (sends r rest) q c e = let z : _≡_ {A = ℕ} 0 1 = cc in absurd (omega arith)
+was-first u (hands x) q c e = let z : _≡_ {A = ℕ} 0 1 = cc in absurd (omega arith)
+was-first u collects q c e = let z : _≡_ {A = ℕ} 0 1 = cc in absurd (omega arith)
+was-first u (sends f) q c e = let z : _≡_ {A = ℕ} 0 1 = cc in absurd (omega arith)
+was-first u (moves p) q c e = subst (λ cells. First cells c) (moved-by (λ v. queueAt v q) u (λ back out. refl)) (was-first (movedUnit u) p q c e)
 
 -- a cell that leaves fits its unit's link
 not-wide : (lines : List Line) (es : List Event) (i q : ℕ) (c : Cell) → CameFrom lines es i q c → TooWide (linkAt lines i) (c .header) → ⊥
 not-wide lines es i q c (by-bus place r inside a s m e) w = m .narrow (subst (λ x. TooWide (linkAt lines i) (x .header)) e w)
 not-wide lines es i q c (by-hand f target class header event h m e) w = m .narrow (subst (λ x. TooWide (linkAt lines i) (x .header)) e w)
+not-wide lines es i q c (by-processor place b target class header inside h s k m e) w = m .narrow (subst (λ x. TooWide (linkAt lines i) (x .header)) e w)
 
 -- its payload has 48 bytes
 part-length : (b : List ℕ) (k n : ℕ) → k + n ≤ length b → length (part b k n) ≡ n
@@ -96,6 +104,7 @@ payload-length lines es i q c (by-bus place r inside a s m e) =
 payload-length lines es i q c (by-hand f target class header event h m e) =
     let w = frame-length f target class header h in
     ap (λ x. length (x .payload)) e ∙ part-length f 8 48 (omega arith)
+payload-length lines es i q c (by-processor place b target class header inside h s k m e) = ap (λ x. length (x .payload)) e ∙ part-length b 8 48 (omega (arith, h .whole))
 
 -- so its bytes read as it was
 reads-back : (link : Link) (mark : Bool) (c : Cell) (bytes : List ℕ) → (TooWide link (c .header) → ⊥) → length (c .payload) ≡ 48 → bytes ≡ lineCell (outgoing link mark (c .header)) (c .payload) →
@@ -179,20 +188,38 @@ line-delivered lines good es unit buffer t place r a same =
           };
     }
 
+-- what a unit sends that the shelf has granted: it arrived, was handed in, or had moved before this frame
+module _ (lines : List Line) (once : Different (unitsOf lines)) (es : List Event) (granted-one : reached lines es .granted ≡ nobody → ⊥) (place : ℕ) (within : place < length (unitsOf lines)) (own : numberOf (unitAt (reached lines es) place) ≡ reached lines es .granted) where
+  abbrev d : Shelf
+  d = reached lines es
+
+  abbrev u : Unit
+  u = unitAt d place
+
+  origin-of : (f : From) → InTurn (movedUnit u) f → Origin lines es place f
+  origin-of (from-inlet r rest) turn =
+      right-street lines es place within .waiting r (subst (λ rs. In r rs) (sym (sym (moved-by (λ v. v .inlet) u (λ back out. refl)) ∙ turn)) (List·Memᴰ·head refl))
+  origin-of (from-control c rest) turn =
+      control-waits lines es place within c (subst (λ cs. In c cs) (sym (sym (moved-by (λ v. v .side .controlin) u (λ back out. refl)) ∙ turn .1)) (List·Memᴰ·head refl))
+  origin-of (from-loopback c rest) turn =
+      let kept = given-stays (opened lines) es in
+      let still = not-both d (backed (opened lines) es (backed-first lines)) (still-different (opened lines) d kept once) place (omega (arith, within, many lines es)) own granted-one c rest turn in
+      let there : u .side .loopbackin ≡ c ∷ rest = sym (append-nil (u .side .loopbackin)) ∙ ap (λ cs. u .side .loopbackin ++ map returned cs) (sym still) ∙ moved-in u ∙ turn .2 in
+      loopback-waits lines es place within c (subst (λ cs. In c cs) (sym there) (List·Memᴰ·head refl))
+
 -- every frame after a grant
 pub sent-right : SentRight
-sent-right lines once es some buffer whole =
+sent-right lines once es granted-one buffer whole =
     let d = reached lines es in
     let kept = given-stays (opened lines) es in
-    let s = sends-after lines es (still-different (opened lines) d kept once) some buffer whole in
+    let s = sends-after lines es (still-different (opened lines) d kept once) granted-one buffer whole in
     let within : s .place < length (opened lines .units) = omega (arith, s .inside, many lines es) in
     record {
       place = s .place;
       inside = within;
       named = sym (number-at (opened lines) d kept (s .place)) ∙ s .named;
-      routed = s .routed;
-      others = s .others;
+      from = s .from;
       oldest = s .oldest;
-      origin = right-street lines es (s .place) within .waiting (s .routed) (subst (λ rs. In (s .routed) rs) (sym (s .oldest)) (List·Memᴰ·head refl));
+      origin = origin-of lines once es granted-one (s .place) within (s .named) (s .from) (s .oldest);
       bytes = s .bytes;
     }

@@ -14,9 +14,9 @@ use Rattle.line.specs.declared.Line.{Line}
 use Rattle.told.proofs.Grown.{decide}
 use Rattle.paper.specs.Counters.{Counter, placeOf, hearingCounts, occurs}
 use Rattle.document.specs.Counters.{Entry, entries, matches, times}
-use Rattle.document.specs.Shelf.{Routed, Unit, numberOf, blank, findIn}
-use Rattle.document.specs.Hearing.{hearingOf, hearingUnit}
-use Rattle.document.specs.Frame.{asHeard, allHear, heardEntries}
+use Rattle.document.specs.Shelf.{Unit, numberOf, blank, findIn}
+use Rattle.document.specs.Hearing.{OnBus, hearingOf, hearingUnit}
+use Rattle.document.specs.Frame.{movingFrom, movedBy, movedUnit, movedCounts, movedEntries, allHear, heardEntries}
 use Rattle.flow.specs.Lost.{Different}
 
 -- one more or not, before a sum and in its first part
@@ -64,41 +64,72 @@ same-different us place u e once i j h k same =
     let l = length-set us place u in
     once i j h (omega arith) (sym (same-numbers us place u e i) ∙ same ∙ same-numbers us place u e j)
 
-module _ (lines : List Line) (r : Routed) where
+module _ (lines : List Line) (x : OnBus) where
   -- all units hear: what becomes of the one in a place
-  pub heard-unit : (us : List Unit) (k : ℕ) → k < length us → getD (allHear lines us r) k blank ≡ hearingUnit lines (getD us k blank) (asHeard r) (r .cell .payload)
+  pub heard-unit : (us : List Unit) (k : ℕ) → k < length us → getD (allHear lines us x) k blank ≡ hearingUnit lines (getD us k blank) x
   heard-unit [] k h = absurd (omega arith)
   heard-unit (u ∷ us) zero h = refl
   heard-unit (u ∷ us) (suc k) h = heard-unit us k (omega arith)
 
   -- what they heard counts at none but them
-  heard-elsewhere : (us : List Unit) (v : ℕ) (c : Counter) → ((j : ℕ) → j < length us → numberOf (getD us j blank) ≡ v → ⊥) → times (heardEntries lines us r) v c ≡ 0
+  heard-elsewhere : (us : List Unit) (v : ℕ) (c : Counter) → ((j : ℕ) → j < length us → numberOf (getD us j blank) ≡ v → ⊥) → times (heardEntries lines us x) v c ≡ 0
   unfolding heardEntries times
   heard-elsewhere [] v c d = refl
   heard-elsewhere (u ∷ us) v c d =
-      let cs = hearingCounts (hearingOf lines u (asHeard r)) in
-      let a = times-append (entries (numberOf u) cs) (heardEntries lines us r) v c in
+      let cs = hearingCounts (hearingOf lines u (x .heard)) in
+      let a = times-append (entries (numberOf u) cs) (heardEntries lines us x) v c in
       let b = times-other (numberOf u) cs v c (d 0 (omega arith)) in
       let e = heard-elsewhere us v c (λ j h. d (suc j) (omega arith)) in
       omega arith
 
   -- and at each of them what it heard
-  pub heard-times : (us : List Unit) → Different us → (k : ℕ) → k < length us → (c : Counter) → times (heardEntries lines us r) (numberOf (getD us k blank)) c ≡ occurs (hearingCounts (hearingOf lines (getD us k blank) (asHeard r))) (placeOf c)
+  pub heard-times : (us : List Unit) → Different us → (k : ℕ) → k < length us → (c : Counter) → times (heardEntries lines us x) (numberOf (getD us k blank)) c ≡ occurs (hearingCounts (hearingOf lines (getD us k blank) (x .heard))) (placeOf c)
   unfolding heardEntries
   heard-times [] once k h c = absurd (omega arith)
   heard-times (u ∷ us) once zero h c =
-      let cs = hearingCounts (hearingOf lines u (asHeard r)) in
-      let a = times-append (entries (numberOf u) cs) (heardEntries lines us r) (numberOf u) c in
+      let cs = hearingCounts (hearingOf lines u (x .heard)) in
+      let a = times-append (entries (numberOf u) cs) (heardEntries lines us x) (numberOf u) c in
       let b = times-here (numberOf u) cs c in
       let e = heard-elsewhere us (numberOf u) c (λ j h q. once 0 (suc j) (omega arith) (omega arith) (sym q)) in
       omega arith
   heard-times (u ∷ us) once (suc k) h c =
-      let cs = hearingCounts (hearingOf lines u (asHeard r)) in
+      let cs = hearingCounts (hearingOf lines u (x .heard)) in
       let v = numberOf (getD us k blank) in
-      let a = times-append (entries (numberOf u) cs) (heardEntries lines us r) v c in
+      let a = times-append (entries (numberOf u) cs) (heardEntries lines us x) v c in
       let b = times-other (numberOf u) cs v c (once 0 (suc k) (omega arith) h) in
       let e = heard-times us (λ i j l m. once (suc i) (suc j) (omega arith) (omega arith)) k (omega arith) c in
       omega (arith, a, b, e)
+
+-- the cells that move: what becomes of the unit in a place
+pub moved-unit : (us : List Unit) (k : ℕ) → getD (map movedUnit us) k blank ≡ movedUnit (getD us k blank)
+unfolding movingFrom movedBy
+moved-unit us k = List·getD-map movedUnit us k blank
+
+-- they count at none but their units
+moved-elsewhere : (us : List Unit) (v : ℕ) (c : Counter) → ((j : ℕ) → j < length us → numberOf (getD us j blank) ≡ v → ⊥) → times (movedEntries us) v c ≡ 0
+unfolding movedEntries times
+moved-elsewhere [] v c d = refl
+moved-elsewhere (u ∷ us) v c d =
+    let a = times-append (entries (numberOf u) (movedCounts u)) (movedEntries us) v c in
+    let b = times-other (numberOf u) (movedCounts u) v c (d 0 (omega arith)) in
+    let e = moved-elsewhere us v c (λ j h. d (suc j) (omega arith)) in
+    omega arith
+
+-- and at each of them its own
+pub moved-times : (us : List Unit) → Different us → (k : ℕ) → k < length us → (c : Counter) → times (movedEntries us) (numberOf (getD us k blank)) c ≡ occurs (movedCounts (getD us k blank)) (placeOf c)
+unfolding movedEntries
+moved-times [] once k h c = absurd (omega arith)
+moved-times (u ∷ us) once zero h c =
+    let a = times-append (entries (numberOf u) (movedCounts u)) (movedEntries us) (numberOf u) c in
+    let b = times-here (numberOf u) (movedCounts u) c in
+    let e = moved-elsewhere us (numberOf u) c (λ j h q. once 0 (suc j) (omega arith) (omega arith) (sym q)) in
+    omega arith
+moved-times (u ∷ us) once (suc k) h c =
+    let v = numberOf (getD us k blank) in
+    let a = times-append (entries (numberOf u) (movedCounts u)) (movedEntries us) v c in
+    let b = times-other (numberOf u) (movedCounts u) v c (once 0 (suc k) (omega arith) h) in
+    let e = moved-times us (λ i j l m. once (suc i) (suc j) (omega arith) (omega arith)) k (omega arith) c in
+    omega (arith, a, b, e)
 
 -- a number that is found is found in a place that there is, and stands there
 found-from : (us : List Unit) (k number p : ℕ) → placeFrom k (map numberOf us) number ≡ At p → (i : ℕ) × (p ≡ k + i) × (i < length us) × (numberOf (getD us i blank) ≡ number)

@@ -12,9 +12,9 @@ use Rattle.document.specs.Shelf.{Cell, Routed, Shelf, numberOf, unitAt, unitsOf
 use Rattle.document.specs.Steps.{happensTo}
 use Rattle.flow.specs.Parts.{among, routedAt, meantFor}
 use Rattle.flow.specs.Lost.{Different, happened}
-use Rattle.flow.specs.Order.{over, takenAll, sentAll}
+use Rattle.flow.specs.Order.{over, takenAll, sentAll, handedAll, controlSent, movedAll, controlQueued, collectedAll, loopbackQueued}
 
--- the inlet, the queues and the counters of the unit in place i are as they were
+-- the inlet, the queues, the places beside them and the counters of the unit in place i are as they were
 pub record Untouched (d d′ : Shelf) (i : ℕ) : Type 0 where
   pub unit : unitAt d′ i ≡ unitAt d i
   pub counters : (c : Counter) → happened d′ i c ≡ happened d i c
@@ -23,11 +23,15 @@ pub record Untouched (d d′ : Shelf) (i : ℕ) : Type 0 where
 abbrev pub Isolation : Type 0
 Isolation = (d : Shelf) → Different (d .units) → (e : Event) (unit i : ℕ) → named e ≡ some unit → i < length (d .units) → (numberOf (unitAt d i) ≡ unit → ⊥) → Untouched d (happensTo d e .shelf) i
 
--- of the cells that meet a test, whatever it is, no more are sent than arrived and were routed, and no more leave a queue than came to it in frames that address the unit
+-- of the cells that meet a test, whatever it is, no more are sent than arrived and were routed, and no more leave a queue than came to it in frames that address the unit; no more
+-- control cells are sent than were handed in, and no more are collected, or move, than came to that outlet
 pub record Once (lines : List Line) (es : List Event) (i : ℕ) : Type 0 where
   pub cells : (test : Routed → Bool) → length (among test (sentAll (opened lines) es i)) ≤ length (among test (over (λ d e. routedAt d e i) (opened lines) es))
   pub copies : (q : ℕ) (test : Cell → Bool) →
       length (among test (takenAll (opened lines) es i q)) ≤ length (among test (over (λ d e. meantFor d e i q) (opened lines) es))
+  pub controls : (test : List ℕ → Bool) → length (among test (controlSent (opened lines) es i)) ≤ length (among test (handedAll (opened lines) es i))
+  pub collected : (test : List ℕ → Bool) → length (among test (collectedAll (opened lines) es i)) ≤ length (among test (controlQueued (opened lines) es i))
+  pub turned : (test : List ℕ → Bool) → length (among test (movedAll (opened lines) es i)) ≤ length (among test (loopbackQueued (opened lines) es i))
 
 -- after every sequence of events, of every unit
 abbrev pub OnceOnly : Type 0

@@ -5,3 +5,4 @@ pub mod Counted
 pub mod Street
 pub mod Apart
 pub mod Out
+pub mod Quiet

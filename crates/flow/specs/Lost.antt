@@ -9,8 +9,9 @@ use Rattle.told.specs.Lines.{Good}
 use Rattle.document.specs.Events.{Event}
 use Rattle.paper.specs.Counters.{Counter, arrived, hec, ignored, misrouted, inletfull, sent, queued, taken}
 use Rattle.document.specs.Counters.{times}
-use Rattle.document.specs.Shelf.{Unit, Shelf, numberOf, inOutlet, blank, unitAt, unitsOf, opened}
+use Rattle.document.specs.Shelf.{Unit, Shelf, numberOf, waiting, inOutlet, blank, unitAt, unitsOf, opened}
 use Rattle.document.specs.Steps.{becomes}
+use Rattle.flow.specs.Order.{handedAll, movedAll}
 
 -- "a unit repeated": no unit number is there twice
 abbrev pub Different : List Unit → Type 0
@@ -20,15 +21,20 @@ Different us = (i j : ℕ) → i < j → j < length us → numberOf (getD us i b
 abbrev pub happened : Shelf → ℕ → Counter → ℕ
 happened d i c = times (d .history) (numberOf (unitAt d i)) c
 
--- "Each arriving cell meets exactly one fate": it was lost and counted so, was sent, or waits; each copy queued at an outlet was taken or is there
-pub record Accounted (d : Shelf) (i : ℕ) : Type 0 where
+-- "Each arriving cell meets exactly one fate": each cell that arrived, was handed in or moved was lost and counted so, was sent, or waits; each copy queued at an outlet was
+-- taken or is there
+pub record Accounted (lines : List Line) (es : List Event) (i : ℕ) : Type 0 where
   pub arrivals :
-      happened d i arrived ≡ happened d i hec + happened d i ignored + happened d i misrouted + happened d i inletfull + happened d i sent + length (unitAt d i .inlet)
-  pub copies : happened d i queued ≡ happened d i taken + inOutlet (unitAt d i)
+      let d = becomes (opened lines) es in
+      happened d i arrived + length (handedAll (opened lines) es i) + length (movedAll (opened lines) es i) ≡
+      happened d i hec + happened d i ignored + happened d i misrouted + happened d i inletfull + happened d i sent + waiting (unitAt d i)
+  pub copies :
+      let d = becomes (opened lines) es in
+      happened d i queued ≡ happened d i taken + inOutlet (unitAt d i)
 
 -- after every sequence of events, of every unit
 abbrev pub NothingLost : Type 0
-NothingLost = (lines : List Line) → Different (unitsOf lines) → (es : List Event) (i : ℕ) → i < length (unitsOf lines) → Accounted (becomes (opened lines) es) i
+NothingLost = (lines : List Line) → Different (unitsOf lines) → (es : List Event) (i : ℕ) → i < length (unitsOf lines) → Accounted lines es i
 
 -- "unit declared again" is Twice: the lines of a good table have no number twice, so all this holds of every shelf that a good load opens
 abbrev pub NumbersOnce : Type 0

@@ -3,7 +3,8 @@ use Prim.Native.Nat.{ℕ, _<_}
 use mathlib.Core.Path.{_≡_}
 use mathlib.Core.Logic.{_↔_}
 use mathlib.Core.Bool.{Bool, true}
-use mathlib.Core.List.{List, _∷_}
+use mathlib.Core.List.{List, [], _∷_}
+use mathlib.Core.Option.{some}
 use lib.ListN.{length, getD, drop}
 use Rattle.octets.specs.Octets.{four, part}
 use Rattle.header.specs.Fields.{fields}
@@ -11,21 +12,25 @@ use Rattle.header.specs.Check.{check}
 use Rattle.header.specs.declared.Header as H
 use Rattle.header.specs.declared.Link.{Link}
 use Rattle.header.specs.declared.Link.the-variants.{Nni}
+use Rattle.card.specs.declared.Card.{Card}
 use Rattle.outlet.specs.declared.Limits.{Limits}
 use Rattle.outlet.specs.Taking.{marked}
 use Rattle.arbiter.specs.Arbitration.{nobody}
 use Rattle.line.specs.declared.Line.{Line}
 use Rattle.answer.specs.declared.Answer.the-variants.{Taken}
 use Rattle.paper.specs.Outlets.{Marks}
+use Rattle.promise.specs.Refusals.{Accepts}
 use Rattle.document.specs.Arrival.{headerOf}
 use Rattle.document.specs.Events.{Event, frame, take-cell, answers}
 use Rattle.document.specs.Shelf.{Cell, Routed, Shelf, numberOf, queueAt, held, unitAt, unitsOf, opened}
-use Rattle.document.specs.Frame.{frameOf}
+use Rattle.document.specs.Frame.{movedUnit, frameOf}
 use Rattle.document.specs.Take.{handed}
 use Rattle.document.specs.Steps.{happensTo, becomes}
 use Rattle.flow.specs.Lost.{Different}
 use Rattle.paper.specs.Words.{AllInRange}
-use Rattle.flow.specs.Street.{declaredAt, Arrived, CameFrom, Follows}
+use Rattle.flow.specs.Parts.{From, from-inlet, from-control, from-loopback, cellOf, movedAt}
+use Rattle.flow.specs.Order.{outFrom, InTurn}
+use Rattle.flow.specs.Street.{declaredAt, Arrived, HandedIn, Turned, CameFrom, Follows}
 
 -- the shelf after some events
 abbrev pub reached : List Line → List Event → Shelf
@@ -87,18 +92,38 @@ LineDelivered =
     (lines : List Line) → AllInRange lines → (es : List Event) (unit : ℕ) (buffer : List ℕ) (t : RightlyTaken lines es unit buffer) (place : ℕ) (r : Routed) (a : Arrived lines es place r) →
     t .cell ≡ r .cell → Delivered lines es unit buffer t place r a
 
--- a frame written: of the oldest cell of the unit granted in the frame before, at which it arrived
+-- a cell that a unit sends, from one of its three places: one that arrived there; one that its processor handed in; one that had moved there
+abbrev pub Origin : List Line → List Event → ℕ → From → Type 0
+Origin lines es place (from-inlet r rest) = Arrived lines es place r
+Origin lines es place (from-control c rest) = HandedIn lines es place c
+Origin lines es place (from-loopback c rest) = Turned lines es place c
+
+-- a frame written: of the oldest cell, in the order of sending, of the unit granted in the frame before
 pub record RightlySent (lines : List Line) (es : List Event) (buffer : List ℕ) : Type 0 where
   pub place : ℕ
   pub inside : place < length (unitsOf lines)
   pub named : numberOf (declaredAt lines place) ≡ reached lines es .granted
-  pub routed : Routed
-  pub others : List Routed
-  pub oldest : unitAt (reached lines es) place .inlet ≡ routed ∷ others
-  pub origin : Arrived lines es place routed
-  pub bytes : happensTo (reached lines es) (frame buffer) .bytes ≡ frameOf routed
+  pub from : From
+  pub oldest : InTurn (movedUnit (unitAt (reached lines es) place)) from
+  pub origin : Origin lines es place from
+  pub bytes : happensTo (reached lines es) (frame buffer) .bytes ≡ frameOf (cellOf from)
 
 -- every frame after a grant: "Then the unit granted in the frame before sends its oldest cell."
 abbrev pub SentRight : Type 0
 SentRight =
     (lines : List Line) → Different (unitsOf lines) → (es : List Event) → (reached lines es .granted ≡ nobody → ⊥) → (buffer : List ℕ) → length buffer ≡ 57 → RightlySent lines es buffer
+
+-- a cell that moves is not sent in the frame in which it does: nothing comes into the loopback inlet in place i in a frame in which a cell leaves it
+abbrev pub NoneMoves : List Line → List Event → Event → ℕ → Type 0
+NoneMoves lines es e i = (c : List ℕ) (rest : List (List ℕ)) → outFrom (reached lines es) e i ≡ some (from-loopback c rest) → movedAt (reached lines es) e i ≡ []
+
+-- on a shelf that events have made; `nobody` is no unit's number
+abbrev pub MovedNotSent : Type 0
+MovedNotSent =
+    (lines : List Line) → Different (unitsOf lines) → (es : List Event) (e : Event) (i : ℕ) → i < length (unitsOf lines) → (numberOf (declaredAt lines i) ≡ nobody → ⊥) → NoneMoves lines es e i
+
+-- so of every table that a card accepts: no number is there twice, and each is in its range
+abbrev pub MovedLater : Type 0
+MovedLater =
+    (card : Card) (text memory : List ℕ) (store rows : ℕ) (lines : List Line) → Accepts card text memory store rows lines → (es : List Event) (e : Event) (i : ℕ) → i < length (unitsOf lines) →
+    NoneMoves lines es e i

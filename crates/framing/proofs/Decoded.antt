@@ -1,37 +1,24 @@
 -- The bytes after all have heard are the shelf after all have heard, and the store likewise; and what of the bytes is kept. Assumes nothing.
 use Prim.Native.Nat.{ℕ, zero, suc, _+_, _*_, _≤_, _<_, min}
 use native.Mathlib.Omega.{arith}
-use mathlib.Core.Path.{_≡_, refl, sym, ap, _∙_}
+use mathlib.Core.Path.{_≡_, refl, ap, _∙_}
 use mathlib.Core.Bool.{_||_}
-use mathlib.Core.List.{List, _∷_}
-use lib.ListN.{length, getD, set, take}
+use mathlib.Core.List.{List}
+use lib.Bits.{bitOr}
+use lib.ListN.{length, getD, set}
 use Rattle.bus.specs.declared.Heard as H
 use Rattle.store.specs.Places.{Cell}
-use Rattle.shelf.specs.Shelves.{declared}
 use Rattle.state.specs.Bytes.{unitIn, unitsFrom, shelfIn}
+use Rattle.state.proofs.Kept.{Column}
 use Rattle.soundness.specs.Soundings.{formedAll}
 use Rattle.answer.specs.Answers.{hearingRises, queuedOne, isAddressed}
 use Rattle.hearing.specs.Hearings.{planOf, copyOf}
+use Rattle.hearing.specs.InPlace.{stateBy}
 use Rattle.hearing.proofs.Plans.{plan-queue}
 use Rattle.hearing.proofs.InPlace.{fate-copy, state-long, state-put, state-there, state-other, state-formed}
 use Rattle.framing.specs.Sending.{Listened, after, heardFrom, storeFrom, heardByAll, heardStore}
 use Rattle.framing.specs.Scenes.{unheeded, heededOf, Scene, turn, turns, heededBy}
-
--- units whose bytes are the same
-units-same : (a b : List ℕ) (k n : ℕ) → ((j : ℕ) → k ≤ j → j < k + n → unitIn a j ≡ unitIn b j) → unitsFrom a k n ≡ unitsFrom b k n
-unfolding unitsFrom
-units-same a b k zero e = refl
-units-same a b k (suc n) e = let r = units-same a b (suc k) n (λ j h l. e j (omega arith) (omega arith)) in let u = e k (omega arith) (omega arith) in (λ t. u t ∷ r t)
-
--- the first so many of them
-units-taken : (b : List ℕ) (i k n m : ℕ) → m ≡ min k n → take k (unitsFrom b i n) ≡ unitsFrom b i m
-unfolding unitsFrom
-units-taken b i zero n zero e = refl
-units-taken b i zero n (suc m) e = absurd (omega arith)
-units-taken b i (suc k) zero zero e = refl
-units-taken b i (suc k) zero (suc m) e = absurd (omega arith)
-units-taken b i (suc k) (suc n) zero e = absurd (omega arith)
-units-taken b i (suc k) (suc n) (suc m) e = ap (λ us. unitIn b i ∷ us) (units-taken b (suc i) k n m (omega arith))
+use Rattle.framing.proofs.Turns.{units-same, units-declared}
 
 abbrev listened : Scene → Listened
 listened x = record { shelf = shelfIn (x .bytes); each = x .tally .each; copies = x .tally .copies; addressed = x .tally .addressed }
@@ -44,7 +31,7 @@ module _ (h : H.Heard) (cell : Cell) where
       let f = fate-copy (planOf u h) u in
       record {
         shelf = state-put (planOf u h) (x .bytes) i (plan-queue u h) hi long t;
-        each = set (x .tally .each) i (hearingRises (f t));
+        each = set (x .tally .each) i (bitOr (getD (x .tally .each) i 0) (hearingRises (f t)));
         copies = x .tally .copies + queuedOne (f t);
         addressed = x .tally .addressed || isAddressed (f t);
       }
@@ -82,39 +69,45 @@ module _ (h : H.Heard) (cell : Cell) where
   turns-formed i (suc n) x hi =
       turns-formed (suc i) n (turn h cell i x) (omega arith) ∙ state-formed (planOf (unitIn (x .bytes) i) h) (x .bytes) i (plan-queue (unitIn (x .bytes) i) h) (omega arith)
 
-  turns-other : (i n : ℕ) (x : Scene) → i + n ≤ 32 → (k : ℕ) → ((j c : ℕ) → i ≤ j → j < i + n → 14 ≤ c → c < 24 → k ≡ c * 32 + j → ⊥) → getD (turns h cell i n x .bytes) k 0 ≡ getD (x .bytes) k 0
+  turns-other : (i n : ℕ) (x : Scene) → i + n ≤ 32 → (k : ℕ) → ((j c : ℕ) → i ≤ j → j < i + n → 14 ≤ c → Column c → k ≡ c * 32 + j → ⊥) → getD (turns h cell i n x .bytes) k 0 ≡ getD (x .bytes) k 0
   unfolding turns
   turns-other i zero x hi k ne = refl
   turns-other i (suc n) x hi k ne =
       turns-other (suc i) n (turn h cell i x) (omega arith) k (λ j c a l. ne j c (omega arith) (omega arith))
       ∙ state-other (planOf (unitIn (x .bytes) i) h) (x .bytes) i (plan-queue (unitIn (x .bytes) i) h) (omega arith) k (λ c. ne i c (omega arith) (omega arith))
 
-  -- "a sent frame is heard by every declared unit"
-  module _ (b store : List ℕ) where
-    abbrev begun : Scene
-    begun = record { bytes = b; store = store; tally = unheeded }
+  -- the counters have no part in the bytes
+  turns-uncounted : (i n : ℕ) (x y : Scene) → x .bytes ≡ y .bytes → turns h cell i n x .bytes ≡ turns h cell i n y .bytes
+  unfolding turns
+  turns-uncounted i zero x y e = e
+  turns-uncounted i (suc n) x y e = turns-uncounted (suc i) n (turn h cell i x) (turn h cell i y) (ap (λ b. stateBy (planOf (unitIn b i) h) b i) e)
 
-    pub heeded-long : length (heededBy h cell b store .bytes) ≡ length b
+  pub heeded-uncounted : (b store each other : List ℕ) → heededBy h cell b store each .bytes ≡ heededBy h cell b store other .bytes
+  heeded-uncounted b store each other = turns-uncounted 0 (min (getD b 805 0) 32) _ _ refl
+
+  -- "a sent frame is heard by every declared unit"
+  module _ (b store each : List ℕ) where
+    abbrev begun : Scene
+    begun = record { bytes = b; store = store; tally = unheeded each }
+
+    pub heeded-long : length (heededBy h cell b store each .bytes) ≡ length b
     heeded-long = turns-long 0 (min (getD b 805 0) 32) begun
 
-    pub heeded-formed : formedAll (heededBy h cell b store .bytes) ≡ formedAll b
+    pub heeded-formed : formedAll (heededBy h cell b store each .bytes) ≡ formedAll b
     heeded-formed = turns-formed 0 (min (getD b 805 0) 32) begun (omega arith)
 
-    pub heeded-other : (k : ℕ) → ((j c : ℕ) → j < 32 → j < getD b 805 0 → 14 ≤ c → c < 24 → k ≡ c * 32 + j → ⊥) → getD (heededBy h cell b store .bytes) k 0 ≡ getD b k 0
+    pub heeded-other : (k : ℕ) → ((j c : ℕ) → j < 32 → j < getD b 805 0 → 14 ≤ c → Column c → k ≡ c * 32 + j → ⊥) → getD (heededBy h cell b store each .bytes) k 0 ≡ getD b k 0
     heeded-other k ne = turns-other 0 (min (getD b 805 0) 32) begun (omega arith) k (λ j c a l. ne j c (omega arith) (omega arith))
 
     module _ (long : length b ≡ 2048) where
-      first : unitsFrom b 0 (min (getD b 805 0) 32) ≡ declared (shelfIn b)
-      first = sym (units-taken b 0 (getD b 805 0) 32 (min (getD b 805 0) 32) refl)
+      all-heard : listened (heededBy h cell b store each) ≡ heardByAll (shelfIn b) each h
+      all-heard = decoded 0 (min (getD b 805 0) 32) begun (omega arith) long ∙ ap (λ us. heardFrom h 0 us (listened begun)) (units-declared b)
 
-      all-heard : listened (heededBy h cell b store) ≡ heardByAll (shelfIn b) h
-      all-heard = decoded 0 (min (getD b 805 0) 32) begun (omega arith) long ∙ ap (λ us. heardFrom h 0 us (listened begun)) first
-
-      pub shelf-heard : shelfIn (heededBy h cell b store .bytes) ≡ heardByAll (shelfIn b) h .shelf
+      pub shelf-heard : shelfIn (heededBy h cell b store each .bytes) ≡ heardByAll (shelfIn b) each h .shelf
       shelf-heard t = all-heard t .shelf
 
-      pub tally-heard : heededBy h cell b store .tally ≡ heededOf (heardByAll (shelfIn b) h)
+      pub tally-heard : heededBy h cell b store each .tally ≡ heededOf (heardByAll (shelfIn b) each h)
       tally-heard t = heededOf (all-heard t)
 
-      pub store-heard : heededBy h cell b store .store ≡ heardStore (shelfIn b) h store cell
-      store-heard = stored 0 (min (getD b 805 0) 32) begun (omega arith) long ∙ ap (λ us. storeFrom h 0 us store cell) first
+      pub store-heard : heededBy h cell b store each .store ≡ heardStore (shelfIn b) h store cell
+      store-heard = stored 0 (min (getD b 805 0) 32) begun (omega arith) long ∙ ap (λ us. storeFrom h 0 us store cell) (units-declared b)

@@ -2,36 +2,38 @@
 use Prim.Native.Nat.{ℕ, _+_, _*_, _%_, _^_, _≤_, _<_, min}
 use native.Mathlib.Omega.{arith}
 use mathlib.Core.Path.{_≡_, refl, sym, ap, _∙_}
+use mathlib.Core.Logic.{_⊎_, inl, inr}
 use mathlib.Core.Bool.{Bool, true, false, cond, _&&_}
 use mathlib.Core.List.{List}
 use lib.Dec.{eqb}
-use lib.ListN.{length, getD, take, length-take, length-drop}
+use lib.ListN.{length, getD, take, replicate, length-take, length-drop}
 use Rattle.octets.specs.Octets.{part}
 use Rattle.card.specs.declared.Card.{Card}
 use Rattle.bus.specs.Frame.{heard}
 use Rattle.arbiter.proofs.Grants.{granted-length}
 use Rattle.arbiter.proofs.Requests.{renewed-many}
-use Rattle.store.specs.Rings.{popped}
 use Rattle.shelf.specs.Shelves.{declared}
 use Rattle.shelf.specs.declared.Found as F
 use Rattle.shelf.specs.declared.Found.the-variants.{At, Nothing}
 use Rattle.shelf.proofs.Finding.{find-at, declared-length}
-use Rattle.state.specs.Bytes.{unitIn, shelfIn, turnPut}
+use Rattle.state.specs.Bytes.{shelfIn, turnPut}
 use Rattle.state.proofs.Laws.{units-length}
-use Rattle.state.proofs.Kept.{ring-other}
+use Rattle.state.proofs.Kept.{Column}
 use Rattle.state.proofs.Turn.{turn-long, turn-before, turn-behind, turn-shelf}
 use Rattle.soundness.specs.State.{soundOf}
 use Rattle.soundness.specs.Soundings.{formedAll, soundIn}
-use Rattle.soundness.proofs.Kept.{formed-ring, formed-turn}
+use Rattle.soundness.proofs.Kept.{formed-turn}
 use Rattle.answer.specs.Answers.{refused}
 use Rattle.soundness.specs.Admission.{formedOr}
 use Rattle.soundness.proofs.InPlace.{sound-in}
+use Rattle.framing.specs.Moves.{movedEach, movedIn}
 use Rattle.framing.specs.Requests.{requests, askingNow}
 use Rattle.framing.specs.Sending.{sentFrame}
-use Rattle.framing.specs.Frames.{sender, granted, listenedBy, listenedOf, doneAt, checked, frameDone}
-use Rattle.framing.specs.InPlace.{outState, sentState, stateBy, stateAt, frameState}
+use Rattle.framing.specs.Frames.{sender, granted, listenedBy, listenedOf, turnDone, doneAt, checked, frameDone}
+use Rattle.framing.specs.InPlace.{outState, sentState, stateBy, turnState, stateAt, frameState}
+use Rattle.framing.proofs.Moves.{moves-long, moves-formed, moves-other, moves-count, moves-decode, moves-store}
 use Rattle.framing.proofs.Decoded.{heeded-long, heeded-formed, heeded-other}
-use Rattle.framing.proofs.Sends.{out-long, sent-shelf, checked-unsound, checked-misfit, checked-good}
+use Rattle.framing.proofs.Sends.{out-other, out-formed, out-long, sent-shelf, checked-unsound, checked-misfit, checked-good}
 
 -- State, then Length
 module _ {X Y : Type 0} (card : Card) (b : List ℕ) (store rows n : ℕ) (f : X → Y) (unsound misfit good : X) where
@@ -89,62 +91,90 @@ module _ (b store : List ℕ) (long : length b ≡ 2048) where
 
   sent-long : length (stateBy (sender (shelfIn b)) b store) ≡ 2048
   unfolding sentState
-  sent-long = sending (λ x. length x ≡ 2048) long (λ place h. heeded-long (heard (f place)) (take 56 (f place)) (outState b place) store ∙ out-long b place store long h)
+  sent-long =
+      sending (λ x. length x ≡ 2048) long (λ place h.
+      heeded-long (heard (f place)) (take 56 (f place)) (outState b place) store (replicate 32 0) ∙ out-long b place store long h)
 
   sent-formed : formedAll (stateBy (sender (shelfIn b)) b store) ≡ formedAll b
   unfolding sentState
   sent-formed =
       sending (λ x. formedAll x ≡ formedAll b) refl (λ place h.
-      heeded-formed (heard (f place)) (take 56 (f place)) (outState b place) store
-      ∙ formed-ring b 14 15 place (popped (unitIn b place .inlet) 4) (omega arith) (omega arith) (omega arith) (omega arith) (omega arith))
+      heeded-formed (heard (f place)) (take 56 (f place)) (outState b place) store (replicate 32 0) ∙ out-formed b place (omega arith))
 
-  sent-other : (k : ℕ) → ((j c : ℕ) → j < 32 → j < getD b 805 0 → 14 ≤ c → c < 24 → k ≡ c * 32 + j → ⊥) → getD (stateBy (sender (shelfIn b)) b store) k 0 ≡ getD b k 0
+  sent-other : (k : ℕ) → ((j c : ℕ) → j < 32 → j < getD b 805 0 → 14 ≤ c → Column c → k ≡ c * 32 + j → ⊥) → getD (stateBy (sender (shelfIn b)) b store) k 0 ≡ getD b k 0
   unfolding sentState
   sent-other k ne =
       sending (λ x. getD x k 0 ≡ getD b k 0) refl (λ place h.
-      let r = popped (unitIn b place .inlet) 4 in
-      let count = ring-other b 14 15 place r 805 (λ e. omega arith) (λ e. omega arith) in
-      heeded-other (heard (f place)) (take 56 (f place)) (outState b place) store k (λ j c hj lj. ne j c hj (omega (arith, count)))
-      ∙ ring-other b 14 15 place r k (ne place 14 (omega arith) (omega arith) (omega arith) (omega arith)) (ne place 15 (omega arith) (omega arith) (omega arith) (omega arith)))
+      let count = out-other b place 805 (λ c low col e. omega arith) in
+      heeded-other (heard (f place)) (take 56 (f place)) (outState b place) store (replicate 32 0) k (λ j c hj lj. ne j c hj (omega (arith, count)))
+      ∙ out-other b place k (λ c. ne place c (omega arith) (omega arith)))
 
-  sent-decodes : shelfIn (stateBy (sender (shelfIn b)) b store) ≡ listenedOf (shelfIn b) store .shelf
+  sent-decodes : (each : List ℕ) → shelfIn (stateBy (sender (shelfIn b)) b store) ≡ listenedOf (shelfIn b) store each .shelf
   unfolding stateBy listenedBy
-  sent-decodes = by (sender (shelfIn b)) refl
+  sent-decodes each = by (sender (shelfIn b)) refl
     where
-      by : (x : F.Found) → sender (shelfIn b) ≡ x → shelfIn (stateBy x b store) ≡ listenedBy x (shelfIn b) store .shelf
-      by (At place) e = sent-shelf b place store long (inside place e)
+      by : (x : F.Found) → sender (shelfIn b) ≡ x → shelfIn (stateBy x b store) ≡ listenedBy x (shelfIn b) store each .shelf
+      by (At place) e = sent-shelf b place store long (inside place e) each
       by Nothing e = refl
 
-  -- the whole of the frame
+  -- requests, sending and grant
   abbrev next : ℕ
   next = (shelfIn b .frame + 1) % 2 ^ 16
 
+  on-long : length (turnState b store) ≡ 2048
+  on-long = turn-long (stateBy (sender (shelfIn b)) b store) (granted (shelfIn b) .arbiter) (granted (shelfIn b) .unit) next sent-long asks-long
+
+  on-formed : formedAll (turnState b store) ≡ formedAll b
+  on-formed = formed-turn (stateBy (sender (shelfIn b)) b store) (granted (shelfIn b) .arbiter) (granted (shelfIn b) .unit) next sent-long asks-long ∙ sent-formed
+
+  on-other : (k : ℕ) → (k < 768) ⊎ (808 ≤ k) → ((j c : ℕ) → j < 32 → j < getD b 805 0 → 14 ≤ c → Column c → k ≡ c * 32 + j → ⊥) → getD (turnState b store) k 0 ≡ getD b k 0
+  on-other k (inl h) ne = turn-before (stateBy (sender (shelfIn b)) b store) (granted (shelfIn b) .arbiter) (granted (shelfIn b) .unit) next sent-long asks-long k h ∙ sent-other k ne
+  on-other k (inr h) ne = turn-behind (stateBy (sender (shelfIn b)) b store) (granted (shelfIn b) .arbiter) (granted (shelfIn b) .unit) next sent-long asks-long k h ∙ sent-other k ne
+
+  on-turn : shelfIn (turnState b store) ≡ turnPut (shelfIn (stateBy (sender (shelfIn b)) b store)) (granted (shelfIn b) .arbiter) (granted (shelfIn b) .unit) next
+  on-turn = turn-shelf (stateBy (sender (shelfIn b)) b store) (granted (shelfIn b) .arbiter) (granted (shelfIn b) .unit) next sent-long asks-long last-long (omega arith)
+
+  on-bus : getD (turnState b store) 804 0 ≡ getD b 804 0
+  on-bus = ap (λ s. s .bus) on-turn ∙ sent-other 804 (λ j c hj lj lc hc e. omega arith)
+
+  on-count : getD (turnState b store) 805 0 ≡ getD b 805 0
+  on-count = ap (λ s. s .count) on-turn ∙ sent-other 805 (λ j c hj lj lc hc e. omega arith)
+
+  on-decodes : (each : List ℕ) → shelfIn (turnState b store) ≡ turnDone (shelfIn b) store each .reply .shelf
+  on-decodes each =
+      on-turn
+      ∙ ap (λ s. turnPut s (granted (shelfIn b) .arbiter) (granted (shelfIn b) .unit) next) (sent-decodes each)
+
+-- the whole of the frame: the same of the bytes and the store after the moves
+module _ (b store : List ℕ) (long : length b ≡ 2048) where
+  abbrev b′ : List ℕ
+  b′ = movedIn b store .bytes
+
+  abbrev store′ : List ℕ
+  store′ = movedIn b store .store
+
+  long′ : length b′ ≡ 2048
+  long′ = moves-long b store ∙ long
+
   at-long : length (stateAt b store) ≡ 2048
-  at-long = turn-long (stateBy (sender (shelfIn b)) b store) (granted (shelfIn b) .arbiter) (granted (shelfIn b) .unit) next sent-long asks-long
+  at-long = on-long b′ store′ long′
 
   at-formed : formedAll (stateAt b store) ≡ formedAll b
-  at-formed = formed-turn (stateBy (sender (shelfIn b)) b store) (granted (shelfIn b) .arbiter) (granted (shelfIn b) .unit) next sent-long asks-long ∙ sent-formed
+  at-formed = on-formed b′ store′ long′ ∙ moves-formed b store
 
-  at-before : (k : ℕ) → k < 768 → ((j c : ℕ) → j < 32 → j < getD b 805 0 → 14 ≤ c → c < 24 → k ≡ c * 32 + j → ⊥) → getD (stateAt b store) k 0 ≡ getD b k 0
-  at-before k h ne = turn-before (stateBy (sender (shelfIn b)) b store) (granted (shelfIn b) .arbiter) (granted (shelfIn b) .unit) next sent-long asks-long k h ∙ sent-other k ne
-
-  at-behind : (k : ℕ) → 808 ≤ k → getD (stateAt b store) k 0 ≡ getD b k 0
-  at-behind k h =
-      turn-behind (stateBy (sender (shelfIn b)) b store) (granted (shelfIn b) .arbiter) (granted (shelfIn b) .unit) next sent-long asks-long k h ∙ sent-other k (λ j c hj lj lc hc e. omega arith)
-
-  at-turn : shelfIn (stateAt b store) ≡ turnPut (shelfIn (stateBy (sender (shelfIn b)) b store)) (granted (shelfIn b) .arbiter) (granted (shelfIn b) .unit) next
-  at-turn = turn-shelf (stateBy (sender (shelfIn b)) b store) (granted (shelfIn b) .arbiter) (granted (shelfIn b) .unit) next sent-long asks-long last-long (omega arith)
+  at-other : (k : ℕ) → (k < 768) ⊎ (808 ≤ k) → ((j c : ℕ) → j < 32 → j < getD b 805 0 → 14 ≤ c → Column c → k ≡ c * 32 + j → ⊥) → getD (stateAt b store) k 0 ≡ getD b k 0
+  at-other k h ne = let count = moves-count b store in on-other b′ store′ long′ k h (λ j c hj lj. ne j c hj (omega (arith, count))) ∙ moves-other b store k ne
 
   at-bus : getD (stateAt b store) 804 0 ≡ getD b 804 0
-  at-bus = ap (λ s. s .bus) at-turn ∙ sent-other 804 (λ j c hj lj lc hc e. omega arith)
+  at-bus = on-bus b′ store′ long′ ∙ moves-other b store 804 (λ j c hj lj lc hc e. omega arith)
 
   at-count : getD (stateAt b store) 805 0 ≡ getD b 805 0
-  at-count = ap (λ s. s .count) at-turn ∙ sent-other 805 (λ j c hj lj lc hc e. omega arith)
+  at-count = on-count b′ store′ long′ ∙ moves-count b store
 
   at-decodes : shelfIn (stateAt b store) ≡ doneAt (shelfIn b) store .reply .shelf
   at-decodes =
-      at-turn
-      ∙ ap (λ s. turnPut s (granted (shelfIn b) .arbiter) (granted (shelfIn b) .unit) next) sent-decodes
+      on-decodes b′ store′ long′ (movedEach (shelfIn b))
+      ∙ (λ t. turnDone (moves-decode b store long t) (moves-store b store long t) (movedEach (shelfIn b)) .reply .shelf)
 
 -- the tie to the shelf of specs
 module _ (card : Card) (b store : List ℕ) (rows lent : ℕ) where
@@ -163,9 +193,10 @@ module _ (card : Card) (b store : List ℕ) (rows lent : ℕ) where
   pub frame-formed : length b ≡ 2048 → formedAll b ≡ true → formedAll (frameState card b store rows lent) ≡ true
   frame-formed long formed = kept (λ x. formedAll x ≡ true) formed (at-formed b store long ∙ formed)
 
-  -- the bytes behind those of the frame number; the columns before those of rings; the places past the declared units
-  pub frame-free : length b ≡ 2048 → formedAll b ≡ true → (k : ℕ) → 808 ≤ k → getD (frameState card b store rows lent) k 0 ≡ getD b k 0
-  frame-free long formed k low = kept (λ x. getD x k 0 ≡ getD b k 0) refl (at-behind b store long k low)
+  -- the free bytes and the sessions; the columns before those of rings; the places past the declared units
+  pub frame-free : length b ≡ 2048 → formedAll b ≡ true → (k : ℕ) → ((808 ≤ k) × (k < 832)) ⊎ (992 ≤ k) → getD (frameState card b store rows lent) k 0 ≡ getD b k 0
+  frame-free long formed k (inl h) = kept (λ x. getD x k 0 ≡ getD b k 0) refl (at-other b store long k (inr (h .0)) (λ j c hj lj lc hc e. omega arith))
+  frame-free long formed k (inr h) = kept (λ x. getD x k 0 ≡ getD b k 0) refl (at-other b store long k (inr (omega arith)) (λ j c hj lj lc hc e. omega arith))
 
   -- the bus and the count of units
   pub frame-bus : length b ≡ 2048 → getD (frameState card b store rows lent) 804 0 ≡ getD b 804 0
@@ -175,10 +206,11 @@ module _ (card : Card) (b store : List ℕ) (rows lent : ℕ) where
   frame-count long = kept (λ x. getD x 805 0 ≡ getD b 805 0) refl (at-count b store long)
 
   pub frame-kept : length b ≡ 2048 → formedAll b ≡ true → (k : ℕ) → k < 448 → getD (frameState card b store rows lent) k 0 ≡ getD b k 0
-  frame-kept long formed k high = kept (λ x. getD x k 0 ≡ getD b k 0) refl (at-before b store long k (omega arith) (λ j c hj lj lc hc e. omega arith))
+  frame-kept long formed k high = kept (λ x. getD x k 0 ≡ getD b k 0) refl (at-other b store long k (inl (omega arith)) (λ j c hj lj lc hc e. omega arith))
 
-  pub frame-others : length b ≡ 2048 → formedAll b ≡ true → (k : ℕ) → k < 768 → getD b 805 0 ≤ k % 32 → getD (frameState card b store rows lent) k 0 ≡ getD b k 0
-  frame-others long formed k high past = kept (λ x. getD x k 0 ≡ getD b k 0) refl (at-before b store long k high (λ j c hj lj lc hc e. omega arith))
+  pub frame-others : length b ≡ 2048 → formedAll b ≡ true → (k : ℕ) → (k < 768) ⊎ ((832 ≤ k) × (k < 992)) → getD b 805 0 ≤ k % 32 → getD (frameState card b store rows lent) k 0 ≡ getD b k 0
+  frame-others long formed k (inl h) past = kept (λ x. getD x k 0 ≡ getD b k 0) refl (at-other b store long k (inl h) (λ j c hj lj lc hc e. omega arith))
+  frame-others long formed k (inr h) past = kept (λ x. getD x k 0 ≡ getD b k 0) refl (at-other b store long k (inr (omega arith)) (λ j c hj lj lc hc e. omega arith))
 
   pub frame-decodes : length b ≡ 2048 → formedAll b ≡ true → shelfIn (frameState card b store rows lent) ≡ frameDone card (shelfIn b) store rows lent .reply .shelf
   unfolding checked soundIn

@@ -15,6 +15,7 @@ use Rattle.soundness.specs.State.{soundOf}
 use Rattle.answer.specs.declared.Answer.the-variants.{Framed}
 use Rattle.answer.specs.Done.{Done}
 use Rattle.answer.specs.Answers.{ends, refused}
+use Rattle.framing.specs.Moves.{moved, movedEach, movedStores}
 use Rattle.framing.specs.Requests.{requests}
 use Rattle.framing.specs.Sending.{Listened, silence, sentBy, sentStore, sentFrame}
 
@@ -22,9 +23,9 @@ use Rattle.framing.specs.Sending.{Listened, silence, sentBy, sentStore, 
 abbrev pub sender : Shelf → F.Found
 sender shelf = findIn (declared shelf) (shelf .granted)
 
-unfoldable pub listenedBy : F.Found → Shelf → List ℕ → Listened
-listenedBy (At place) shelf store = sentBy shelf place store
-listenedBy Nothing shelf store = silence shelf
+unfoldable pub listenedBy : F.Found → Shelf → List ℕ → List ℕ → Listened
+listenedBy (At place) shelf store each = sentBy shelf place store each
+listenedBy Nothing shelf store each = silence shelf each
 
 unfoldable pub storeBy : F.Found → Shelf → List ℕ → List ℕ
 storeBy (At place) shelf store = sentStore shelf place store
@@ -34,14 +35,14 @@ unfoldable pub bufferBy : F.Found → Shelf → List ℕ → List ℕ → List �
 bufferBy (At place) shelf store buffer = sentFrame shelf place store
 bufferBy Nothing shelf store buffer = buffer
 
-abbrev pub listenedOf : Shelf → List ℕ → Listened
-listenedOf shelf store = listenedBy (sender shelf) shelf store
+abbrev pub listenedOf : Shelf → List ℕ → List ℕ → Listened
+listenedOf shelf store each = listenedBy (sender shelf) shelf store each
 
-abbrev pub storeAt : Shelf → List ℕ → List ℕ
-storeAt shelf store = storeBy (sender shelf) shelf store
+abbrev pub turnStore : Shelf → List ℕ → List ℕ
+turnStore shelf store = storeBy (sender shelf) shelf store
 
-abbrev pub bufferAt : Shelf → List ℕ → List ℕ → List ℕ
-bufferAt shelf store buffer = bufferBy (sender shelf) shelf store buffer
+abbrev pub turnBuffer : Shelf → List ℕ → List ℕ → List ℕ
+turnBuffer shelf store buffer = bufferBy (sender shelf) shelf store buffer
 
 -- "Then the grant", of the requests as they were renewed first; "numbered from 0 modulo 65,536"
 abbrev pub granted : Shelf → Granted
@@ -60,8 +61,19 @@ ended shelf grant l =
     })
     (record { from = 0; to = shelf .count; anew = false; each = l .each })
 
+-- requests, sending and grant, where the moves counted this at each unit
+abbrev pub turnDone : Shelf → List ℕ → List ℕ → Done
+turnDone shelf store each = ended shelf (granted shelf) (listenedOf shelf store each)
+
+-- a whole frame: the moves first
 abbrev pub doneAt : Shelf → List ℕ → Done
-doneAt shelf store = ended shelf (granted shelf) (listenedOf shelf store)
+doneAt shelf store = turnDone (moved shelf) (movedStores shelf store) (movedEach shelf)
+
+abbrev pub storeAt : Shelf → List ℕ → List ℕ
+storeAt shelf store = turnStore (moved shelf) (movedStores shelf store)
+
+abbrev pub bufferAt : Shelf → List ℕ → List ℕ → List ℕ
+bufferAt shelf store buffer = turnBuffer (moved shelf) (movedStores shelf store) buffer
 
 -- State, then Length
 unfoldable pub checked : {A : Type 0} → Bool → ℕ → A → A → A → A

@@ -1,3 +1,4 @@
+pub mod Moves
 pub mod Requests
 pub mod Sending
 pub mod Frames

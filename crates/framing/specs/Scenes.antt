@@ -2,7 +2,8 @@
 use Prim.Native.Nat.{ℕ, zero, suc, _+_, _<_, min}
 use mathlib.Core.Bool.{Bool, false, _||_}
 use mathlib.Core.List.{List}
-use lib.ListN.{getD, set, replicate}
+use lib.Bits.{bitOr}
+use lib.ListN.{getD, set}
 use Rattle.bus.specs.declared.Heard as H
 use Rattle.store.specs.Places.{Cell}
 use Rattle.state.specs.Bytes.{unitIn}
@@ -25,11 +26,11 @@ abbrev pub talliedBy : Heeded → List ℕ → Tally
 talliedBy r each = record { each = each; copies = r .copies; addressed = r .addressed }
 
 -- as far as no unit has heard; after one in a place has, with this fate
-abbrev pub unheeded : Tally
-unheeded = record { each = replicate 32 0; copies = 0; addressed = false }
+abbrev pub unheeded : List ℕ → Tally
+unheeded each = record { each = each; copies = 0; addressed = false }
 
 abbrev pub noted : ℕ → A.Hearing → Tally → Tally
-noted i fate t = record { each = set (t .each) i (hearingRises fate); copies = t .copies + queuedOne fate; addressed = t .addressed || isAddressed fate }
+noted i fate t = record { each = set (t .each) i (bitOr (getD (t .each) i 0) (hearingRises fate)); copies = t .copies + queuedOne fate; addressed = t .addressed || isAddressed fate }
 
 -- the same of what was listened to, without the shelf
 abbrev pub heededOf : Listened → Tally
@@ -55,8 +56,8 @@ turns h cell i zero x = x
 turns h cell i (suc n) x = turns h cell (suc i) n (turn h cell i x)
 
 -- every declared unit
-abbrev pub heededBy : H.Heard → Cell → List ℕ → List ℕ → Scene
-heededBy h cell b store = turns h cell 0 (min (getD b 805 0) 32) (record { bytes = b; store = store; tally = unheeded })
+abbrev pub heededBy : H.Heard → Cell → List ℕ → List ℕ → List ℕ → Scene
+heededBy h cell b store each = turns h cell 0 (min (getD b 805 0) 32) (record { bytes = b; store = store; tally = unheeded each })
 
 -- each declared unit has its part of a store of so many bytes
 abbrev pub AllHousedIn : List ℕ → ℕ → Type 0

@@ -4,10 +4,12 @@ use native.Mathlib.Omega.{arith}
 use mathlib.Core.Path.{_≡_, refl, sym, ap, subst, _∙_}
 use mathlib.Core.Bool.{Bool, true, false, cond}
 use mathlib.Core.List.{List}
-use lib.Dec.{eqb}
+use lib.Dec.{eqb, leb}
 use lib.ListN.{length, getD, take, length-take}
 use lib.Seq.{set-getD}
+use borrow.Author.Tests.{eq-eqb, ne-eqb, le-leb, lt-leb}
 use Rattle.bus.specs.Frame.{heard}
+use Rattle.bus.specs.declared.Heard.the-variants as frame
 use Rattle.card.specs.declared.Card.{Card}
 use Rattle.header.specs.declared.Link.{Link}
 use Rattle.octets.specs.Octets.{splice}
@@ -18,26 +20,26 @@ use Rattle.outlet.specs.Hearing.{queueOf, limit, held, fateIn}
 use Rattle.outlet.specs.declared.Fate as F
 use Rattle.outlet.proofs.Fates.{queue-lt, fate-in}
 use Rattle.store.specs.Rings.{tail, pushed}
-use Rattle.store.specs.Places.{Cell, slotAt, outletSlot, putAt}
+use Rattle.store.specs.Places.{Cell, slotAt, outletSlot, controlOutSlot, loopbackOutSlot, putAt}
 use Rattle.shelf.specs.Shelves.{declared, blank}
 use Rattle.shelf.specs.Shelf.{Shelf}
 use Rattle.shelf.specs.declared.Unit as U
 use Rattle.shelf.proofs.Finding.{find-at}
 use Rattle.answer.specs.declared.Hearing as A
-use Rattle.answer.specs.declared.Hearing.the-variants.{Queued}
+use Rattle.answer.specs.declared.Hearing.the-variants.{Other, Full, Queued}
 use Rattle.answer.specs.Done.{Done, outcomeOf}
 use Rattle.answer.specs.Answers.{refused, refusedWith}
-use Rattle.state.specs.Bytes.{col, linkOf, limitsBy, ringBy, unitBy, unitIn, shelfIn, withRing}
-use Rattle.state.proofs.Laws.{unit-at, queue-put, ring-there}
-use Rattle.state.proofs.Kept.{ring-long, ring-other}
+use Rattle.state.specs.Bytes.{col, linkOf, limitsBy, ringBy, unitBy, unitIn, shelfIn, withRing, withByte}
+use Rattle.state.proofs.Laws.{unit-at, queue-put, controlout-put, loopbackout-put, byte-there, ring-there}
+use Rattle.state.proofs.Kept.{Column, Own, byte-long, byte-other, ring-long, ring-other}
 use Rattle.soundness.specs.Soundings.{formedAll}
-use Rattle.soundness.proofs.Kept.{formed-ring}
+use Rattle.soundness.proofs.Kept.{formed-byte, formed-ring}
 use Rattle.soundness.specs.Admission.{admitted, decided, unitAt, withUnit}
 use Rattle.soundness.specs.declared.Admitted as D
 use Rattle.soundness.specs.declared.Admitted.the-variants.{At, Refused}
 use Rattle.soundness.proofs.Laws.{decided-at, decided-refused}
 use Rattle.soundness.proofs.InPlace.{in-place, refused-place}
-use Rattle.hearing.specs.Hearings.{Plan, Queue, Lost, planFor, planTo, planOf, fateBy, copyBy, slotOf, storeBy, copyOf, storeOf, doneAt, storeAt, hearDone}
+use Rattle.hearing.specs.Hearings.{Plan, Queue, ToControl, ToLoopback, Lost, planFor, planTo, planIn, planControl, planLoopback, planOf, fateBy, copyBy, slotOf, storeBy, copyOf, storeOf, doneAt, storeAt, hearDone}
 use Rattle.hearing.specs.InPlace.{stateBy, stateAt, outcomeAt, letInPlace, hearOut, hearState, hearStoreIn}
 use Rattle.hearing.proofs.Plans.{plan-queue}
 
@@ -108,23 +110,81 @@ module _ (u : U.Unit) (b : List ℕ) (i : ℕ) (p : Plan) (q : ℕ) (e : p ≡ Q
   unfolding storeBy putAt
   queued-store store cell = sym (ap (λ x. storeBy x u i store cell) e)
 
+-- a control cell or a loopback cell, by what is read of the unit's bytes: its number, and how many cells stand where it would go
+module _ (b : List ℕ) (i unit number : ℕ) (number-is : number ≡ col b i 0) where
+  module _ (other : number ≡ unit → ⊥) where
+    not-it : eqb (col b i 0) unit ≡ false
+    not-it = ap (λ n. eqb n unit) (sym number-is) ∙ ne-eqb number unit other
+
+    pub control-other : planOf (unitIn b i) (frame.Control unit) ≡ Lost Other
+    unfolding planOf unitBy
+    control-other = ap (λ t. cond t (planControl (unitIn b i)) (Lost Other)) not-it
+
+    pub loopback-other : planOf (unitIn b i) (frame.Loopback unit) ≡ Lost Other
+    unfolding planOf unitBy
+    loopback-other = ap (λ t. cond t (planLoopback (unitIn b i)) (Lost Other)) not-it
+
+  module _ (same : number ≡ unit) where
+    it : eqb (col b i 0) unit ≡ true
+    it = ap (λ n. eqb n unit) (sym number-is) ∙ eq-eqb number unit same
+
+    module _ (ring : Ring) (ring-is : ring ≡ ringBy (col b i) 28 29) where
+      control-by : (t : Bool) → leb 4 (ring .count) ≡ t → planOf (unitIn b i) (frame.Control unit) ≡ cond t (Lost Full) ToControl
+      unfolding planOf planIn unitBy
+      control-by t e = ap (λ x. cond x (planControl (unitIn b i)) (Lost Other)) it ∙ ap (λ x. cond x (Lost Full) ToControl) (ap (λ (r : Ring). leb 4 (r .count)) (sym ring-is) ∙ e)
+
+      pub control-full : 4 ≤ ring .count → planOf (unitIn b i) (frame.Control unit) ≡ Lost Full
+      control-full h = control-by true (le-leb 4 (ring .count) h)
+
+      pub control-goes : ring .count < 4 → planOf (unitIn b i) (frame.Control unit) ≡ ToControl
+      control-goes h = control-by false (lt-leb 4 (ring .count) h)
+
+    module _ (count : ℕ) (count-is : count ≡ col b i 30) where
+      loopback-by : (t : Bool) → leb 1 count ≡ t → planOf (unitIn b i) (frame.Loopback unit) ≡ cond t (Lost Full) ToLoopback
+      unfolding planOf planIn unitBy
+      loopback-by t e = ap (λ x. cond x (planLoopback (unitIn b i)) (Lost Other)) it ∙ ap (λ x. cond x (Lost Full) ToLoopback) (ap (leb 1) (sym count-is) ∙ e)
+
+      pub loopback-full : 1 ≤ count → planOf (unitIn b i) (frame.Loopback unit) ≡ Lost Full
+      loopback-full h = loopback-by true (le-leb 1 count h)
+
+      pub loopback-goes : count < 1 → planOf (unitIn b i) (frame.Loopback unit) ≡ ToLoopback
+      loopback-goes h = loopback-by false (lt-leb 1 count h)
+
+pub control-ring : (b : List ℕ) (i : ℕ) → ringBy (col b i) 28 29 ≡ unitIn b i .side .controlout
+unfolding unitBy
+control-ring b i = refl
+
+-- a copy that is queued in the control outlet, or in the loopback outlet
+module _ (u : U.Unit) (b : List ℕ) (i : ℕ) (store : List ℕ) (cell : Cell) (p : Plan) where
+  pub control-all : p ≡ ToControl → (Queued ≡ fateBy p) × ((withRing b 28 29 i (pushed (unitIn b i .side .controlout)) ≡ stateBy p b i) × (splice store (slotAt i (controlOutSlot (tail (u .side .controlout) 4))) cell ≡ storeBy p u i store cell))
+  unfolding fateBy stateBy storeBy putAt
+  control-all e = (sym (ap fateBy e), (sym (ap (λ x. stateBy x b i) e), sym (ap (λ x. storeBy x u i store cell) e)))
+
+  pub loopback-all : p ≡ ToLoopback → (Queued ≡ fateBy p) × ((withByte b 30 i 1 ≡ stateBy p b i) × (splice store (slotAt i loopbackOutSlot) cell ≡ storeBy p u i store cell))
+  unfolding fateBy stateBy storeBy putAt
+  loopback-all e = (sym (ap fateBy e), (sym (ap (λ x. stateBy x b i) e), sym (ap (λ x. storeBy x u i store cell) e)))
+
 -- the fate is that of the copy
 pub fate-copy : (p : Plan) (u : U.Unit) → fateBy p ≡ copyBy p u .fate
 unfolding fateBy copyBy
 fate-copy (Queue q) u = refl
+fate-copy ToControl u = refl
+fate-copy ToLoopback u = refl
 fate-copy (Lost fate) u = refl
 
 -- there are as many bytes as before
 pub state-long : (p : Plan) (b : List ℕ) (i : ℕ) → length (stateBy p b i) ≡ length b
 unfolding stateBy
 state-long (Queue q) b i = ring-long b (16 + q) (20 + q) i (pushed (queue (unitIn b i .outlet) q))
+state-long ToControl b i = ring-long b 28 29 i (pushed (unitIn b i .side .controlout))
+state-long ToLoopback b i = byte-long b 30 i 1
 state-long (Lost fate) b i = refl
 
 -- a shelf is itself with the same unit put back
 unturned : (s : Shelf) (i : ℕ) → s ≡ withUnit s i (unitAt s i)
 unturned s i t = record { bus = s .bus; count = s .count; units = sym (set-getD (s .units) i blank) t; arbiter = s .arbiter; granted = s .granted; frame = s .frame }
 
--- one unit has heard; what is written leaves the others, all bytes but those of its rings, and what says a link, a mode or a mark
+-- one unit has heard; what is written leaves the others, all bytes but those of its rings and single places, and what says a link, a mode or a mark
 module _ (p : Plan) (b : List ℕ) (i : ℕ) (few : (q : ℕ) → p ≡ Queue q → q < 4) (hi : i < 32) where
   pub state-put : length b ≡ 2048 → shelfIn (stateBy p b i) ≡ withUnit (shelfIn b) i (copyBy p (unitIn b i) .unit)
   unfolding stateBy copyBy
@@ -132,6 +192,8 @@ module _ (p : Plan) (b : List ℕ) (i : ℕ) (few : (q : ℕ) → p ≡ Queue q 
     where
       by : (x : Plan) → p ≡ x → shelfIn (stateBy x b i) ≡ withUnit (shelfIn b) i (copyBy x (unitIn b i) .unit)
       by (Queue q) e = queue-put b i (pushed (queue (unitIn b i .outlet) q)) hi long q (few q e)
+      by ToControl e = controlout-put b i (pushed (unitIn b i .side .controlout)) hi long
+      by ToLoopback e = loopbackout-put b i 1 hi long
       by (Lost fate) e = unturned (shelfIn b) i ∙ ap (withUnit (shelfIn b) i) (unit-at b i blank hi)
 
   pub state-there : length b ≡ 2048 → (j : ℕ) → j < 32 → (j ≡ i → ⊥) → unitIn (stateBy p b i) j ≡ unitIn b j
@@ -140,9 +202,11 @@ module _ (p : Plan) (b : List ℕ) (i : ℕ) (few : (q : ℕ) → p ≡ Queue q 
     where
       by : (x : Plan) → p ≡ x → unitIn (stateBy x b i) j ≡ unitIn b j
       by (Queue q) e = let f = few q e in ring-there b (16 + q) (20 + q) i (pushed (queue (unitIn b i .outlet) q)) (omega arith) (omega arith) hi long j hj ne
+      by ToControl e = ring-there b 28 29 i (pushed (unitIn b i .side .controlout)) (omega arith) (omega arith) hi long j hj ne
+      by ToLoopback e = byte-there b 30 i 1 (omega arith) hi long j hj ne
       by (Lost fate) e = refl
 
-  pub state-other : (k : ℕ) → ((h : ℕ) → 14 ≤ h → h < 24 → k ≡ h * 32 + i → ⊥) → getD (stateBy p b i) k 0 ≡ getD b k 0
+  pub state-other : (k : ℕ) → ((h : ℕ) → 14 ≤ h → Column h → k ≡ h * 32 + i → ⊥) → getD (stateBy p b i) k 0 ≡ getD b k 0
   unfolding stateBy
   state-other k ne = by p refl
     where
@@ -150,6 +214,8 @@ module _ (p : Plan) (b : List ℕ) (i : ℕ) (few : (q : ℕ) → p ≡ Queue q 
       by (Queue q) e =
           let f = few q e in
           ring-other b (16 + q) (20 + q) i (pushed (queue (unitIn b i .outlet) q)) k (ne (16 + q) (omega arith) (omega arith)) (ne (20 + q) (omega arith) (omega arith))
+      by ToControl e = ring-other b 28 29 i (pushed (unitIn b i .side .controlout)) k (ne 28 (omega arith) (omega arith)) (ne 29 (omega arith) (omega arith))
+      by ToLoopback e = byte-other b 30 i 1 k (ne 30 (omega arith) (omega arith))
       by (Lost fate) e = refl
 
   pub state-formed : formedAll (stateBy p b i) ≡ formedAll b
@@ -158,6 +224,8 @@ module _ (p : Plan) (b : List ℕ) (i : ℕ) (few : (q : ℕ) → p ≡ Queue q 
     where
       by : (x : Plan) → p ≡ x → formedAll (stateBy x b i) ≡ formedAll b
       by (Queue q) e = let f = few q e in formed-ring b (16 + q) (20 + q) i (pushed (queue (unitIn b i .outlet) q)) (omega arith) (omega arith) (omega arith) (omega arith) hi
+      by ToControl e = formed-ring b 28 29 i (pushed (unitIn b i .side .controlout)) (omega arith) (omega arith) (omega arith) (omega arith) hi
+      by ToLoopback e = formed-byte b 30 i 1 (omega arith) (omega arith) hi
       by (Lost fate) e = refl
 
 -- the event: let in at a place, or refused
@@ -210,10 +278,10 @@ module _ (card : Card) (b : List ℕ) (store rows unit : ℕ) (f : List ℕ) whe
       let l = in-place card b store rows unit (eqb (length f) 57) i e in
       omega (arith, length-take (getD b 805 0) (shelfIn b .units), find-at unit (declared (shelfIn b)) i .0 (l .let-in .found) .inside)
 
-  -- all but the rings of the unit that hears it
-  pub hear-other : (k : ℕ) → ((i : ℕ) → letInPlace card b store rows unit f ≡ At i → 448 ≤ k → k < 768 → k % 32 ≡ i → ⊥) → getD (hearState card b store rows unit f) k 0 ≡ getD b k 0
+  -- all but the rings and single places of the unit that hears it
+  pub hear-other : (k : ℕ) → ((i : ℕ) → letInPlace card b store rows unit f ≡ At i → 448 ≤ k → k < 992 → (Own k → ⊥) → k % 32 ≡ i → ⊥) → getD (hearState card b store rows unit f) k 0 ≡ getD b k 0
   hear-other k ne =
-      kept (λ x. getD x k 0 ≡ getD b k 0) refl (λ i e hi. state-other (planOf (unitIn b i) (heard f)) b i (queues i) hi k (λ h lh hh q. ne i e (omega arith) (omega arith) (omega arith)))
+      kept (λ x. getD x k 0 ≡ getD b k 0) refl (λ i e hi. state-other (planOf (unitIn b i) (heard f)) b i (queues i) hi k (λ h lh hh q. ne i e (omega arith) (omega arith) (λ o. omega arith) (omega arith)))
 
   -- the tie to the shelf of specs
   pub hear-long : length b ≡ 2048 → formedAll b ≡ true → length (hearState card b store rows unit f) ≡ 2048
@@ -222,15 +290,18 @@ module _ (card : Card) (b : List ℕ) (store rows unit : ℕ) (f : List ℕ) whe
   pub hear-formed : length b ≡ 2048 → formedAll b ≡ true → formedAll (hearState card b store rows unit f) ≡ true
   hear-formed long formed = kept (λ x. formedAll x ≡ true) formed (λ i e h. state-formed (planOf (unitIn b i) (heard f)) b i (queues i) h ∙ formed)
 
-  -- the bytes behind those of the frame number; the columns before those of rings; the places past the declared units
-  pub hear-free : length b ≡ 2048 → formedAll b ≡ true → (k : ℕ) → 768 ≤ k → getD (hearState card b store rows unit f) k 0 ≡ getD b k 0
-  hear-free long formed k low = hear-other k (λ i e x y z. omega arith)
+  -- the shelf's own bytes, the free ones and the sessions; the columns before those of rings; the places past the declared units
+  pub hear-own : length b ≡ 2048 → formedAll b ≡ true → (k : ℕ) → Own k → getD (hearState card b store rows unit f) k 0 ≡ getD b k 0
+  hear-own long formed k own = hear-other k (λ i e x y no z. no own)
+
+  pub hear-free : length b ≡ 2048 → formedAll b ≡ true → (k : ℕ) → 992 ≤ k → getD (hearState card b store rows unit f) k 0 ≡ getD b k 0
+  hear-free long formed k low = hear-other k (λ i e x y no z. omega arith)
 
   pub hear-kept : length b ≡ 2048 → formedAll b ≡ true → (k : ℕ) → k < 448 → getD (hearState card b store rows unit f) k 0 ≡ getD b k 0
-  hear-kept long formed k high = hear-other k (λ i e x y z. omega arith)
+  hear-kept long formed k high = hear-other k (λ i e x y no z. omega arith)
 
-  pub hear-others : length b ≡ 2048 → formedAll b ≡ true → (k : ℕ) → k < 768 → getD b 805 0 ≤ k % 32 → getD (hearState card b store rows unit f) k 0 ≡ getD b k 0
-  hear-others long formed k high past = hear-other k (λ i e x y z. let c = declared-place i e in omega arith)
+  pub hear-others : length b ≡ 2048 → formedAll b ≡ true → (k : ℕ) → getD b 805 0 ≤ k % 32 → getD (hearState card b store rows unit f) k 0 ≡ getD b k 0
+  hear-others long formed k past = hear-other k (λ i e x y no z. let c = declared-place i e in omega arith)
 
   pub hear-decodes : length b ≡ 2048 → formedAll b ≡ true → shelfIn (hearState card b store rows unit f) ≡ hearDone card (shelfIn b) store rows unit f .reply .shelf
   unfolding decided

@@ -7,7 +7,7 @@ use Rattle.bus.specs.Frame.{heard}
 use Rattle.card.specs.declared.Card.{Card}
 use Rattle.outlet.specs.Outlets.{queue}
 use Rattle.store.specs.Rings.{pushed}
-use Rattle.state.specs.Bytes.{unitIn, shelfIn, withRing}
+use Rattle.state.specs.Bytes.{unitIn, shelfIn, withRing, withByte}
 use Rattle.answer.specs.declared.Hearing as A
 use Rattle.answer.specs.declared.Answer.the-variants.{Heard}
 use Rattle.answer.specs.declared.Outcome.{Outcome}
@@ -15,11 +15,13 @@ use Rattle.answer.specs.Done.{outcomeOf}
 use Rattle.answer.specs.Answers.{hearingRises, row, refusedWith}
 use Rattle.soundness.specs.declared.Admitted as D
 use Rattle.soundness.specs.Admission.{admittedIn, decided, formedOr}
-use Rattle.hearing.specs.Hearings.{Plan, Queue, Lost, planOf, hearDone, hearStore}
+use Rattle.hearing.specs.Hearings.{Plan, Queue, ToControl, ToLoopback, Lost, planOf, hearDone, hearStore}
 
 -- the state after the unit in a place has heard a frame with this plan
 unfoldable pub stateBy : Plan → List ℕ → ℕ → List ℕ
 stateBy (Queue q) b place = withRing b (16 + q) (20 + q) place (pushed (queue (unitIn b place .outlet) q))
+stateBy ToControl b place = withRing b 28 29 place (pushed (unitIn b place .side .controlout))
+stateBy ToLoopback b place = withByte b 30 place 1
 stateBy (Lost fate) b place = b
 
 abbrev pub stateAt : List ℕ → ℕ → List ℕ → List ℕ

@@ -6,19 +6,21 @@ use bus::Heard;
 use bus::Target;
 use card::Card;
 use outlet::Fate;
+use shelf::Unit;
 use soundness::Admitted;
 ghost use mathlib.Core.Path.{_≡_};
 ghost use Prim.Native.Nat.{_<_, _≤_};
 ghost use lib.ListN.{length, take};
 ghost use Rattle.answer.specs.Answers.{outcomeBy};
 ghost use Rattle.bus.specs.Frame.{heard as heardOf};
+ghost use Rattle.bus.specs.declared.Heard.the-variants.{Control, Loopback};
 ghost use Rattle.state.specs.Bytes.{unitIn};
 ghost use Rattle.soundness.specs.Admission.{Housed};
-ghost use Rattle.hearing.specs.Hearings.{addressed as addressedTo, passesBy, asideOf, planTo, planOf, fateBy, storeBy, storeOf};
+ghost use Rattle.hearing.specs.Hearings.{addressed as addressedTo, planTo, planOf, fateBy, storeBy, storeOf};
 ghost use Rattle.hearing.specs.InPlace.{stateBy, stateAt, outcomeAt, hearOut, hearState, hearStoreIn};
 
 // Whether a cell to this target is for the unit in a place.
-fn addressed_at(s: &[u8], place: usize, target: Target) -> bool
+pub fn addressed_at(s: &[u8], place: usize, target: Target) -> bool
     requires { ⌜ (length (now s) ≡ 2048) × (place < 32) ⌝ }
     ensures { λ r. ⌜ r ≡ addressedTo (unitIn (now (s .entry)) place) target ⌝ }
 {
@@ -26,37 +28,6 @@ fn addressed_at(s: &[u8], place: usize, target: Target) -> bool
         Target::Unit(number) => state::at(s, 0, place) == number,
         Target::Session(session) => state::hears_at(s, place, session),
         Target::All => true,
-    }
-}
-
-// Whether a heard frame passes the unit in a place by: it is damaged, or not addressed to it.
-pub fn passes(s: &[u8], place: usize, heard: Heard) -> bool
-    requires { ⌜ (length (now s) ≡ 2048) × (place < 32) ⌝ }
-    ensures { λ r. ⌜ r ≡ passesBy (unitIn (now (s .entry)) place) heard ⌝ }
-{
-    match heard {
-        Heard::Length => true,
-        Heard::Damaged => true,
-        Heard::Cell {
-            target,
-            class: _,
-            header: _,
-        } => !addressed_at(s, place, target),
-    }
-}
-
-// The fate of a heard frame at a unit that it passes by.
-pub fn aside(heard: Heard) -> Hearing
-    ensures { λ r. ⌜ r ≡ asideOf heard ⌝ }
-{
-    match heard {
-        Heard::Length => Hearing::Damaged,
-        Heard::Damaged => Hearing::Damaged,
-        Heard::Cell {
-            target: _,
-            class: _,
-            header: _,
-        } => Hearing::Other,
     }
 }
 
@@ -95,6 +66,44 @@ pub fn accept(
     }
 }
 
+// A control cell for this unit is heard in a place. A queued one goes behind the others in the control outlet.
+pub fn hear_control(s: &mut [u8], place: usize, unit: u8, cell: &[u8], store: &mut [u8]) -> Hearing
+    requires { ⌜ (length (now s) ≡ 2048) × (length (now cell) ≡ 56) × Housed place (unitIn (now s) place) (length (now store)) ⌝ }
+    ensures { λ r. ⌜ r ≡ fateBy (planOf (unitIn (now (s .entry)) place) (Control unit)) ⌝ }
+    ensures kept { λ _. ⌜ (now (s .exit) ≡ stateBy (planOf (unitIn (now (s .entry)) place) (Control unit)) (now (s .entry)) place)
+        × (now (store .exit) ≡ storeOf (unitIn (now (s .entry)) place) (Control unit) place (now (store .entry)) (now (cell .entry))) ⌝ }
+{
+    if state::at(s, 0, place) != unit {
+        return Hearing::Other;
+    }
+    let ring = state::ring_at(s, 28, 29, place);
+    if Unit::CONTROL <= ring.count {
+        return Hearing::Full;
+    }
+    let tail = store::tail(ring, Unit::CONTROL);
+    state::put_ring(s, 28, 29, place, store::pushed(ring));
+    store::put_cell(store, store::control_at(place, tail), cell);
+    Hearing::Queued
+}
+
+// A loopback cell for this unit is heard in a place.
+pub fn hear_loopback(s: &mut [u8], place: usize, unit: u8, cell: &[u8], store: &mut [u8]) -> Hearing
+    requires { ⌜ (length (now s) ≡ 2048) × (length (now cell) ≡ 56) × Housed place (unitIn (now s) place) (length (now store)) ⌝ }
+    ensures { λ r. ⌜ r ≡ fateBy (planOf (unitIn (now (s .entry)) place) (Loopback unit)) ⌝ }
+    ensures kept { λ _. ⌜ (now (s .exit) ≡ stateBy (planOf (unitIn (now (s .entry)) place) (Loopback unit)) (now (s .entry)) place)
+        × (now (store .exit) ≡ storeOf (unitIn (now (s .entry)) place) (Loopback unit) place (now (store .entry)) (now (cell .entry))) ⌝ }
+{
+    if state::at(s, 0, place) != unit {
+        return Hearing::Other;
+    }
+    if 1 <= state::at(s, 30, place) {
+        return Hearing::Full;
+    }
+    state::put_byte(s, 30, place, 1);
+    store::put_cell(store, store::slot_at(place, store::LOOPBACK_OUT), cell);
+    Hearing::Queued
+}
+
 // The unit in a place hears a frame of this cell. What is no frame is damaged.
 fn hear_one(s: &mut [u8], place: usize, heard: Heard, cell: &[u8], store: &mut [u8]) -> Hearing
     requires { ⌜ (length (now s) ≡ 2048) × (length (now cell) ≡ 56) × Housed place (unitIn (now s) place) (length (now store)) ⌝ }
@@ -115,6 +124,8 @@ fn hear_one(s: &mut [u8], place: usize, heard: Heard, cell: &[u8], store: &mut [
             }
             accept(s, place, class, header, cell, store)
         }
+        Heard::Control(unit) => hear_control(s, place, unit, cell, store),
+        Heard::Loopback(unit) => hear_loopback(s, place, unit, cell, store),
     }
 }
 

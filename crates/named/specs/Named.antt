@@ -10,7 +10,7 @@ use Rattle.shelf.specs.declared.Found.the-variants.{At, Nothing}
 use Rattle.shelf.specs.Sessions.{hears}
 use Rattle.shelf.specs.Shelves.{declared, findIn}
 use Rattle.state.specs.Bytes.{col, placeBy, shelfIn}
-use Rattle.named.specs.Names.{tShowUnit, tLink, tUni, tNni, tTop, tPriority, tMode, tOne, tFour, tCbrlength, tCbrlimit, tVbrlimit, tMark, tPlace, tInlethead, tInletcount, tQueueheads, tQueuecounts, tSessions, tNoUnit}
+use Rattle.named.specs.Names.{tShowUnit, tLink, tUni, tNni, tTop, tPriority, tMode, tOne, tFour, tCbrlength, tCbrlimit, tVbrlimit, tMark, tPlace, tInlethead, tInletcount, tQueueheads, tQueuecounts, tControlin, tLoopbackin, tControlhead, tControlcount, tLoopbackout, tSessions, tNoUnit}
 
 -- a column by its name; f is a unit's byte in each column
 abbrev pub column : List ℕ → ℕ → List ℕ
@@ -39,6 +39,13 @@ inletText f = (column tPlace (placeBy f) ++ column tInlethead (f 14)) ++ column 
 abbrev pub fourText : List ℕ → (ℕ → ℕ) → ℕ → List ℕ
 fourText name f c = ((column name (f c) ++ numberField (f (c + 1))) ++ numberField (f (c + 2))) ++ numberField (f (c + 3))
 
+-- "controlin N loopbackin N controlhead N controlcount N loopbackout N"
+abbrev pub insText : (ℕ → ℕ) → List ℕ
+insText f = column tControlin (f 26) ++ column tLoopbackin (f 27)
+
+abbrev pub outsText : (ℕ → ℕ) → List ℕ
+outsText f = (column tControlhead (f 28) ++ column tControlcount (f 29)) ++ column tLoopbackout (f 30)
+
 -- "Each S is a session that the unit hears, in rising order": those below a number
 unfoldable pub sessionText : List ℕ → ℕ → List ℕ
 sessionText sessions session = cond (hears sessions session) (numberField session) []
@@ -57,8 +64,11 @@ frontText f = settingsText f ++ limitsText f
 abbrev pub ringsText : (ℕ → ℕ) → List ℕ
 ringsText f = (inletText f ++ fourText tQueueheads f 16) ++ fourText tQueuecounts f 20
 
+abbrev pub cellsText : (ℕ → ℕ) → List ℕ
+cellsText f = (ringsText f ++ insText f) ++ outsText f
+
 unfoldable pub placeText : List ℕ → ℕ → List ℕ
-placeText b i = (frontText (col b i) ++ ringsText (col b i)) ++ sessionsText (part b (1024 + 32 * i) 32)
+placeText b i = (frontText (col b i) ++ cellsText (col b i)) ++ sessionsText (part b (1024 + 32 * i) 32)
 
 -- "The unit is the first place with the byte UNIT in column 0 among the declared places .. Where there is none, the answer is `show unit refused 9`"
 abbrev pub foundText : List ℕ → Found → List ℕ

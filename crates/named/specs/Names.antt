@@ -74,6 +74,26 @@ tQueueheads = 9 ∷ 113 ∷ 117 ∷ 101 ∷ 117 ∷ 101 ∷ 104 ∷ 101 ∷ 97 �
 abbrev pub tQueuecounts : List ℕ
 tQueuecounts = 9 ∷ 113 ∷ 117 ∷ 101 ∷ 117 ∷ 101 ∷ 99 ∷ 111 ∷ 117 ∷ 110 ∷ 116 ∷ 115 ∷ []
 
+-- ` controlin`
+abbrev pub tControlin : List ℕ
+tControlin = 9 ∷ 99 ∷ 111 ∷ 110 ∷ 116 ∷ 114 ∷ 111 ∷ 108 ∷ 105 ∷ 110 ∷ []
+
+-- ` loopbackin`
+abbrev pub tLoopbackin : List ℕ
+tLoopbackin = 9 ∷ 108 ∷ 111 ∷ 111 ∷ 112 ∷ 98 ∷ 97 ∷ 99 ∷ 107 ∷ 105 ∷ 110 ∷ []
+
+-- ` controlhead`
+abbrev pub tControlhead : List ℕ
+tControlhead = 9 ∷ 99 ∷ 111 ∷ 110 ∷ 116 ∷ 114 ∷ 111 ∷ 108 ∷ 104 ∷ 101 ∷ 97 ∷ 100 ∷ []
+
+-- ` controlcount`
+abbrev pub tControlcount : List ℕ
+tControlcount = 9 ∷ 99 ∷ 111 ∷ 110 ∷ 116 ∷ 114 ∷ 111 ∷ 108 ∷ 99 ∷ 111 ∷ 117 ∷ 110 ∷ 116 ∷ []
+
+-- ` loopbackout`
+abbrev pub tLoopbackout : List ℕ
+tLoopbackout = 9 ∷ 108 ∷ 111 ∷ 111 ∷ 112 ∷ 98 ∷ 97 ∷ 99 ∷ 107 ∷ 111 ∷ 117 ∷ 116 ∷ []
+
 -- ` sessions`
 abbrev pub tSessions : List ℕ
 tSessions = 9 ∷ 115 ∷ 101 ∷ 115 ∷ 115 ∷ 105 ∷ 111 ∷ 110 ∷ 115 ∷ []

@@ -7,7 +7,7 @@ ghost use lib.ListN.{length};
 ghost use Rattle.text.specs.Writing.{Wrote};
 ghost use Rattle.text.specs.Decimals.{numberField};
 ghost use Rattle.state.specs.Bytes.{col, placeBy};
-ghost use Rattle.named.specs.Named.{linkText, modeText, settingsText, cbrText, limitsText, inletText, fourText, sessionText, sessionsText, frontText, ringsText, placeText, unitText};
+ghost use Rattle.named.specs.Named.{linkText, modeText, settingsText, cbrText, limitsText, inletText, fourText, insText, outsText, sessionText, sessionsText, frontText, ringsText, cellsText, placeText, unitText};
 
 // A name and the byte of a column.
 fn put_column(out: &mut [u8], at: usize, name: &[u8], s: &[u8], column: usize, i: usize) -> usize
@@ -102,6 +102,25 @@ fn put_four(out: &mut [u8], at: usize, name: &[u8], s: &[u8], column: usize, i: 
     put_more(out, third, s, column + 3, i)
 }
 
+// The processor's cell in the inlet, and the one that came back to it.
+fn put_ins(out: &mut [u8], at: usize, s: &[u8], i: usize) -> usize
+    requires { ⌜ (length (now s) ≡ 2048) × (i < 32) × (at + 70 ≤ length (now out)) ⌝ }
+    ensures { λ r. ⌜ Wrote (now (out .entry)) at (insText (col (now (s .entry)) i)) r (now (out .exit)) × (r ≤ at + 70) ⌝ }
+{
+    let control = put_column(out, at, b"\tcontrolin", s, 26, i);
+    put_column(out, control, b"\tloopbackin", s, 27, i)
+}
+
+// The control outlet, and the cell in the loopback outlet.
+fn put_outs(out: &mut [u8], at: usize, s: &[u8], i: usize) -> usize
+    requires { ⌜ (length (now s) ≡ 2048) × (i < 32) × (at + 110 ≤ length (now out)) ⌝ }
+    ensures { λ r. ⌜ Wrote (now (out .entry)) at (outsText (col (now (s .entry)) i)) r (now (out .exit)) × (r ≤ at + 110) ⌝ }
+{
+    let headed = put_column(out, at, b"\tcontrolhead", s, 28, i);
+    let counted = put_column(out, headed, b"\tcontrolcount", s, 29, i);
+    put_column(out, counted, b"\tloopbackout", s, 30, i)
+}
+
 // A session that is heard.
 fn put_session(out: &mut [u8], at: usize, sessions: [u8; 32], session: u8) -> usize
     requires { ⌜ at + 21 ≤ length (now out) ⌝ }
@@ -145,19 +164,29 @@ fn put_rings(out: &mut [u8], at: usize, s: &[u8], i: usize) -> usize
     put_four(out, heads, b"\tqueuecounts", s, 20, i)
 }
 
+// All places of a unit that hold cells.
+fn put_cells(out: &mut [u8], at: usize, s: &[u8], i: usize) -> usize
+    requires { ⌜ (length (now s) ≡ 2048) × (i < 32) × (at + 480 ≤ length (now out)) ⌝ }
+    ensures { λ r. ⌜ Wrote (now (out .entry)) at (cellsText (col (now (s .entry)) i)) r (now (out .exit)) × (r ≤ at + 480) ⌝ }
+{
+    let rings = put_rings(out, at, s, i);
+    let ins = put_ins(out, rings, s, i);
+    put_outs(out, ins, s, i)
+}
+
 // The unit in a place.
 fn put_unit(out: &mut [u8], at: usize, s: &[u8], i: usize) -> usize
-    requires { ⌜ (length (now s) ≡ 2048) × (i < 32) × (at + 6000 ≤ length (now out)) ⌝ }
-    ensures { λ r. ⌜ Wrote (now (out .entry)) at (placeText (now (s .entry)) i) r (now (out .exit)) × (r ≤ at + 6000) ⌝ }
+    requires { ⌜ (length (now s) ≡ 2048) × (i < 32) × (at + 6200 ≤ length (now out)) ⌝ }
+    ensures { λ r. ⌜ Wrote (now (out .entry)) at (placeText (now (s .entry)) i) r (now (out .exit)) × (r ≤ at + 6200) ⌝ }
 {
     let front = put_front(out, at, s, i);
-    let rings = put_rings(out, front, s, i);
-    put_sessions(out, rings, state::sessions_at(s, i))
+    let cells = put_cells(out, front, s, i);
+    put_sessions(out, cells, state::sessions_at(s, i))
 }
 
 // The unit with a number, or that none has it.
 pub fn unit(out: &mut [u8], at: usize, s: &[u8], number: u8) -> usize
-    requires { ⌜ (length (now s) ≡ 2048) × (at + 6000 ≤ length (now out)) ⌝ }
+    requires { ⌜ (length (now s) ≡ 2048) × (at + 6200 ≤ length (now out)) ⌝ }
     ensures { λ r. ⌜ Wrote (now (out .entry)) at (unitText (now (s .entry)) number) r (now (out .exit)) ⌝ }
 {
     match state::find(s, number) {

@@ -1,6 +1,6 @@
 -- The first so many of 40 rows are lent: what comes of an event is what comes of it with all of them, and the rows behind are as they were. Assumes nothing.
 --     many, whole        as many are lent as are said, and with those behind they are 40
---     loads-few, arrives-few, ..     what the entry point leaves, of the rows that are lent, is what `owned` ensures, of all of them.        counts-few     and what a count answers
+--     loads-few, arrives-few, ..     what the entry point leaves, of the rows that are lent, is what `owned` ensures, of all of them.        hands-few, counts-few     and what a hand leaves, which changes none; what a count answers
 use Prim.Native.Nat.{ℕ, zero, suc, _*_, _≤_, _<_, min}
 use native.Mathlib.Omega.{arith}
 use mathlib.Core.Path.{_≡_, refl, sym, ap, subst, _∙_}
@@ -49,11 +49,15 @@ use Rattle.hearing.specs.InPlace.{hearOut}
 use Rattle.taking.specs.Takes as taken
 use Rattle.taking.specs.InPlace.{takeOut}
 use Rattle.taking.proofs.InPlace as taking
+use Rattle.handing.specs.Collects.{collectAt}
+use Rattle.handing.specs.InPlace.{collectOut}
+use Rattle.handing.proofs.InPlace.{collect-fits}
 use Rattle.framing.specs.Frames.{checked}
 use Rattle.framing.specs.InPlace.{frameOut}
+use Rattle.framing.proofs.Moves.{moved-count}
 use Rattle.entry.specs.declared.Counted.{Counted}
 use Rattle.entry.specs.Counts.{counted, countOf}
-use Rattle.entry.specs.Outcomes.{Left, arrives, frames, hears, takes, countsOf, loads, LeavesStore, LeavesAll, LeavesBytes, LeavesMemory}
+use Rattle.entry.specs.Outcomes.{Left, arrives, frames, hears, takes, hands, collects, countsOf, loads, LeavesStore, LeavesAll, LeavesBytes, LeavesCell, LeavesMemory}
 
 -- ---- the rows: those that are lent are settled, and the others stand behind them
 settled-first : (rows : List Counters) (rises : Rises) (n i : ℕ) → n ≤ length rows → i ≤ n → settledTo (take n rows) rises i ++ drop n rows ≡ settledTo rows rises i
@@ -139,12 +143,15 @@ module _ (n : ℕ) (card : Card) (b : List ℕ) where
   take-most : (store unit lent : ℕ) → takeOut card b store n unit lent .rises .to ≤ n
   take-most store unit lent = at-unit store unit (eqb lent 53) (taken.doneAt (shelfIn b)) (λ i h k. taking.out-fits (leaving (unitAt (shelfIn b) i .outlet)) b i n h k .1)
 
+  collect-most : (store unit lent : ℕ) → collectOut card b store n unit lent .rises .to ≤ n
+  collect-most store unit lent = at-unit store unit (eqb lent 56) (collectAt (shelfIn b)) (λ i h k. collect-fits (shelfIn b) i n h k .1)
+
   frame-most : (store : List ℕ) (lent : ℕ) → frameOut card b store n lent .rises .to ≤ n
   unfolding checked
   frame-most store lent =
       decide (formedAll b)
       (λ f. rw f (decide (soundOf card (shelfIn b) (length store) n)
-      (λ s. rw s (decide (eqb lent 57) (λ t. rw t (sound-iff card (shelfIn b) (length store) n .0 s .rows)) (λ t. rw t (omega arith))))
+      (λ s. rw s (decide (eqb lent 57) (λ t. rw t (subst (λ (k : ℕ). k ≤ n) (sym (moved-count (shelfIn b))) (sound-iff card (shelfIn b) (length store) n .0 s .rows))) (λ t. rw t (omega arith))))
       (λ s. rw s (omega arith))))
       (λ f. rw f (omega arith))
 
@@ -209,6 +216,14 @@ module _ (rows : List Counters) (lent : ℕ) (long : length rows ≡ 40) where
           same : takes card b store rows n unit buffer ≡ takes card b store rows lent unit buffer
           same = rw (admitted-few card (shelfIn b) (length store) lent unit (eqb (length buffer) 53), admitted-in-few card b (length store) lent unit (eqb (length buffer) 53))
 
+      pub collects-few : (unit : ℕ) (buffer t : List ℕ) → LeavesBytes (collects card b store lot (length lot) unit buffer) r s t zs → LeavesBytes (collects card b store rows lent unit buffer) r s t (zs ++ others)
+      collects-few unit buffer t h =
+          let g = subst (λ (k : ℕ). LeavesBytes (collects card b store lot k unit buffer) r s t zs) many h in
+          subst (λ (l : Left). LeavesBytes l r s t (zs ++ others)) same (g .0, (g .1 .0, (g .1 .1 .0, behind (collectOut card b (length store) n unit (length buffer) .rises) zs (g .1 .1 .1) (collect-most n card b (length store) unit (length buffer)))))
+        where
+          same : collects card b store rows n unit buffer ≡ collects card b store rows lent unit buffer
+          same = rw (admitted-few card (shelfIn b) (length store) lent unit (eqb (length buffer) 56), admitted-in-few card b (length store) lent unit (eqb (length buffer) 56))
+
       pub frames-few : (buffer t u : List ℕ) → LeavesAll (frames card b store lot (length lot) buffer) r s t u zs → LeavesAll (frames card b store rows lent buffer) r s t u (zs ++ others)
       frames-few buffer t u h =
           let g = subst (λ (k : ℕ). LeavesAll (frames card b store lot k buffer) r s t u zs) many h in
@@ -216,6 +231,13 @@ module _ (rows : List Counters) (lent : ℕ) (long : length rows ≡ 40) where
         where
           same : frames card b store rows n buffer ≡ frames card b store rows lent buffer
           same = rw (sound-few card (shelfIn b) (length store) lent, sound-in-few card b (length store) lent)
+
+  -- a hand changes no row
+  pub hands-few : (card : Card) (b store : List ℕ) (unit : ℕ) (cell : List ℕ) (r : Answer) (s t : List ℕ) → LeavesCell (hands card b store lot (length lot) unit cell) r s t → LeavesCell (hands card b store rows lent unit cell) r s t
+  hands-few card b store unit cell r s t h = subst (λ (l : Left). LeavesCell l r s t) same (subst (λ (k : ℕ). LeavesCell (hands card b store lot k unit cell) r s t) many h)
+    where
+      same : hands card b store lot n unit cell ≡ hands card b store lot lent unit cell
+      same = rw (admitted-few card (shelfIn b) (length store) lent unit (eqb (length cell) 56), admitted-in-few card b (length store) lent unit (eqb (length cell) 56))
 
   pub counts-few : (card : Card) (b store : List ℕ) (unit : ℕ) (r : Counted) → r ≡ countsOf card b store lot (length lot) unit → r ≡ countsOf card b store rows lent unit
   unfolding counted

@@ -5,7 +5,7 @@ use card::Card;
 use entry::Counted;
 ghost use mathlib.Core.Path.{_≡_};
 ghost use Prim.Native.Nat.{min};
-ghost use Rattle.entry.specs.Outcomes.{arrives, frames, hears, takes, countsOf, loads, LeavesStore, LeavesAll, LeavesBytes, LeavesMemory};
+ghost use Rattle.entry.specs.Outcomes.{arrives, frames, hears, takes, hands, collects, countsOf, loads, LeavesStore, LeavesAll, LeavesBytes, LeavesCell, LeavesMemory};
 
 // What is given back, and the rows afterwards.
 pub struct After {
@@ -108,6 +108,39 @@ pub fn take(
     let mut rs = rows;
     let n = within(lent);
     let answer = entry::take(card, state, store, &mut rs[..n], unit, buffer);
+    joined(answer, rs)
+}
+
+// The rows are as they were: the answer alone comes back.
+pub fn hand(
+    card: Card,
+    state: &mut [u8; 2048],
+    store: &mut [u8],
+    rows: [Counters; 40],
+    lent: usize,
+    unit: u8,
+    cell: &[u8],
+) -> Answer
+    ensures { λ r. ⌜ LeavesCell (hands card (now (state .entry)) (now (store .entry)) rows lent unit (now (cell .entry))) r (now (state .exit)) (now (store .exit)) ⌝ }
+{
+    let n = within(lent);
+    entry::hand(card, state, store, &rows[..n], unit, cell)
+}
+
+pub fn collect(
+    card: Card,
+    state: &mut [u8; 2048],
+    store: &[u8],
+    rows: [Counters; 40],
+    lent: usize,
+    unit: u8,
+    buffer: &mut [u8],
+) -> After
+    ensures { λ r. ⌜ LeavesBytes (collects card (now (state .entry)) (now (store .entry)) rows lent unit (now (buffer .entry))) (r .answer) (now (state .exit)) (now (buffer .exit)) (r .rows) ⌝ }
+{
+    let mut rs = rows;
+    let n = within(lent);
+    let answer = entry::collect(card, state, store, &mut rs[..n], unit, buffer);
     joined(answer, rs)
 }
 

@@ -1,10 +1,12 @@
 -- What the code's rooms say of counters is what the paper says. Assumes nothing.
 use Prim.Native.Nat.{ℕ, zero as none, suc, _+_, _/_, _%_, _^_, _<_, _≤_}
+use native.Mathlib.Nat.{mod-lt}
 use native.Mathlib.Omega.{arith}
 use mathlib.Core.Path.{_≡_, refl, sym, ap, ap₂, subst, _∙_}
 use mathlib.Core.Logic.{_≢_}
 use mathlib.Core.Bool.{Bool, true, false, _&&_, false≢true}
-use mathlib.Core.List.{List, [], _∷_}
+use mathlib.Core.List.{List, [], _∷_, _++_}
+use lib.Bits.{bitOr, or-zero-l, or-zero-r, or-shr, or-mod}
 use lib.Dec.{eqb}
 use lib.ListN.{length, getD, replicate}
 use lib.Seq.{getD-set-same}
@@ -19,7 +21,7 @@ use Rattle.answer.specs.Counting.{value, raised, rowAfter, settled}
 use Rattle.answer.specs.declared.Counters as C
 use Rattle.answer.proofs.Settling.{raised-value, length-settled, settled-row, settled-ahead, settled-behind}
 use Rattle.store.proofs.Slots.{by-lt}
-use Rattle.paper.specs.Counters.{Counter, arrived, hec, ignored, misrouted, inletfull, sent, unheard, damaged, queued, full, clp, wide, taken, placeOf, valueOf, arrivalCounts, hearingCounts, occurs, Risen, rowAt, RisenAt, RisenIn}
+use Rattle.paper.specs.Counters.{Counter, arrived, hec, ignored, misrouted, inletfull, sent, unheard, damaged, queued, full, clp, wide, taken, placeOf, valueOf, arrivalCounts, hearingCounts, sentCounts, occurs, Risen, rowAt, RisenAt, RisenIn}
 use Rattle.outlet.proofs.Truth.{decide}
 
 -- there are thirteen
@@ -86,6 +88,56 @@ agree-hearing hearing.Queued = agree 256 (queued ∷ []) refl
 pub agree-taken : Agree #taken (taken ∷ [])
 unfolding tallies occurs
 agree-taken = agree #taken (taken ∷ []) refl
+
+-- two sets with no counter in common, joined: how often a counter is in two lists, and a bit of two numbers
+pub occurs-both : (cs ds : List Counter) (k : ℕ) → occurs (cs ++ ds) k ≡ occurs cs k + occurs ds k
+unfolding occurs
+occurs-both [] ds k = omega arith
+occurs-both (c ∷ cs) ds k =
+    let e = occurs-both cs ds k in
+    decide (eqb (placeOf c) k) (λ t. rw t (omega (arith, e))) (λ f. rw f e)
+
+bit-or : (x y : ℕ) → x + y ≤ 1 → bitOr x y ≡ x + y
+bit-or none y h = or-zero-l y ∙ omega arith
+bit-or (suc x) y h = let e : y ≡ 0 = omega arith in ap (bitOr (suc x)) e ∙ or-zero-r (suc x) ∙ omega arith
+
+pub agree-both : (a b : ℕ) (cs ds : List Counter) → Agree a cs → Agree b ds → ((c : Counter) → occurs cs (placeOf c) + occurs ds (placeOf c) ≤ 1) → Agree (bitOr a b) (cs ++ ds)
+agree-both a b cs ds agrees agrees′ apart c =
+    let k = placeOf c in
+    let x = a / 2 ^ k % 2 in
+    let y = b / 2 ^ k % 2 in
+    let p = agrees c in
+    let q = agrees′ c in
+    let most = apart c in
+    let one : x + y ≤ 1 = omega arith in
+    ap (λ n. n % 2) (or-shr a b k) ∙ or-mod (a / 2 ^ k) (b / 2 ^ k) 1 ∙ bit-or x y one ∙ ap₂ _+_ p q ∙ sym (occurs-both cs ds k)
+
+-- 02, W1: "leaving either outlet is `taken`": a cell that moves at the start of a frame besides what the frame counts
+pub agree-moved : (n : ℕ) (cs : List Counter) → Agree n cs → occurs cs 12 ≡ 0 → Agree (bitOr #taken n) (taken ∷ cs)
+unfolding occurs
+agree-moved n cs agrees zero-there = agree-both #taken n (taken ∷ []) cs agree-taken agrees apart
+  where
+    apart : (c : Counter) → occurs (taken ∷ []) (placeOf c) + occurs cs (placeOf c) ≤ 1
+    apart c =
+        let few : occurs cs (placeOf c) < 2 = subst (λ m. m < 2) (agrees c) (mod-lt (n / 2 ^ placeOf c) (omega arith)) in
+        decide (eqb 12 (placeOf c))
+        (λ t. let there : occurs cs (placeOf c) ≡ 0 = ap (occurs cs) (sym (eqb-true 12 (placeOf c) t)) ∙ zero-there in rw t (omega (arith, there)))
+        (λ f. rw f (omega (arith, few)))
+
+-- neither hearing nor sending counts `taken`
+pub none-taken-heard : (fate : H.Hearing) → occurs (hearingCounts fate) 12 ≡ 0
+unfolding hearingCounts occurs
+none-taken-heard hearing.Damaged = refl
+none-taken-heard hearing.Other = refl
+none-taken-heard hearing.Wide = refl
+none-taken-heard hearing.Full = refl
+none-taken-heard hearing.Clp = refl
+none-taken-heard hearing.Queued = refl
+
+pub none-taken-sent : (heard : Bool) → occurs (sentCounts heard) 12 ≡ 0
+unfolding sentCounts occurs
+none-taken-sent true = refl
+none-taken-sent false = refl
 
 -- a row by a counter's name, and by its place
 pub value-is : (x : C.Counters) (c : Counter) → valueOf x c ≡ value x (placeOf c)

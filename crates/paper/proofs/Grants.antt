@@ -13,6 +13,7 @@ use Rattle.arbiter.specs.declared.Grant as G
 use Rattle.arbiter.proofs.Order.{cyclic-above, cyclic-below, cyclic-has, below-or, cyclic-length}
 use Rattle.arbiter.proofs.Requests.{asks-with, asks-without, renewed-at, renewed-past}
 use Rattle.arbiter.proofs.Grants.{not-granted, granted-asks, grants-if-asked, granted-highest, granted-first, granted-changes}
+use Rattle.shelf.specs.Shelves as shelf
 use Rattle.shelf.specs.declared.Unit as U
 use Rattle.paper.specs.Grants.{Wants, Renewed, turn, lastAt, GrantTo, NoGrant}
 use Rattle.outlet.proofs.Truth.{decide}
@@ -61,15 +62,15 @@ module _ (bus frame : ℕ) (size : (bus ≡ 16) ⊎ (bus ≡ 32)) (now asks : Li
       (λ h. renewed-past bus frame now 0 asks n h ∙ sym (List·getD-eq-default asks 0 {n = n} h))
 
 -- what a unit asks
-pub asks-wanting : (u : U.Unit) (granted : ℕ) → Wants granted u → arbiter.asking (u .settings .priority) (u .inlet .count) (eqb (u .settings .number) granted) ≡ u .settings .priority
+pub asks-wanting : (u : U.Unit) (granted : ℕ) → Wants granted u → arbiter.asking (u .settings .priority) (shelf.waiting u) (eqb (u .settings .number) granted) ≡ u .settings .priority
 asks-wanting u granted w =
-    asks-with (u .settings .priority) (u .inlet .count) (eqb (u .settings .number) granted) (besides-iff (u .inlet .count) (u .settings .number) granted .1 (w .cell, w .besides))
+    asks-with (u .settings .priority) (shelf.waiting u) (eqb (u .settings .number) granted) (besides-iff (shelf.waiting u) (u .settings .number) granted .1 (w .cell, w .besides))
 
-pub asks-silent : (u : U.Unit) (granted : ℕ) → (Wants granted u → ⊥) → arbiter.asking (u .settings .priority) (u .inlet .count) (eqb (u .settings .number) granted) ≡ 0
+pub asks-silent : (u : U.Unit) (granted : ℕ) → (Wants granted u → ⊥) → arbiter.asking (u .settings .priority) (shelf.waiting u) (eqb (u .settings .number) granted) ≡ 0
 asks-silent u granted n =
-    let few : arbiter.besides (u .inlet .count) (eqb (u .settings .number) granted) < 1 = below-or (arbiter.besides (u .inlet .count) (eqb (u .settings .number) granted)) 1 (λ h. h)
-    (λ h. absurd (let b = besides-iff (u .inlet .count) (u .settings .number) granted .0 h in n (record { cell = b .0; besides = b .1 }))) in
-    asks-without (u .settings .priority) (u .inlet .count) (eqb (u .settings .number) granted) (omega arith)
+    let few : arbiter.besides (shelf.waiting u) (eqb (u .settings .number) granted) < 1 = below-or (arbiter.besides (shelf.waiting u) (eqb (u .settings .number) granted)) 1 (λ h. h)
+    (λ h. absurd (let b = besides-iff (shelf.waiting u) (u .settings .number) granted .0 h in n (record { cell = b .0; besides = b .1 }))) in
+    asks-without (u .settings .priority) (shelf.waiting u) (eqb (u .settings .number) granted) (omega arith)
 
 -- a unit's turn is its place in the cyclic order
 turn-above : (last n : ℕ) → last < 32 → last < n → turn last n ≡ n - last - 1

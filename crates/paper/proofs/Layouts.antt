@@ -14,8 +14,7 @@ use Rattle.header.specs.declared.Link.the-variants.{Uni, Nni}
 use Rattle.outlet.specs.declared.Mode.the-variants.{One, Four}
 use Rattle.shelf.specs.declared.Unit as U
 use Rattle.state.specs.Bytes.{linkOf, modeOf, unitBy, unitIn, shelfIn}
-use Rattle.state.proofs.Laws.{units-length, unit-at}
-use Rattle.state.proofs.Placed.{part-at}
+use Rattle.state.proofs.Laws.{units-length, unit-at, part-at}
 use Rattle.paper.specs.State.{units, blank}
 use Rattle.paper.specs.Layouts.{byte, UnitLayout, Layout, LayoutOnce}
 
@@ -56,6 +55,10 @@ unit-layout state p long h =
       place = four-are (byte state (320 + p)) (byte state (352 + p)) (byte state (384 + p)) (byte state (416 + p));
       inlet = refl;
       queues = refl;
+      controlin = refl;
+      loopbackin = refl;
+      controlout = refl;
+      loopbackout = refl;
       hears = λ s l. same-bit (getD (part state (1024 + 32 * p) 32) (s / 8) 0) (byte state (1024 + 32 * p + s / 8)) s (part-at state (1024 + 32 * p) 32 (s / 8) (omega arith));
       sessions = λ k l. part-at state (1024 + 32 * p) 32 k l;
       sessions-32 = part-32 state (1024 + 32 * p) (omega arith);
@@ -103,6 +106,12 @@ unit-once state p u v link mode mark a b =
           mark = marks t;
         };
         queues = (a .queues ∙ sym (b .queues)) t;
+      };
+      side = record {
+        controlin = (a .controlin ∙ sym (b .controlin)) t;
+        loopbackin = (a .loopbackin ∙ sym (b .loopbackin)) t;
+        controlout = (a .controlout ∙ sym (b .controlout)) t;
+        loopbackout = (a .loopbackout ∙ sym (b .loopbackout)) t;
       };
       place = (a .place ∙ sym (b .place)) t;
       sessions = heard t;

@@ -2,7 +2,7 @@
 use Prim.Native.Nat.{ℕ, zero, suc, _+_, _*_, _-_, _<_, _≤_}
 use native.Mathlib.Omega.{arith}
 use mathlib.Core.Path.{_≡_, refl, sym, ap, subst, _∙_}
-use mathlib.Core.Logic.{_≢_, _↔_, _⊎_, ⊎-map}
+use mathlib.Core.Logic.{_↔_, ⊎-map}
 use mathlib.Core.Bool.{true, false≢true}
 use mathlib.Core.List.{List}
 use lib.Dec.{eqb}
@@ -32,7 +32,7 @@ use Rattle.soundness.proofs.Sounding.{lanes-at, lanes-all}
 use Rattle.store.specs.Rings as rings
 use Rattle.store.proofs.Rounds.{tail-lt}
 use Rattle.paper.specs.Outlets.{Given, GivenIn, queuesIn, queues, nowhere, queueAt, ringAt, behind}
-use Rattle.paper.specs.State.{units, unitAt, DeclaredAt, Declared, RingFits, UnitSound, Sound, Formed}
+use Rattle.paper.specs.State.{units, unitAt, waiting, DeclaredAt, Declared, RingFits, UnitSound, Sound, Formed}
 use Rattle.outlet.proofs.Truth.{decide, le-iff, and-iff}
 use Rattle.paper.proofs.Outlets.{capacity-is, behind-is}
 
@@ -89,8 +89,12 @@ unit-to card shelf u s =
       limits = given-iff (u .outlet .limits) .0 (s .limits);
       inlet = ring-to (u .inlet) 4 4 refl (s .inlet);
       queues = λ q h. ring-to (ringAt (u .outlet) q) (outlet.capacity (u .outlet .limits) q) (queueAt (u .outlet) q .capacity) (capacity-is (u .outlet .limits) q) (s .queues .each q h);
+      controlin = s .side .controlin;
+      loopbackin = s .side .loopbackin;
+      controlout = ring-to (u .side .controlout) 4 4 refl (s .side .controlout);
+      loopbackout = s .side .loopbackout;
       grant = s .grant;
-      ask = ⊎-map (λ e. e) (λ e. let b = besides-iff (u .inlet .count) (u .settings .number) (shelf .granted) .0 (e .1) in (e .0, b .0, b .1)) (s .ask);
+      ask = ⊎-map (λ e. e) (λ e. let b = besides-iff (waiting u) (u .settings .number) (shelf .granted) .0 (e .1) in (e .0, b .0, b .1)) (s .ask);
     }
 
 unit-from : (card : Card) (shelf : Shelf) (u : U.Unit) → UnitSound card shelf u → state.UnitSound card (shelf .bus) (shelf .granted) (shelf .arbiter .asks) u
@@ -105,8 +109,14 @@ unit-from card shelf u s =
       inlet = ring-from (u .inlet) 4 4 refl (s .inlet);
       queues =
           record { each = λ q h. ring-from (ringAt (u .outlet) q) (outlet.capacity (u .outlet .limits) q) (queueAt (u .outlet) q .capacity) (capacity-is (u .outlet .limits) q) (s .queues q h) };
+      side = record {
+        controlout = ring-from (u .side .controlout) 4 4 refl (s .controlout);
+        controlin = s .controlin;
+        loopbackin = s .loopbackin;
+        loopbackout = s .loopbackout;
+      };
       grant = s .grant;
-      ask = ⊎-map (λ e. e) (λ e. (e .0, besides-iff (u .inlet .count) (u .settings .number) (shelf .granted) .1 (e .1, e .2))) (s .ask);
+      ask = ⊎-map (λ e. e) (λ e. (e .0, besides-iff (waiting u) (u .settings .number) (shelf .granted) .1 (e .1, e .2))) (s .ask);
     }
 
 -- a declared unit

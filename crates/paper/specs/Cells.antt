@@ -94,10 +94,13 @@ exclusiveOr p (b ∷ bytes) = exclusiveOr (bitXor p b) bytes
 abbrev pub parity : List ℕ → ℕ
 parity bytes = exclusiveOr 0 bytes
 
--- "Bad parity, bad check, kind 3, unicast above 31 or broadcast address not 0 is `damaged`."
+-- "Bad parity, bad check, unicast above 31 or broadcast address not 0 is `damaged`." 02, W1: "Routing kind 3 now means control or loopback to one unit: class 0 is control, 1 loopback; another
+-- class, or an address above 31, is `damaged`"; of a loopback cell "first tandem byte ..; a tandem byte above 31 is `damaged`": byte 2
 pub data Damaged (frame : List ℕ) : Type 0 where
   bad-parity : parity (take 56 frame) ≢ byte frame 56 → Damaged frame
   bad-check : (RoutingCheck (two frame 0) → ⊥) → Damaged frame
-  kind-3 : kind (two frame 0) ≡ 3 → Damaged frame
   unicast-above : kind (two frame 0) ≡ 0 → 31 < address (two frame 0) → Damaged frame
   broadcast-not : kind (two frame 0) ≡ 2 → address (two frame 0) ≢ 0 → Damaged frame
+  another-class : kind (two frame 0) ≡ 3 → 1 < class (two frame 0) → Damaged frame
+  third-above : kind (two frame 0) ≡ 3 → 31 < address (two frame 0) → Damaged frame
+  tandem-above : kind (two frame 0) ≡ 3 → class (two frame 0) ≡ 1 → 31 < byte frame 2 → Damaged frame

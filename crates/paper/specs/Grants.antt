@@ -7,11 +7,12 @@ use mathlib.Core.List.{List}
 use lib.Dec.{ltb}
 use lib.ListN.{getD}
 use Rattle.shelf.specs.declared.Unit as U
+use Rattle.paper.specs.State.{waiting}
 
 -- "a unit asks if it has a cell besides one already granted"
 pub record Wants (granted : ℕ) (u : U.Unit) : Type 0 where
-  pub cell : 1 ≤ u .inlet .count
-  pub besides : u .settings .number ≡ granted → 2 ≤ u .inlet .count
+  pub cell : 1 ≤ waiting u
+  pub besides : u .settings .number ≡ granted → 2 ≤ waiting u
 
 -- "On a 16 bus each unit's request is renewed every frame; on a 32 bus units 0 to 15 are renewed in even frames and 16 to 31 in odd ones, and the others stand."
 abbrev pub Renewed : ℕ → ℕ → ℕ → Type 0

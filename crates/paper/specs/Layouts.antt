@@ -44,6 +44,11 @@ pub record UnitLayout (state : List ℕ) (p : ℕ) (u : U.Unit) : Type 0 where
   pub queues : u .outlet .queues
       ≡ ring (byte state (512 + p)) (byte state (640 + p)) ∷ ring (byte state (544 + p)) (byte state (672 + p)) ∷ ring (byte state (576 + p)) (byte state (704 + p))
       ∷ ring (byte state (608 + p)) (byte state (736 + p)) ∷ []
+  -- columns 26 to 30: "control cell in the inlet: 0 none, 1 one"; "loopback cell in the inlet"; "control outlet, head", "count"; "loopback cell in the outlet"
+  pub controlin : u .side .controlin ≡ byte state (832 + p)
+  pub loopbackin : u .side .loopbackin ≡ byte state (864 + p)
+  pub controlout : u .side .controlout ≡ ring (byte state (896 + p)) (byte state (928 + p))
+  pub loopbackout : u .side .loopbackout ≡ byte state (960 + p)
   -- "Bytes 1,024 to 2,047, 32 for each place: those of place p start at 1,024 + 32 p. The unit hears session s if bit s % 8 (bit 0 is the lowest) of byte 1,024 + 32 p + s / 8 is 1."
   pub hears : (s : ℕ) → s < 256 → Hears (u .sessions) s ↔ (byte state (1024 + 32 * p + s / 8) / 2 ^ (s % 8) % 2 ≡ 1)
   pub sessions : (k : ℕ) → k < 32 → getD (u .sessions) k 0 ≡ byte state (1024 + 32 * p + k)

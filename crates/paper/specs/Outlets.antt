@@ -73,7 +73,8 @@ Crowded Four limits held = (limits .cbrlimit ≤ held 1) ⊎ (limits .vbrlimit �
 abbrev pub Marks : Limits → (ℕ → ℕ) → Type 0
 Marks limits held = (limits .mark ≡ true) × Crowded (limits .mode) limits held
 
--- The store: "8,192 bytes a declared unit", in `unit` line order; a cell is its 56 bytes before parity, in a slot of 56. The outlet has slots 0 to 122, the inlet 123 to 126
+-- The store: "8,192 bytes a declared unit", in `unit` line order; a cell is its 56 bytes before parity, in a slot of 56. The outlet has slots 0 to 122, the inlet 123 to 126,
+-- its control cell 127, its loopback cell 128, the control outlet 129 to 132, the loopback outlet 133
 abbrev pub slotAt : ℕ → ℕ → ℕ
 slotAt place slot = 8192 * place + 56 * slot
 

@@ -30,6 +30,7 @@ blank =
         queues = none ∷ none ∷ none ∷ none ∷ [];
       };
       inlet = none;
+      side = record { controlin = 0; loopbackin = 0; controlout = none; loopbackout = 0 };
       place = 0;
       sessions = replicate 32 0;
     }
@@ -39,6 +40,10 @@ unitAt shelf place = getD (units shelf) place blank
 
 abbrev pub numberAt : Shelf → ℕ → ℕ
 numberAt shelf place = unitAt shelf place .settings .number
+
+-- the cells that wait in the inlet of a unit; 02, W1: "an inlet place for a control cell from its processor, one for a loopback cell"
+abbrev pub waiting : U.Unit → ℕ
+waiting u = u .inlet .count + u .side .controlin + u .side .loopbackin
 
 -- what a unit asks: a priority, 0 for nothing
 abbrev pub askOf : Shelf → ℕ → ℕ
@@ -72,10 +77,15 @@ pub record UnitSound (card : Card) (shelf : Shelf) (u : U.Unit) : Type 0 where
   -- "a count or queue position past its capacity"
   pub inlet : RingFits (u .inlet) 4
   pub queues : (q : ℕ) → q < 4 → RingFits (ringAt (u .outlet) q) (queueAt (u .outlet) q .capacity)
+  -- 02, W1: "each unit gets an inlet place for a control cell .., one for a loopback cell, a four-cell control outlet and a one-cell loopback outlet"
+  pub controlin : u .side .controlin ≤ 1
+  pub loopbackin : u .side .loopbackin ≤ 1
+  pub controlout : RingFits (u .side .controlout) 4
+  pub loopbackout : u .side .loopbackout ≤ 1
   -- "an open grant at a unit without a cell"
-  pub grant : u .settings .number ≡ shelf .granted → 1 ≤ u .inlet .count
+  pub grant : u .settings .number ≡ shelf .granted → 1 ≤ waiting u
   -- "a request at one without a cell besides a granted one"; a request is at the unit's priority
-  pub ask : (askOf shelf (u .settings .number) ≡ 0) ⊎ ((askOf shelf (u .settings .number) ≡ u .settings .priority) × (1 ≤ u .inlet .count) × (u .settings .number ≡ shelf .granted → 2 ≤ u .inlet .count))
+  pub ask : (askOf shelf (u .settings .number) ≡ 0) ⊎ ((askOf shelf (u .settings .number) ≡ u .settings .priority) × (1 ≤ waiting u) × (u .settings .number ≡ shelf .granted → 2 ≤ waiting u))
 
 -- the state, with a store of so many bytes and so many counter rows
 pub record Sound (card : Card) (shelf : Shelf) (bytes rows : ℕ) : Type 0 where

@@ -52,6 +52,7 @@ fresh-unit card bus place settings limits most below held given =
       limits = given .limits-in;
       inlet = empty-fits 4;
       queues = rings-iff (unit settings limits place .outlet) .0 (fresh-fits limits);
+      side = record { controlout = empty-fits 4; controlin = omega arith; loopbackin = omega arith; loopbackout = omega arith };
       grant = λ e. absurd (omega arith);
       ask = inl refl;
     }
@@ -112,6 +113,7 @@ module _ (card : Card) (shelf : Shelf) (s : Ready card shelf) (n : U.Unit) (long
         limits = fits .limits;
         inlet = fits .inlet;
         queues = fits .queues;
+        side = fits .side;
         grant = λ e. ⊎-elim (λ g. fits .grant (e ∙ g)) (λ w. absurd (new (w .0) (w .1) (w .2 ∙ sym e))) (s .granted);
         ask = inl (s .asks (numberOf n) (λ w. new (w .0) (w .1) (w .2)));
       }
@@ -150,6 +152,7 @@ hearing-sound card bus granted asks u session s =
       limits = s .limits;
       inlet = s .inlet;
       queues = record { each = s .queues .each };
+      side = s .side;
       grant = s .grant;
       ask = s .ask;
     }

@@ -2,6 +2,7 @@
 use Prim.Native.Nat.{ℕ, _<_, _≤_, _^_}
 use native.Mathlib.Omega.{arith}
 use mathlib.Core.Path.{_≡_, refl, sym, ap, subst, _∙_}
+use mathlib.Core.Logic.{inl, inr}
 use mathlib.Core.Bool.{_&&_}
 use mathlib.Core.List.{List, [], _∷_, _++_, map, map-append}
 use mathlib.Core.Option.{Option, none, some}
@@ -43,7 +44,7 @@ use Rattle.paper.specs.Counters.{arrivalCounts}
 use Rattle.document.specs.Counters.{Entry, entries}
 use Rattle.document.specs.Shelf as D
 use Rattle.document.specs.Arrival as P
-use Rattle.refining.proofs.Alike.{Sendable, AllSendable, UnitAlike, Known, Alike, onBus, offBus, elsewhere}
+use Rattle.refining.proofs.Alike.{Sendable, AllSendable, UnitAlike, Known, Alike, onBus, offBus, side-kept, elsewhere}
 use Rattle.refining.proofs.Finds.{length-map}
 use Rattle.refining.proofs.Changes.{changed}
 
@@ -137,14 +138,14 @@ module _ (c : List ℕ) (whole : length c ≡ 53) where
       (λ t. rw t tt)
 
 -- D. the inlet
-inlet-held : (store : List ℕ) (i : ℕ) (u : U.Unit) (e : D.Unit) → UnitAlike store i u e → u .inlet .count ≡ length (e .inlet)
+pub inlet-held : (store : List ℕ) (i : ℕ) (u : U.Unit) (e : D.Unit) → UnitAlike store i u e → u .inlet .count ≡ length (e .inlet)
 inlet-held store i u e a = sym (length-cells store i 123 4 (u .inlet)) ∙ ap length (a .inlet) ∙ length-map onBus (e .inlet)
 
 one-more : (rs : List D.Routed) (r : D.Routed) → AllSendable rs → Sendable r → AllSendable (rs ++ (r ∷ []))
 one-more [] r all s = (s, tt)
 one-more (x ∷ rs) r all s = (all .0, one-more rs r (all .1) s)
 
-on-bus-length : (r : D.Routed) → Sendable r → length (onBus r) ≡ 56
+pub on-bus-length : (r : D.Routed) → Sendable r → length (onBus r) ≡ 56
 unfolding cell
 on-bus-length r s =
     length-append (be2 (routing (r .target) (r .class)) ++ be2 0 ++ be4 (r .cell .header)) (r .cell .payload) ∙ (let p = s .payload in omega arith)
@@ -170,6 +171,7 @@ module _ (store : List ℕ) (i : ℕ) (u : U.Unit) (e : D.Unit) (a : UnitAlike s
         queues = λ q h.
             ap (map offBus) (outlet-above i (u .outlet .limits) (housed .limits) q h (queue (u .outlet) q) (housed .queues .each q h) store (onBus r) (on-bus-length r s) (housed .inside) (tail (u .inlet) 4) slot-few)
             ∙ a .queues q h;
+        side = side-kept store i i (inletSlot (tail (u .inlet) 4)) (onBus r) (on-bus-length r s) (omega (arith, slot-few)) (housed .inside) (u .side) (e .side) (housed .side) (inr (inl (omega (arith, slot-few)))) (a .side);
       }
 
 -- E. the whole arrival

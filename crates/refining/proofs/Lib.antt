@@ -3,9 +3,12 @@ pub mod Finds
 pub mod Changes
 pub mod Rows
 pub mod Hears
-pub mod Frames
 pub mod Arrives
+pub mod Moved
+pub mod Sends
+pub mod Frames
 pub mod Takes
+pub mod Hands
 pub mod Opens
 pub mod Steps
 pub mod States

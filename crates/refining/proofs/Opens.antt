@@ -14,7 +14,7 @@ use Rattle.store.specs.Places.{cells, inletCells, outletCells}
 use Rattle.card.specs.declared.Card.{Card}
 use Rattle.lookup.specs.Record.{size, usable, recordAt}
 use Rattle.lookup.specs.Lookup.{translated}
-use Rattle.shelf.specs.Shelves.{unit, blank, fresh, declared, findIn, numberOf}
+use Rattle.shelf.specs.Shelves.{unit, blank, emptySide, fresh, declared, findIn, numberOf}
 use Rattle.shelf.specs.declared.Unit as U
 use Rattle.shelf.specs.Shelf.{Shelf}
 use Rattle.shelf.specs.declared.Found.{Found}
@@ -46,7 +46,7 @@ use Rattle.paper.specs.Counters.{placeOf}
 use Rattle.document.specs.Counters.{times}
 use Rattle.document.specs.Shelf as D
 use Rattle.running.specs.Keeping.{loaded}
-use Rattle.refining.proofs.Alike.{AllSendable, onBus, offBus, Known, UnitAlike, RowAlike, Alike, WorldAlike}
+use Rattle.refining.proofs.Alike.{AllSendable, onBus, offBus, Known, SideAlike, UnitAlike, RowAlike, Alike, WorldAlike}
 use Rattle.paper.proofs.Counters.{placed}
 
 -- A. what no line but `bus` changes
@@ -74,7 +74,7 @@ opened-idle (Mc u session ∷ told) = joined-idle (shelfOf told) (findIn (declar
 -- B. the units
 -- a unit without the place of its records and its sessions; and the fresh unit of the document's unit
 abbrev plain : U.Unit → U.Unit
-plain u = record { settings = u .settings; outlet = u .outlet; inlet = u .inlet; place = 0; sessions = replicate 32 0 }
+plain u = record { settings = u .settings; outlet = u .outlet; inlet = u .inlet; side = u .side; place = 0; sessions = replicate 32 0 }
 
 abbrev made : D.Unit → U.Unit
 made d = unit (d .settings) (d .limits) 0
@@ -141,6 +141,10 @@ empty-queue store place limits (suc (suc zero)) = refl
 empty-queue store place limits (suc (suc (suc zero))) = refl
 empty-queue store place limits (suc (suc (suc (suc q)))) = refl
 
+empty-side : (store : List ℕ) (place : ℕ) → SideAlike store place emptySide D.emptySide
+unfolding cells R.queue
+empty-side store place = record { controlin = refl; loopbackin = refl; controlout = refl; loopbackout = refl }
+
 -- it is alike to the document's fresh unit
 fresh-alike : (store : List ℕ) (place : ℕ) (u : U.Unit) (d : D.Unit) → plain u ≡ made d → again d ≡ d → UnitAlike store place u d
 unfolding cells R.queue
@@ -153,6 +157,7 @@ fresh-alike store place u d e f =
       rings = ap (λ x. length (x .outlet .queues)) e;
       four = ap (λ x. length (x .queues)) (sym f);
       queues = λ q h. ap (λ x. map offBus (outletCells store place (x .outlet .limits) q (queue (x .outlet) q))) e ∙ empty-queue store place (d .limits) q ∙ ap (λ x. D.queueAt x q) f;
+      side = subst (λ (x : D.Unit). SideAlike store place (u .side) (x .side)) f (subst (λ s. SideAlike store place s D.emptySide) (sym (ap (λ x. x .side) e)) (empty-side store place));
     }
 
 -- C. what the memory and the sessions mean to each of them

@@ -23,7 +23,7 @@ use Rattle.promise.proofs.Faults.{good-iff}
 use Rattle.promise.proofs.Refusals.{accepts-good, accepted}
 use Rattle.promise.specs.Narrow.{FirstWide}
 use Rattle.promise.proofs.Cards.{wide-or-not, narrow-accepts, narrow-refuses-iff}
-use Rattle.document.specs.Events.{Event, arrive, frame, hear, take-cell, count, Back}
+use Rattle.document.specs.Events.{Event, arrive, frame, hear, take-cell, count, hand, collect, Back}
 use Rattle.document.specs.Counters.{counterOf}
 use Rattle.document.specs.Shelf as D
 use Rattle.document.specs.Steps as document
@@ -43,7 +43,7 @@ use Rattle.refining.specs.Cards.{Equal, TooWide, SameCard}
 use Rattle.refining.proofs.Alike.{WorldAlike}
 use Rattle.refining.proofs.States.{accepted-state, begins, same-states}
 use Rattle.refining.proofs.Opens.{opened-alike, opened-rows}
-use Rattle.refining.proofs.Steps.{StepAlike, arrive-step, frame-step, hear-step, take-step, count-step}
+use Rattle.refining.proofs.Steps.{StepAlike, arrive-step, frame-step, hear-step, take-step, count-step, hand-step, collect-step}
 
 step-alike : (card : Card) (w : World) (d : D.Shelf) → WorldAlike card w d → (e : Event) → StepAlike card w d (happens card w e) (document.happensTo d e)
 step-alike card w d a (arrive unit c) = arrive-step card w d a unit c
@@ -51,6 +51,8 @@ step-alike card w d a (frame buffer) = frame-step card w d a buffer
 step-alike card w d a (hear unit f) = hear-step card w d a unit f
 step-alike card w d a (take-cell unit buffer) = take-step card w d a unit buffer
 step-alike card w d a (count unit) = count-step card w d a unit
+step-alike card w d a (hand unit c) = hand-step card w d a unit c
+step-alike card w d a (collect unit buffer) = collect-step card w d a unit buffer
 
 -- after an event both are alike again
 pub then-alike : (card : Card) (w : World) (d : D.Shelf) → WorldAlike card w d → (e : Event) → WorldAlike card (happens card w e .world) (document.happensTo d e .shelf)

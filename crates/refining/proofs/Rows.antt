@@ -1,35 +1,32 @@
 -- The rows of counters are the history, counted. Assumes nothing.
 use Prim.Native.Nat.{ℕ, zero as none, suc, _+_, _/_, _%_, _^_, _<_, _≤_}
-use native.Mathlib.Nat.{mod-add-mod, add-comm}
+use native.Mathlib.Nat.{mod-add-mod, add-comm, zero-add}
 use native.Mathlib.Omega.{arith}
-use mathlib.Core.Path.{_≡_, refl, sym, ap, ap₂, subst, _∙_}
+use mathlib.Core.Path.{_≡_, refl, sym, ap, ap₂, _∙_}
 use mathlib.Core.Bool.{Bool, true, false, cond}
-use mathlib.Core.List.{List, [], _∷_, _++_}
+use mathlib.Core.List.{List, [], _∷_, _++_, map, append-assoc}
 use lib.Bits.{bitOr}
 use lib.Dec.{eqb, ltb}
-use lib.ListN.{length, getD, set, replicate, length-set, length-replicate, getD-replicate, List·getD-eq-default, List·getD-map}
+use lib.ListN.{length, getD, set, replicate, length-set, length-map, length-replicate, List·getD-map}
 use lib.Seq.{getD-set-same, map-set-same}
 use borrow.Author.Tests.{eqb-true, eqb-false, eq-eqb, ne-eqb, ltb-true, ltb-false}
 use Rattle.answer.specs.Answers.{hearingRises, row}
 use Rattle.answer.specs.declared.Rises.{Rises}
-use Rattle.answer.specs.declared.Arrival as A
 use Rattle.answer.specs.declared.Hearing as H
-use Rattle.answer.specs.declared.Hearing.the-variants as hearing
-use Rattle.bus.specs.declared.Heard as B
-use Rattle.bus.specs.declared.Heard.the-variants as frame
 use Rattle.line.specs.declared.Line.{Line}
 use Rattle.answer.specs.Counting.{value, zeros, raised, rowAfter, settled}
 use Rattle.answer.specs.declared.Counters as C
 use Rattle.answer.proofs.Settling.{raised-value, settled-row, settled-ahead, settled-behind}
 use Rattle.framing.specs.Sending.{sentRises}
+use Rattle.framing.proofs.Bits.{takenIf, bit-joined, moved-heard, sent-low, bit-three}
 use Rattle.told.proofs.Grown.{decide}
 use Rattle.paper.proofs.Counters.{placed, tallies, Agree, agree, agree-hearing}
-use Rattle.running.proofs.Sent.{agree-sent}
-use Rattle.paper.specs.Counters.{Counter, placeOf, hearingCounts, sentCounts, occurs}
+use Rattle.paper.specs.Counters.{Counter, sent, unheard, placeOf, hearingCounts, sentCounts, occurs}
 use Rattle.document.specs.Counters.{Entry, entries, matches, times, counterOf}
 use Rattle.document.specs.Shelf as D
-use Rattle.document.specs.Hearing.{hearingOf, keeping, hearingUnit}
-use Rattle.document.specs.Frame.{asHeard, allHear, someAddressed, heardEntries}
+use Rattle.document.specs.Hearing.{OnBus, hearingOf, hearingUnit}
+use Rattle.document.specs.Frame.{movedUnit, movedCounts, movedEntries, moved, Sending, allHear, someAddressed, heardEntries}
+use Rattle.document.proofs.Fixed.{heard-kept, unit-moved}
 use Rattle.refining.proofs.Alike.{RowAlike}
 
 -- A. how often something stands in a history
@@ -68,12 +65,7 @@ raised-times x n u es history r a c =
     ∙ mod-add-mod (times history u c) (2 ^ 32) (times es u c)
     ∙ ap (λ k. k % 2 ^ 32) (add-comm (times history u c) (times es u c) ∙ sym (times-append es history u c))
 
--- C. the words that the shelf counts by, and the lists of the document
--- a row that is a unit's history, and what happened there counted
-pub raised-alike : (x : C.Counters) (n u : ℕ) (cs : List Counter) (history : List Entry) → Agree n cs → ((c : Counter) → value x (placeOf c) ≡ counterOf history u c) → (c : Counter) → value (raised x n) (placeOf c) ≡ counterOf (entries u cs ++ history) u c
-raised-alike x n u cs history a = raised-times x n u (entries u cs) history (λ c. a c ∙ sym (times-here u cs c))
-
--- D. the rows of all units
+-- C. the rows of all units
 -- no number is there twice
 abbrev pub Different : List D.Unit → Type 0
 Different us = (i j : ℕ) → i < j → j < length us → D.numberOf (getD us i D.blank) ≡ D.numberOf (getD us j D.blank) → ⊥
@@ -121,149 +113,174 @@ module _ (rows : List C.Counters) (d : D.Shelf) (once : Different (d .units)) (e
       (decide (ltb i place) (λ t. settled-behind rows r (place + 1) i (ltb-true i place t)) (λ g. settled-ahead rows r (place + 1) i (let q = ltb-false i place g in omega (arith, p))))
       (λ c. times-other at cs (D.numberOf (D.unitAt d i)) c (λ q. different-apart (d .units) once i place k h p (sym q))))
 
--- the other rows are as they were
-pub row-beyond : (rows : List C.Counters) (place n count : ℕ) → place < count → (i : ℕ) → count ≤ i → getD (settled rows (row place n)) i zeros ≡ getD rows i zeros
-row-beyond rows place n count h i k = settled-ahead rows (row place n) (place + 1) i (omega arith)
+-- D. a frame
+-- what happened at each of these units, in their order
+unfoldable entriesBy : (D.Unit → List Counter) → List D.Unit → List Entry
+entriesBy counts [] = []
+entriesBy counts (u ∷ us) = entries (D.numberOf u) (counts u) ++ entriesBy counts us
 
--- E. a frame
--- hearing a frame keeps a unit's settings
-pub kept-settings : (fate : H.Hearing) (u : D.Unit) (q : ℕ) (cell : D.Cell) → keeping fate u q cell .settings ≡ u .settings
-unfolding keeping
-kept-settings hearing.Damaged u q cell = refl
-kept-settings hearing.Other u q cell = refl
-kept-settings hearing.Wide u q cell = refl
-kept-settings hearing.Full u q cell = refl
-kept-settings hearing.Clp u q cell = refl
-kept-settings hearing.Queued u q cell = refl
-
-pub heard-settings : (lines : List Line) (u : D.Unit) (h : B.Heard) (bytes : List ℕ) → hearingUnit lines u h bytes .settings ≡ u .settings
-unfolding hearingUnit
-heard-settings lines u frame.Length bytes = refl
-heard-settings lines u frame.Damaged bytes = refl
-heard-settings lines u (frame.Cell target class header) bytes = kept-settings (hearingOf lines u (frame.Cell target class header)) u _ _
-
-module _ (lines : List Line) (r : D.Routed) where
-  abbrev fateOf : D.Unit → H.Hearing
-  fateOf u = hearingOf lines u (asHeard r)
-
-  -- all units hear: their numbers are as they were
-  heard-numbers : (us : List D.Unit) (k : ℕ) → D.numberOf (getD (allHear lines us r) k D.blank) ≡ D.numberOf (getD us k D.blank)
-  heard-numbers [] k = refl
-  heard-numbers (u ∷ us) none = ap (λ s. s .number) (heard-settings lines u (asHeard r) (r .cell .payload))
-  heard-numbers (u ∷ us) (suc k) = heard-numbers us k
-
-  -- what they heard counts at none but them
-  heard-elsewhere : (us : List D.Unit) (v : ℕ) (c : Counter) → ((j : ℕ) → j < length us → D.numberOf (getD us j D.blank) ≡ v → ⊥) → times (heardEntries lines us r) v c ≡ 0
-  unfolding heardEntries times
-  heard-elsewhere [] v c d = refl
-  heard-elsewhere (u ∷ us) v c d =
-      let a = times-append (entries (D.numberOf u) (hearingCounts (fateOf u))) (heardEntries lines us r) v c in
-      let b = times-other (D.numberOf u) (hearingCounts (fateOf u)) v c (d 0 (omega arith)) in
-      let e = heard-elsewhere us v c (λ j h. d (suc j) (omega arith)) in
+module _ (counts : D.Unit → List Counter) where
+  -- it counts at none but them
+  by-elsewhere : (us : List D.Unit) (v : ℕ) (c : Counter) → ((j : ℕ) → j < length us → D.numberOf (getD us j D.blank) ≡ v → ⊥) → times (entriesBy counts us) v c ≡ 0
+  unfolding entriesBy times
+  by-elsewhere [] v c d = refl
+  by-elsewhere (u ∷ us) v c d =
+      let a = times-append (entries (D.numberOf u) (counts u)) (entriesBy counts us) v c in
+      let b = times-other (D.numberOf u) (counts u) v c (d 0 (omega arith)) in
+      let e = by-elsewhere us v c (λ j h. d (suc j) (omega arith)) in
       omega arith
 
-  -- and at each of them what it heard
-  heard-times : (us : List D.Unit) → Different us → (k : ℕ) → k < length us → (c : Counter) → times (heardEntries lines us r) (D.numberOf (getD us k D.blank)) c ≡ occurs (hearingCounts (fateOf (getD us k D.blank))) (placeOf c)
-  unfolding heardEntries
-  heard-times [] once k h c = absurd (omega arith)
-  heard-times (u ∷ us) once none h c =
-      let a = times-append (entries (D.numberOf u) (hearingCounts (fateOf u))) (heardEntries lines us r) (D.numberOf u) c in
-      let b = times-here (D.numberOf u) (hearingCounts (fateOf u)) c in
-      let e = heard-elsewhere us (D.numberOf u) c (λ j h q. once 0 (suc j) (omega arith) (omega arith) (sym q)) in
+  -- and at each of them what happened there
+  by-times : (us : List D.Unit) → Different us → (k : ℕ) → k < length us → (c : Counter) → times (entriesBy counts us) (D.numberOf (getD us k D.blank)) c ≡ occurs (counts (getD us k D.blank)) (placeOf c)
+  unfolding entriesBy
+  by-times [] once k h c = absurd (omega arith)
+  by-times (u ∷ us) once none h c =
+      let a = times-append (entries (D.numberOf u) (counts u)) (entriesBy counts us) (D.numberOf u) c in
+      let b = times-here (D.numberOf u) (counts u) c in
+      let e = by-elsewhere us (D.numberOf u) c (λ j h q. once 0 (suc j) (omega arith) (omega arith) (sym q)) in
       omega arith
-  heard-times (u ∷ us) once (suc k) h c =
+  by-times (u ∷ us) once (suc k) h c =
       let v = D.numberOf (getD us k D.blank) in
-      let a = times-append (entries (D.numberOf u) (hearingCounts (fateOf u))) (heardEntries lines us r) v c in
-      let b = times-other (D.numberOf u) (hearingCounts (fateOf u)) v c (once 0 (suc k) (omega arith) h) in
-      let e = heard-times us (λ i j l m. once (suc i) (suc j) (omega arith) (omega arith)) k (omega arith) c in
+      let a = times-append (entries (D.numberOf u) (counts u)) (entriesBy counts us) v c in
+      let b = times-other (D.numberOf u) (counts u) v c (once 0 (suc k) (omega arith) h) in
+      let e = by-times us (λ i j l m. once (suc i) (suc j) (omega arith) (omega arith)) k (omega arith) c in
       omega (arith, a, b, e)
 
--- two lists, one behind the other
-occurs-append : (cs ks : List Counter) (k : ℕ) → occurs (cs ++ ks) k ≡ occurs cs k + occurs ks k
-unfolding occurs
-occurs-append [] ks k = omega arith
-occurs-append (c ∷ cs) ks k = rw (occurs-append cs ks k) (plus (eqb (placeOf c) k) (occurs cs k) (occurs ks k))
+-- what they heard, and what their moves counted
+heard-by : (lines : List Line) (x : OnBus) (us : List D.Unit) → heardEntries lines us x ≡ entriesBy (λ u. hearingCounts (hearingOf lines u (x .heard))) us
+unfolding heardEntries entriesBy
+heard-by lines x [] = refl
+heard-by lines x (u ∷ us) = ap (λ es. entries (D.numberOf u) (hearingCounts (hearingOf lines u (x .heard))) ++ es) (heard-by lines x us)
 
--- silence raises nothing
-pub nought : (k : ℕ) → _≡_ {A = ℕ} (getD (replicate 32 0) k 0) 0
-nought k = decide (ltb k 32) (λ t. getD-replicate 32 k 0 0 (ltb-true k 32 t)) (λ f. List·getD-eq-default (replicate 32 0) 0 (ltb-false k 32 f))
+moved-by : (us : List D.Unit) → movedEntries us ≡ entriesBy movedCounts us
+unfolding movedEntries entriesBy
+moved-by [] = refl
+moved-by (u ∷ us) = ap (λ es. entries (D.numberOf u) (movedCounts u) ++ es) (moved-by us)
+
+-- hearing and moving keep a unit's number
+pub heard-number : (lines : List Line) (x : OnBus) (u : D.Unit) → D.numberOf (hearingUnit lines u x) ≡ D.numberOf u
+heard-number lines x u = ap (λ g. g .settings .number) (heard-kept lines u x)
+
+same-each : (f : D.Unit → D.Unit) → ((u : D.Unit) → D.numberOf (f u) ≡ D.numberOf u) → (us : List D.Unit) (k : ℕ) → D.numberOf (getD (map f us) k D.blank) ≡ D.numberOf (getD us k D.blank)
+same-each f e [] k = refl
+same-each f e (u ∷ us) none = e u
+same-each f e (u ∷ us) (suc k) = same-each f e us k
+
+pub moved-numbers : (us : List D.Unit) (k : ℕ) → D.numberOf (getD (map movedUnit us) k D.blank) ≡ D.numberOf (getD us k D.blank)
+moved-numbers = same-each movedUnit (λ u. ap (λ g. g .settings .number) (unit-moved u))
+
+pub moved-names : (us : List D.Unit) → map D.numberOf (map movedUnit us) ≡ map D.numberOf us
+moved-names [] = refl
+moved-names (u ∷ us) = λ t. unit-moved u t .settings .number ∷ moved-names us t
+
+-- sending
+agree-sending : (b : Bool) → Agree (sentRises b) (sentCounts b)
+unfolding sentRises sentCounts tallies occurs
+agree-sending true = agree 32 (sent ∷ []) refl
+agree-sending false = agree 96 (sent ∷ unheard ∷ []) refl
 
 -- the rises of a frame: every declared unit's
 abbrev pub frameRises : ℕ → List ℕ → Rises
 frameRises count each = record { from = 0; to = count; anew = false; each = each }
 
-module _ (rows : List C.Counters) (d : D.Shelf) (count : ℕ) (many : count ≡ length (d .units)) (enough : count ≤ length rows) (alike : (i : ℕ) → i < length (d .units) → RowAlike rows d i) where
+-- in a frame of this shelf, in which the units in these places move a cell
+module _ (rows : List C.Counters) (d : D.Shelf) (count : ℕ) (many : count ≡ length (d .units)) (enough : count ≤ length rows) (alike : (i : ℕ) → i < length (d .units) → RowAlike rows d i)
+    (once : Different (d .units)) (moves : ℕ → Bool) (agrees : (k : ℕ) → k < length (d .units) → Agree (takenIf (moves k)) (movedCounts (D.unitAt d k))) where
   -- each declared row rises by its own set
   rose : (each : List ℕ) (i : ℕ) → i < count → getD (settled rows (frameRises count each)) i zeros ≡ raised (getD rows i zeros) (getD each i 0)
   unfolding rowAfter
   rose each i h = settled-row rows (frameRises count each) count i (omega arith) h (omega arith)
 
+  -- what is counted of the moves at a unit
+  moved-at : (k : ℕ) → k < length (d .units) → (c : Counter) → times (movedEntries (d .units)) (D.numberOf (D.unitAt d k)) c ≡ takenIf (moves k) / 2 ^ placeOf c % 2
+  moved-at k h c = ap (λ es. times es (D.numberOf (D.unitAt d k)) c) (moved-by (d .units)) ∙ by-times movedCounts (d .units) once k h c ∙ sym (agrees k h c)
+
+  -- the rows, where this happened after the moves
+  module _ (each : List ℕ) (happened : List Entry) (d′ : D.Shelf) (told : d′ .history ≡ happened ++ moved d .history) (numbers : (k : ℕ) → D.numberOf (D.unitAt d′ k) ≡ D.numberOf (D.unitAt d k)) where
+    turned-rows : ((k : ℕ) → k < length (d .units) → (c : Counter) → getD each k 0 / 2 ^ placeOf c % 2 ≡ times happened (D.numberOf (D.unitAt d k)) c + takenIf (moves k) / 2 ^ placeOf c % 2) →
+        (i : ℕ) → i < length (d .units) → RowAlike (settled rows (frameRises count each)) d′ i
+    turned-rows r i h =
+        row-rose rows (settled rows (frameRises count each)) d d′ i (happened ++ movedEntries (d .units)) (told ∙ sym (append-assoc happened (movedEntries (d .units)) (d .history))) (numbers i) (alike i h) (getD each i 0)
+        (rose each i (omega arith))
+        (λ c.
+        r i h c ∙ ap (λ n. times happened (D.numberOf (D.unitAt d i)) c + n) (sym (moved-at i h c))
+        ∙ sym (times-append happened (movedEntries (d .units)) (D.numberOf (D.unitAt d i)) c))
+
   -- nobody sends
-  pub idle-rows : (each : List ℕ) → ((k : ℕ) → k < length (d .units) → getD each k 0 ≡ 0) → (d′ : D.Shelf) → d′ .history ≡ d .history → d′ .units ≡ d .units → (i : ℕ) → i < length (d .units) → RowAlike (settled rows (frameRises count each)) d′ i
-  unfolding tallies occurs times
-  idle-rows each nought d′ told same i h =
-      row-rose rows (settled rows (frameRises count each)) d d′ i [] told (ap (λ us. D.numberOf (getD us i D.blank)) same) (alike i h) (getD each i 0) (rose each i (omega arith))
-      (λ c. ap (λ n. n / 2 ^ placeOf c % 2) (nought i h) ∙ agree 0 [] refl c)
+  pub idle-rows : (each : List ℕ) → ((k : ℕ) → k < length (d .units) → getD each k 0 ≡ takenIf (moves k)) → (d′ : D.Shelf) → d′ .history ≡ moved d .history → d′ .units ≡ moved d .units →
+      (i : ℕ) → i < length (d .units) → RowAlike (settled rows (frameRises count each)) d′ i
+  unfolding times
+  idle-rows each quiet d′ told same =
+      turned-rows each [] d′ told (λ k. ap (λ us. D.numberOf (getD us k D.blank)) same ∙ moved-numbers (d .units) k) (λ k h c. ap (λ n. n / 2 ^ placeOf c % 2) (quiet k h) ∙ sym (zero-add (takenIf (moves k) / 2 ^ placeOf c % 2)))
 
   -- a unit sends, all hear
-  module _ (once : Different (d .units)) (place : ℕ) (inside : place < length (d .units)) (r : D.Routed) (rest : List D.Routed) where
-    -- the units once the cell is out, whether one is addressed, what each hears, what is counted at the sender
+  module _ (place : ℕ) (inside : place < length (d .units)) (s : Sending) (number : D.numberOf (s .left) ≡ D.numberOf (D.unitAt (moved d) place)) where
+    -- the units once the cell is out, whether one is addressed, what each hears, what is counted at the sender and by hearing
     abbrev without : List D.Unit
-    without = set (d .units) place (D.withInlet (D.unitAt d place) rest)
+    without = set (moved d .units) place (s .left)
 
     abbrev someone : Bool
-    someone = someAddressed (d .lines) without r
+    someone = someAddressed (d .lines) without (s .cell)
 
     abbrev fate : ℕ → H.Hearing
-    fate k = hearingOf (d .lines) (getD without k D.blank) (asHeard r)
+    fate k = hearingOf (d .lines) (getD without k D.blank) (s .cell .heard)
 
     abbrev sentEntries : List Entry
-    sentEntries = entries (D.numberOf (D.unitAt d place)) (sentCounts someone)
+    sentEntries = entries (D.numberOf (D.unitAt (moved d) place)) (sentCounts someone)
+
+    abbrev heardThere : List Entry
+    heardThere = heardEntries (d .lines) without (s .cell)
 
     -- the numbers are as they were, so none is there twice
     number-without : (k : ℕ) → D.numberOf (getD without k D.blank) ≡ D.numberOf (D.unitAt d k)
-    number-without k = same-numbers (d .units) place (D.withInlet (D.unitAt d place) rest) refl k
+    number-without k = same-numbers (moved d .units) place (s .left) number k ∙ moved-numbers (d .units) k
+
+    many-without : length without ≡ length (d .units)
+    many-without = length-set (moved d .units) place (s .left) ∙ length-map (d .units) movedUnit
 
     different-without : Different without
-    different-without i j h k e =
-        let l = length-set (d .units) place (D.withInlet (D.unitAt d place) rest) in
-        once i j h (omega arith) (sym (number-without i) ∙ e ∙ number-without j)
+    different-without i j h k e = once i j h (omega (arith, k, many-without)) (sym (number-without i) ∙ e ∙ number-without j)
 
     -- what is counted of hearing at a unit
-    heard-at : (k : ℕ) → k < length (d .units) → (c : Counter) → times (heardEntries (d .lines) without r) (D.numberOf (D.unitAt d k)) c ≡ occurs (hearingCounts (fate k)) (placeOf c)
+    heard-at : (k : ℕ) → k < length (d .units) → (c : Counter) → times heardThere (D.numberOf (D.unitAt d k)) c ≡ hearingRises (fate k) / 2 ^ placeOf c % 2
     heard-at k h c =
-        ap (λ u. times (heardEntries (d .lines) without r) u c) (sym (number-without k))
-        ∙ heard-times (d .lines) r without different-without k (let l = length-set (d .units) place (D.withInlet (D.unitAt d place) rest) in omega arith) c
+        (λ z. times (heard-by (d .lines) (s .cell) without z) (sym (number-without k) z) c)
+        ∙ by-times (λ u. hearingCounts (hearingOf (d .lines) u (s .cell .heard))) without different-without k (omega (arith, h, many-without)) c
+        ∙ sym (agree-hearing (fate k) c)
 
     -- at the sender and at another
-    raises-sender : Raises (bitOr (hearingRises (fate place)) (sentRises someone)) (sentEntries ++ heardEntries (d .lines) without r) (D.numberOf (D.unitAt d place))
-    raises-sender c =
-        let u = D.numberOf (D.unitAt d place) in
-        agree-sent (fate place) someone c ∙ occurs-append (sentCounts someone) (hearingCounts (fate place)) (placeOf c)
-        ∙ ap₂ _+_ (sym (times-here u (sentCounts someone) c)) (sym (heard-at place inside c))
-        ∙ sym (times-append sentEntries (heardEntries (d .lines) without r) u c)
+    sent-here : (c : Counter) → times sentEntries (D.numberOf (D.unitAt d place)) c ≡ sentRises someone / 2 ^ placeOf c % 2
+    sent-here c =
+        ap (λ n. times sentEntries n c) (sym (moved-numbers (d .units) place)) ∙ times-here (D.numberOf (D.unitAt (moved d) place)) (sentCounts someone) c ∙ sym (agree-sending someone c)
 
-    raises-hearer : (k : ℕ) → k < length (d .units) → (k ≡ place → ⊥) → Raises (hearingRises (fate k)) (sentEntries ++ heardEntries (d .lines) without r) (D.numberOf (D.unitAt d k))
-    raises-hearer k h p c =
-        let u = D.numberOf (D.unitAt d k) in
-        agree-hearing (fate k) c ∙ sym (heard-at k h c)
-        ∙ omega (arith, times-append sentEntries (heardEntries (d .lines) without r) u c, times-other (D.numberOf (D.unitAt d place)) (sentCounts someone) u c (λ q. different-apart (d .units) once k place h inside p (sym q)))
+    sent-other : (k : ℕ) → k < length (d .units) → (k ≡ place → ⊥) → (c : Counter) → times sentEntries (D.numberOf (D.unitAt d k)) c ≡ 0
+    sent-other k h p c =
+        times-other (D.numberOf (D.unitAt (moved d) place)) (sentCounts someone) (D.numberOf (D.unitAt d k)) c
+        (λ q. different-apart (d .units) once k place h inside p (sym q ∙ moved-numbers (d .units) place))
 
     -- the rows of all
-    pub sent-rows : (each : List ℕ) → ((k : ℕ) → k < count → (k ≡ place → ⊥) → getD each k 0 ≡ hearingRises (fate k)) → getD each place 0 ≡ bitOr (hearingRises (fate place)) (sentRises someone) →
-        (d′ : D.Shelf) → d′ .history ≡ (sentEntries ++ heardEntries (d .lines) without r) ++ d .history → d′ .units ≡ allHear (d .lines) without r →
+    pub sent-rows : (each : List ℕ) → ((k : ℕ) → k < length (d .units) → (k ≡ place → ⊥) → getD each k 0 ≡ bitOr (takenIf (moves k)) (hearingRises (fate k))) →
+        getD each place 0 ≡ bitOr (bitOr (takenIf (moves place)) (hearingRises (fate place))) (sentRises someone) →
+        (d′ : D.Shelf) → d′ .history ≡ (sentEntries ++ heardThere) ++ moved d .history → d′ .units ≡ allHear (d .lines) without (s .cell) →
         (i : ℕ) → i < length (d .units) → RowAlike (settled rows (frameRises count each)) d′ i
-    sent-rows each others here d′ told same i h =
-        let number = ap (λ us. D.numberOf (getD us i D.blank)) same ∙ heard-numbers (d .lines) r without i ∙ number-without i in
-        row-rose rows (settled rows (frameRises count each)) d d′ i (sentEntries ++ heardEntries (d .lines) without r) told number (alike i h) (getD each i 0) (rose each i (omega arith))
-        (decide (eqb i place)
+    sent-rows each others here d′ told same =
+        turned-rows each (sentEntries ++ heardThere) d′ told
+        (λ k. ap (λ us. D.numberOf (getD us k D.blank)) same ∙ same-each (λ u. hearingUnit (d .lines) u (s .cell)) (heard-number (d .lines) (s .cell)) without k ∙ number-without k)
+        (λ k h c.
+        let both = times-append sentEntries heardThere (D.numberOf (D.unitAt d k)) c in
+        let heard = heard-at k h c in
+        decide (eqb k place)
         (λ t.
-        let p = eqb-true i place t in
-        subst (λ k. Raises (getD each k 0) (sentEntries ++ heardEntries (d .lines) without r) (D.numberOf (D.unitAt d k))) (sym p)
-        (subst (λ n. Raises n (sentEntries ++ heardEntries (d .lines) without r) (D.numberOf (D.unitAt d place))) (sym here) raises-sender))
+        let p = eqb-true k place t in
+        let sent = ap (λ j. times sentEntries (D.numberOf (D.unitAt d j)) c) p ∙ sent-here c in
+        let three = ap (λ n. n / 2 ^ placeOf c % 2) (ap (λ j. getD each j 0) p ∙ here) ∙ bit-three (moves place) (fate place) (sentRises someone) (sent-low someone) (placeOf c) in
+        let moves-at = ap (λ j. takenIf (moves j) / 2 ^ placeOf c % 2) p in
+        let heard-p = ap (λ j. hearingRises (fate j) / 2 ^ placeOf c % 2) p in
+        omega (arith, both, heard, sent, three, moves-at, heard-p))
         (λ f.
-        let p = eqb-false i place f in
-        subst (λ n. Raises n (sentEntries ++ heardEntries (d .lines) without r) (D.numberOf (D.unitAt d i))) (sym (others i (omega arith) p)) (raises-hearer i h p)))
+        let p = eqb-false k place f in
+        let two = ap (λ n. n / 2 ^ placeOf c % 2) (others k h p) ∙ bit-joined (takenIf (moves k)) (hearingRises (fate k)) (placeOf c) (moved-heard (moves k) (fate k)) in
+        omega (arith, both, heard, sent-other k h p c, two)))
 
 -- rows beyond the declared units are as they were
 pub frame-beyond : (rows : List C.Counters) (count : ℕ) (each : List ℕ) (i : ℕ) → count ≤ i → getD (settled rows (frameRises count each)) i zeros ≡ getD rows i zeros

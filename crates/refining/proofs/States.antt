@@ -1,11 +1,11 @@
 -- Two cards on equal bytes that say and give back the same leave equal bytes. Assumes nothing.
-use Prim.Native.Nat.{ℕ, zero, suc, _+_, _*_, _%_, _^_}
+use Prim.Native.Nat.{ℕ, zero, suc, _+_, _*_, _%_, _^_, min}
 use mathlib.Core.Path.{_≡_, refl, sym, ap, subst, _∙_}
 use mathlib.Core.Bool.{Bool, true, false, cond, _&&_}
 use mathlib.Core.List.{List, [], _∷_}
 use native.Mathlib.Omega.{arith}
 use lib.Dec.{eqb}
-use lib.ListN.{length, getD, take}
+use lib.ListN.{length, getD, take, replicate}
 use borrow.Author.Tests.{le-ltb}
 use Rattle.octets.specs.Octets.{four}
 use Rattle.card.specs.declared.Card.{Card}
@@ -46,10 +46,12 @@ use Rattle.arriving.specs.declared.Way.{Way}
 use Rattle.arriving.specs.declared.Way.the-variants.{Bus, Lost}
 use Rattle.hearing.specs.Hearings.{planOf}
 use Rattle.hearing.specs.InPlace as hearing·
+use Rattle.framing.specs.Moves.{movedState, Moved, move, moveFrom, movedIn}
 use Rattle.framing.specs.Sending.{sentFrame}
 use Rattle.framing.specs.Frames as framing
 use Rattle.framing.specs.Scenes.{Scene, turns, heededBy}
 use Rattle.framing.specs.InPlace as framing·
+use Rattle.framing.proofs.Moves.{moves-decode, moves-store}
 use Rattle.table.specs.Load.{tooLittle, ranOf}
 use Rattle.table.specs.InPlace.{stateOf, stateRan, stateLoaded}
 use Rattle.table.specs.EventInPlace.{loadState}
@@ -58,7 +60,7 @@ use Rattle.promise.specs.Readings.{linesOf}
 use Rattle.promise.specs.Refusals.{Accepts}
 use Rattle.promise.proofs.Runs.{done-iff-good, ran-lines}
 use Rattle.promise.proofs.Refusals.{all-fine, accepts-units}
-use Rattle.document.specs.Events.{Event, arrive, frame, hear, take-cell, count, answers, Back}
+use Rattle.document.specs.Events.{Event, arrive, frame, hear, take-cell, count, hand, collect, answers, Back}
 use Rattle.running.specs.Keeping as keeping
 use Rattle.running.specs.Lent.{Lent, Long, does, runIn, loadedIn, seen}
 use Rattle.running.proofs.Kept.{soundness-kept, loads-sound}
@@ -172,8 +174,28 @@ sent-same : (f : F.Found) (b store store′ buffer : List ℕ) → framing.buffe
 unfolding framing.bufferBy framing·.stateBy framing·.sentState
 sent-same (found.At place) b store store′ buffer e =
     let f = sentFrame (shelfIn b) place store′ in
-    ap (λ x. heededBy (heard x) (take 56 x) (framing·.outState b place) store .bytes) e ∙ bytes-alone (heard f) (take 56 f) 0 _ _ _ refl
+    ap (λ x. heededBy (heard x) (take 56 x) (framing·.outState b place) store (replicate 32 0) .bytes) e ∙ bytes-alone (heard f) (take 56 f) 0 _ _ _ refl
 sent-same found.Nothing b store store′ buffer e = refl
+
+-- no byte of the store has a part in what the moves write
+moves-alone : (i n : ℕ) (x y : Moved) → x .bytes ≡ y .bytes → moveFrom i n x .bytes ≡ moveFrom i n y .bytes
+unfolding moveFrom
+moves-alone i zero x y e = e
+moves-alone i (suc n) x y e = moves-alone (suc i) n (move i x) (move i y) (ap (λ b. movedState b i) e)
+
+turn-same : (b store store′ buffer : List ℕ) → framing.turnBuffer (shelfIn b) store buffer ≡ framing.turnBuffer (shelfIn b) store′ buffer → framing·.turnState b store ≡ framing·.turnState b store′
+turn-same b store store′ buffer e =
+    let shelf = shelfIn b in
+    ap (λ x. withTurn x (framing.granted shelf .arbiter) (framing.granted shelf .unit) ((shelf .frame + 1) % 2 ^ 16)) (sent-same (framing.sender shelf) b store store′ buffer e)
+
+frame-same : (b store store′ buffer : List ℕ) → length b ≡ 2048 → framing.bufferAt (shelfIn b) store buffer ≡ framing.bufferAt (shelfIn b) store′ buffer → framing·.stateAt b store ≡ framing·.stateAt b store′
+frame-same b store store′ buffer long e =
+    let x = movedIn b store in
+    let y = movedIn b store′ in
+    let same = moves-alone 0 (min (getD b 805 0) 32) (record { bytes = b; store = store; each = replicate 32 0 }) (record { bytes = b; store = store′; each = replicate 32 0 }) refl in
+    let one : framing.turnBuffer (shelfIn (x .bytes)) (x .store) buffer ≡ framing.bufferAt (shelfIn b) store buffer = λ t. framing.turnBuffer (moves-decode b store long t) (moves-store b store long t) buffer in
+    let two : framing.turnBuffer (shelfIn (x .bytes)) (y .store) buffer ≡ framing.bufferAt (shelfIn b) store′ buffer = λ t. framing.turnBuffer (moves-decode b store long t) (moves-store b store′ long t) buffer in
+    turn-same (x .bytes) (x .store) (y .store) buffer (one ∙ e ∙ sym two) ∙ ap (λ z. framing·.turnState z (y .store)) same
 
 -- D. one event, on two cards
 module _ (c c′ : Card) (b memory memory′ store store′ : List ℕ) (rows rows′ : List C.Counters) where
@@ -222,7 +244,7 @@ module _ (c c′ : Card) (b memory memory′ store store′ : List ℕ) (rows ro
         bytes card s n k = rw (k .formed, k .sound)
 
         by : (right : Bool) → cond right (framing.bufferAt shelf store buffer) buffer ≡ cond right (framing.bufferAt shelf store′ buffer) buffer → cond right (framing·.stateAt b store) b ≡ cond right (framing·.stateAt b store′) b
-        by true k = ap (λ x. withTurn x (framing.granted shelf .arbiter) (framing.granted shelf .unit) ((shelf .frame + 1) % 2 ^ 16)) (sent-same (framing.sender shelf) b store store′ buffer k)
+        by true k = frame-same b store store′ buffer (g .long) k
         by false k = refl
 
     agree-at : (e : Event) → does c one e .said ≡ does c′ two e .said → does c one e .bytes ≡ does c′ two e .bytes → does c one e .lent .state ≡ does c′ two e .lent .state
@@ -232,6 +254,8 @@ module _ (c c′ : Card) (b memory memory′ store store′ : List ℕ) (rows ro
     agree-at (hear unit f) p q = both-in c c′ b (length store) (length store′) (length rows) (length rows′) unit (eqb (length f) 57) _ (g .formed) (g .sound) (g′ .sound)
     agree-at (take-cell unit buffer) p q = both-in c c′ b (length store) (length store′) (length rows) (length rows′) unit (eqb (length buffer) 53) _ (g .formed) (g .sound) (g′ .sound)
     agree-at (count unit) p q = refl
+    agree-at (hand unit cell) p q = both-in c c′ b (length store) (length store′) (length rows) (length rows′) unit (eqb (length cell) 56) _ (g .formed) (g .sound) (g′ .sound)
+    agree-at (collect unit buffer) p q = both-in c c′ b (length store) (length store′) (length rows) (length rows′) unit (eqb (length buffer) 56) _ (g .formed) (g .sound) (g′ .sound)
 
 agree : (c c′ : Card) (l l′ : Lent) → l .state ≡ l′ .state → Good c l → Good c′ l′ → (e : Event) → does c l e .said ≡ does c′ l′ e .said → does c l e .bytes ≡ does c′ l′ e .bytes →
     does c l e .lent .state ≡ does c′ l′ e .lent .state

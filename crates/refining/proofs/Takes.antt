@@ -115,6 +115,7 @@ module _ (store : List ℕ) (i : ℕ) (u : U.Unit) (d : D.Unit) (a : UnitAlike s
         rings = length-set (u .outlet .queues) q ring ∙ a .rings;
         four = length-set (d .queues) q rest ∙ a .four;
         queues = queues-left;
+        side = a .side;
       }
 
   -- what it hands out

@@ -12,7 +12,7 @@ use Rattle.card.specs.declared.Card.{Card}
 use Rattle.arbiter.specs.Arbitration.{due, asking, besides, renewedFrom}
 use Rattle.arbiter.proofs.Requests.{renewed-at, renewed-past}
 use Rattle.store.proofs.Slots.{by-lt}
-use Rattle.shelf.specs.Shelves.{declared, blank, numberOf}
+use Rattle.shelf.specs.Shelves.{declared, blank, waiting, numberOf}
 use Rattle.shelf.specs.declared.Unit as U
 use Rattle.shelf.specs.Shelf.{Shelf}
 use Rattle.soundness.specs.State.{DeclaredIn, Sound}
@@ -23,7 +23,7 @@ use Rattle.running.proofs.Changed.{set-or}
 -- what a number asks now comes from one of the units, or from before
 from-unit : (granted n : ℕ) (now : List ℕ) (us : List U.Unit) →
     (getD (askingOf granted now us) n 0 ≡ getD now n 0)
-    ⊎ ((k : ℕ) × (k < length us) × (numberOf (getD us k blank) ≡ n) × (getD (askingOf granted now us) n 0 ≡ asksNow granted (numberOf (getD us k blank)) ((getD us k blank) .settings .priority) ((getD us k blank) .inlet .count)))
+    ⊎ ((k : ℕ) × (k < length us) × (numberOf (getD us k blank) ≡ n) × (getD (askingOf granted now us) n 0 ≡ asksNow granted (numberOf (getD us k blank)) ((getD us k blank) .settings .priority) (waiting (getD us k blank))))
 unfolding askingOf
 from-unit granted n now [] = inl refl
 from-unit granted n now (u ∷ us) =
@@ -32,9 +32,9 @@ from-unit granted n now (u ∷ us) =
     ⊎-elim
     (λ o. inr (0, omega arith, sym (o .0), e ∙ o .1))
     (λ o. inl (e ∙ o))
-    (set-or now (numberOf u) (asksNow granted (numberOf u) (u .settings .priority) (u .inlet .count)) 0 n))
+    (set-or now (numberOf u) (asksNow granted (numberOf u) (u .settings .priority) (waiting u)) 0 n))
     (λ r. inr (suc (r .0), omega (arith, r .1), r .2, r .3))
-    (from-unit granted n (set now (numberOf u) (asksNow granted (numberOf u) (u .settings .priority) (u .inlet .count))) us)
+    (from-unit granted n (set now (numberOf u) (asksNow granted (numberOf u) (u .settings .priority) (waiting u))) us)
 
 pub none-yet : (k n : ℕ) → _≡_ {A = ℕ} (getD (replicate k 0) n 0) 0
 none-yet zero n = refl
@@ -59,14 +59,14 @@ renewed-or bus frame now asks n =
 
 -- a unit asks at its priority for a cell besides a granted one, or not at all
 abbrev pub AsksFor : ℕ → ℕ → U.Unit → Type 0
-AsksFor ask granted u = (ask ≡ 0) ⊎ ((ask ≡ u .settings .priority) × (1 ≤ besides (u .inlet .count) (eqb (numberOf u) granted)))
+AsksFor ask granted u = (ask ≡ 0) ⊎ ((ask ≡ u .settings .priority) × (1 ≤ besides (waiting u) (eqb (numberOf u) granted)))
 
-asks-for : (granted : ℕ) (u : U.Unit) → AsksFor (asksNow granted (numberOf u) (u .settings .priority) (u .inlet .count)) granted u
+asks-for : (granted : ℕ) (u : U.Unit) → AsksFor (asksNow granted (numberOf u) (u .settings .priority) (waiting u)) granted u
 unfolding asking
-asks-for granted u = pick (leb 1 (besides (u .inlet .count) (eqb (numberOf u) granted))) refl
+asks-for granted u = pick (leb 1 (besides (waiting u) (eqb (numberOf u) granted))) refl
   where
-    pick : (b : Bool) → leb 1 (besides (u .inlet .count) (eqb (numberOf u) granted)) ≡ b → AsksFor (cond b (u .settings .priority) 0) granted u
-    pick true t = inr (refl, leb-true 1 (besides (u .inlet .count) (eqb (numberOf u) granted)) t)
+    pick : (b : Bool) → leb 1 (besides (waiting u) (eqb (numberOf u) granted)) ≡ b → AsksFor (cond b (u .settings .priority) 0) granted u
+    pick true t = inr (refl, leb-true 1 (besides (waiting u) (eqb (numberOf u) granted)) t)
     pick false t = inl refl
 
 module _ (card : Card) (shelf : Shelf) (bytes records : ℕ) (s : Sound card shelf bytes records) where
@@ -89,7 +89,7 @@ module _ (card : Card) (shelf : Shelf) (bytes records : ℕ) (s : Sound card she
       (λ o. inl (e ∙ o ∙ none-yet 32 n))
       (λ o.
       let k = same-place (o .0) j (o .1) h (o .2) in
-      subst (λ a. AsksFor a (shelf .granted) u) (sym (e ∙ o .3 ∙ ap (λ m. asksNow (shelf .granted) (numberOf (getD (declared shelf) m blank)) ((getD (declared shelf) m blank) .settings .priority) ((getD (declared shelf) m blank) .inlet .count)) k)) (asks-for (shelf .granted) u))
+      subst (λ a. AsksFor a (shelf .granted) u) (sym (e ∙ o .3 ∙ ap (λ m. asksNow (shelf .granted) (numberOf (getD (declared shelf) m blank)) ((getD (declared shelf) m blank) .settings .priority) (waiting (getD (declared shelf) m blank))) k)) (asks-for (shelf .granted) u))
       (from-unit (shelf .granted) n (replicate 32 0) (declared shelf)))
       (λ e. subst (λ a. AsksFor a (shelf .granted) u) (sym e) (s .units j h .ask)))
       (renewed-or (shelf .bus) (shelf .frame) (askingNow shelf) (shelf .arbiter .asks) n)

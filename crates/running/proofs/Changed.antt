@@ -13,11 +13,12 @@ use Rattle.card.specs.declared.Card.{Card}
 use Rattle.outlet.specs.Outlets.{Given, RingFits, RingsFit, capacity, empty}
 use Rattle.outlet.specs.declared.Ring.{Ring}
 use Rattle.outlet.specs.declared.Outlet.{Outlet}
-use Rattle.shelf.specs.Shelves.{declared, blank, numberOf}
+use Rattle.shelf.specs.Shelves.{declared, blank, waiting, numberOf}
+use Rattle.shelf.specs.declared.Side.{Side}
 use Rattle.shelf.specs.declared.Unit as U
 use Rattle.shelf.specs.Shelf.{Shelf}
 use Rattle.shelf.proofs.Finding.{declared-at}
-use Rattle.soundness.specs.State.{UnitSound, DeclaredIn, Sound}
+use Rattle.soundness.specs.State.{SideFits, UnitSound, DeclaredIn, Sound}
 use Rattle.soundness.specs.Admission.{unitAt, withUnit, withQueue}
 
 -- what stands at a place of a list of which one place was set
@@ -32,9 +33,9 @@ set-or l i x d j = pick (eqb j i) refl
     pick true t = inside (ltb i (length l)) refl (eqb-true j i t)
     pick false t = inr (getD-set-other l i j x d (eqb-false j i t))
 
--- a unit with another outlet and another inlet
-abbrev pub remade : U.Unit → Outlet → Ring → U.Unit
-remade u o r = record { settings = u .settings; outlet = o; inlet = r; place = u .place; sessions = u .sessions }
+-- a unit with another outlet, another inlet and other places beside its data queues
+abbrev pub remade : U.Unit → Outlet → Ring → Side → U.Unit
+remade u o r side = record { settings = u .settings; outlet = o; inlet = r; side = side; place = u .place; sessions = u .sessions }
 
 -- a queue of an outlet changed
 pub queue-changed : (u : U.Unit) (q : ℕ) (ring : Ring) → RingsFit (u .outlet) → RingFits ring (capacity (u .outlet .limits) q) → RingsFit (withQueue u q ring .outlet)
@@ -47,10 +48,10 @@ queue-changed u q ring fits ok =
           (set-or (u .outlet .queues) q ring empty r);
     }
 
-module _ (card : Card) (bus granted : ℕ) (asks : List ℕ) (u : U.Unit) (o : Outlet) (r : Ring) where
-  -- nothing that a grant or a request needs is lost where the inlet loses no cell
-  pub unit-changed : UnitSound card bus granted asks u → Given (o .limits) → RingsFit o → RingFits r 4 → u .inlet .count ≤ r .count → UnitSound card bus granted asks (remade u o r)
-  unit-changed s given fits inlet more =
+module _ (card : Card) (bus granted : ℕ) (asks : List ℕ) (u : U.Unit) (o : Outlet) (r : Ring) (side : Side) where
+  -- nothing that a grant or a request needs is lost where no fewer cells wait than before
+  pub unit-changed : UnitSound card bus granted asks u → Given (o .limits) → RingsFit o → RingFits r 4 → SideFits side → waiting u ≤ waiting (remade u o r side) → UnitSound card bus granted asks (remade u o r side)
+  unit-changed s given fits inlet beside more =
       record {
         below = s .below;
         link = s .link;
@@ -60,16 +61,17 @@ module _ (card : Card) (bus granted : ℕ) (asks : List ℕ) (u : U.Unit) (o : O
         limits = given;
         inlet = inlet;
         queues = fits;
+        side = beside;
         grant = λ e. let h = s .grant e in omega arith;
         ask = ⊎-elim (λ e. inl e) (λ e. inr (e .0, let h = e .1 in omega arith)) (s .ask);
       }
 
-module _ (card : Card) (shelf : Shelf) (bytes records i : ℕ) (o : Outlet) (r : Ring) (h : i < length (declared shelf)) where
+module _ (card : Card) (shelf : Shelf) (bytes records i : ℕ) (o : Outlet) (r : Ring) (side : Side) (h : i < length (declared shelf)) where
   abbrev old : U.Unit
   old = unitAt shelf i
 
   abbrev now : Shelf
-  now = withUnit shelf i (remade old o r)
+  now = withUnit shelf i (remade old o r side)
 
   below-count : i < shelf .count
   below-count = omega (arith, length-take (shelf .count) (shelf .units), h)
@@ -77,15 +79,15 @@ module _ (card : Card) (shelf : Shelf) (bytes records i : ℕ) (o : Outlet) (r :
   old-is : getD (declared shelf) i blank ≡ old
   old-is = declared-at shelf i blank below-count
 
-  declared-is : declared now ≡ set (declared shelf) i (remade old o r)
-  declared-is = take-set-lt (shelf .count) (shelf .units) i (remade old o r) below-count
+  declared-is : declared now ≡ set (declared shelf) i (remade old o r side)
+  declared-is = take-set-lt (shelf .count) (shelf .units) i (remade old o r side) below-count
 
   same-length : length (declared now) ≡ length (declared shelf)
-  same-length = ap length declared-is ∙ length-set (declared shelf) i (remade old o r)
+  same-length = ap length declared-is ∙ length-set (declared shelf) i (remade old o r side)
 
   -- the unit in a place: the changed one, or as it was
-  which : (j : ℕ) → ((j ≡ i) × (getD (declared now) j blank ≡ remade old o r)) ⊎ (getD (declared now) j blank ≡ getD (declared shelf) j blank)
-  which j = subst (λ (l : List U.Unit). ((j ≡ i) × (getD l j blank ≡ remade old o r)) ⊎ (getD l j blank ≡ getD (declared shelf) j blank)) (sym declared-is) (set-or (declared shelf) i (remade old o r) blank j)
+  which : (j : ℕ) → ((j ≡ i) × (getD (declared now) j blank ≡ remade old o r side)) ⊎ (getD (declared now) j blank ≡ getD (declared shelf) j blank)
+  which j = subst (λ (l : List U.Unit). ((j ≡ i) × (getD l j blank ≡ remade old o r side)) ⊎ (getD l j blank ≡ getD (declared shelf) j blank)) (sym declared-is) (set-or (declared shelf) i (remade old o r side) blank j)
 
   same-number : (j : ℕ) → numberOf (getD (declared now) j blank) ≡ numberOf (getD (declared shelf) j blank)
   same-number j =
@@ -97,8 +99,8 @@ module _ (card : Card) (shelf : Shelf) (bytes records i : ℕ) (o : Outlet) (r :
   still-declared : (n : ℕ) → DeclaredIn (declared shelf) n → DeclaredIn (declared now) n
   still-declared n d = (d .0, subst (λ m. d .0 < m) (sym same-length) (d .1), same-number (d .0) ∙ d .2)
 
-  pub shelf-changed : Sound card shelf bytes records → Given (o .limits) → RingsFit o → RingFits r 4 → old .inlet .count ≤ r .count → Sound card now bytes records
-  shelf-changed s given fits inlet more =
+  pub shelf-changed : Sound card shelf bytes records → Given (o .limits) → RingsFit o → RingFits r 4 → SideFits side → waiting old ≤ waiting (remade old o r side) → Sound card now bytes records
+  shelf-changed s given fits inlet beside more =
       record {
         bus = s .bus;
         count = s .count;
@@ -108,7 +110,7 @@ module _ (card : Card) (shelf : Shelf) (bytes records i : ℕ) (o : Outlet) (r :
         units = λ j k.
             ⊎-elim
             (λ e. subst (λ u. UnitSound card (shelf .bus) (shelf .granted) (shelf .arbiter .asks) u) (sym (e .1))
-            (unit-changed card (shelf .bus) (shelf .granted) (shelf .arbiter .asks) old o r (subst (λ u. UnitSound card (shelf .bus) (shelf .granted) (shelf .arbiter .asks) u) old-is (s .units i h)) given fits inlet more))
+            (unit-changed card (shelf .bus) (shelf .granted) (shelf .arbiter .asks) old o r side (subst (λ u. UnitSound card (shelf .bus) (shelf .granted) (shelf .arbiter .asks) u) old-is (s .units i h)) given fits inlet beside more))
             (λ e. subst (λ u. UnitSound card (shelf .bus) (shelf .granted) (shelf .arbiter .asks) u) (sym e) (s .units j (subst (λ m. j < m) same-length k)))
             (which j);
         granted = ⊎-elim (λ e. inl e) (λ d. inr (still-declared (shelf .granted) d)) (s .granted);

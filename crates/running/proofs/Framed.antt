@@ -18,10 +18,9 @@ use Rattle.arbiter.specs.declared.Grant.{Grant}
 use Rattle.arbiter.proofs.Grants.{turn-first, turn-unit}
 use Rattle.arbiter.proofs.Requests.{same-or}
 use Rattle.bus.specs.Frame.{heard}
-use Rattle.store.specs.Places.{cellAt, inletSlot}
-use Rattle.store.specs.Rings.{popped}
+use Rattle.store.specs.Places.{cellAt}
 use Rattle.store.proofs.Slots.{by-lt, cell-length}
-use Rattle.shelf.specs.Shelves.{declared, blank, numberOf, findIn}
+use Rattle.shelf.specs.Shelves.{declared, blank, waiting, numberOf, findIn}
 use Rattle.shelf.specs.declared.Found as F
 use Rattle.shelf.specs.declared.Found.the-variants as found
 use Rattle.shelf.specs.declared.Unit as U
@@ -29,15 +28,18 @@ use Rattle.shelf.specs.Shelf.{Shelf}
 use Rattle.shelf.proofs.Finding.{declared-at, find-at, find-nothing}
 use Rattle.soundness.specs.State.{soundOf, UnitSound, DeclaredIn, Sound}
 use Rattle.soundness.proofs.Facts.{sound-iff}
-use Rattle.soundness.specs.Admission.{unitAt, withUnit, withInlet, Housed}
+use Rattle.soundness.specs.Admission.{unitAt, withUnit, Housed}
 use Rattle.soundness.proofs.Laws.{sound-housed}
 use Rattle.framing.specs.Requests.{requests}
-use Rattle.framing.specs.Sending.{silence, heardByAll, sentFrame, cellOut, sentBy, sentStore, AllHoused}
-use Rattle.framing.specs.Frames.{sender, listenedBy, storeBy, ended, granted as grantedOf}
-use Rattle.framing.proofs.Sends.{sealed-length, out-housed}
+use Rattle.framing.specs.Moves.{moved, movedEach, movedStores}
+use Rattle.framing.specs.Sending.{silence, heardByAll, sendSlot, unitOut, sentFrame, cellOut, sentBy, sentStore, AllHoused}
+use Rattle.framing.specs.Frames.{sender, listenedBy, storeBy, ended, granted as grantedOf, doneAt, storeAt}
+use Rattle.framing.proofs.Sends.{sealed-length, send-below, out-housed}
 use Rattle.running.proofs.Changed.{set-or}
 use Rattle.running.proofs.Asking.{AsksFor, declared-asks, stranger-asks}
-use Rattle.running.proofs.Sent.{bus-kept, count-kept, many-kept, store-length, Went, went-nowhere, went-heard}
+use Rattle.running.proofs.Sent.{bus-kept, count-kept, many-kept, store-length, went-heard}
+use Rattle.running.proofs.Went.{Went, went-nowhere}
+use Rattle.running.proofs.Moved.{stores-moved, moves-sound}
 
 -- a number is declared or not
 declared-or : {P : Type 0} (us : List U.Unit) (n : ℕ) → (DeclaredIn us n → P) → ((DeclaredIn us n → ⊥) → P) → P
@@ -98,7 +100,7 @@ module _ (card : Card) (shelf after : Shelf) (bytes records frame : ℕ) (s : So
   still n d = (d .0, subst (λ m. d .0 < m) (sym same-length) (d .1), same-number (d .0) (d .1) ∙ d .2)
 
   -- of a unit: what it asks, if anything, is there after the frame
-  asks-after : (j : ℕ) → j < length (declared shelf) → (getD asks (numberOf (unitAt shelf j)) 0 ≡ 0) ⊎ ((getD asks (numberOf (unitAt shelf j)) 0 ≡ unitAt shelf j .settings .priority) × (1 ≤ unitAt after j .inlet .count))
+  asks-after : (j : ℕ) → j < length (declared shelf) → (getD asks (numberOf (unitAt shelf j)) 0 ≡ 0) ⊎ ((getD asks (numberOf (unitAt shelf j)) 0 ≡ unitAt shelf j .settings .priority) × (1 ≤ waiting (unitAt after j)))
   asks-after j h =
       ⊎-elim (λ e. inl e) (λ e. inr (e .0, let a = e .1 in let b = went j h .enough in omega arith))
       (subst (λ u. AsksFor (getD asks (numberOf u) 0) (shelf .granted) u) (old-is j h) (declared-asks card shelf bytes records s j h))
@@ -109,7 +111,7 @@ module _ (card : Card) (shelf after : Shelf) (bytes records frame : ℕ) (s : So
       ⊎-elim (λ e. omega (arith, e, b)) (λ e. omega (arith, e, b)) (s .bus)
 
   -- the unit that is granted has the cell that it asked for
-  granted-cell : (g : Grant) → Granting last asks g → (j : ℕ) → j < length (declared shelf) → numberOf (unitAt shelf j) ≡ g .unit → 1 ≤ unitAt after j .inlet .count
+  granted-cell : (g : Grant) → Granting last asks g → (j : ℕ) → j < length (declared shelf) → numberOf (unitAt shelf j) ≡ g .unit → 1 ≤ waiting (unitAt after j)
   granted-cell g (nothing q) j h e = let small = number-small j h in let z : g .unit ≡ 255 = ap (λ x. x .unit) q in absurd (omega arith)
   granted-cell g (someone p least a small q) j h e =
       ⊎-elim
@@ -119,7 +121,7 @@ module _ (card : Card) (shelf after : Shelf) (bytes records frame : ℕ) (s : So
 
   -- a request that still stands has its cell besides the granted one
   request-cell : (g : Grant) → Granting last asks g → (j : ℕ) → j < length (declared shelf) → let n = numberOf (unitAt shelf j) in
-      (getD (g .asks) n 0 ≡ 0) ⊎ ((getD (g .asks) n 0 ≡ unitAt shelf j .settings .priority) × (1 ≤ besides (unitAt after j .inlet .count) (eqb n (g .unit))))
+      (getD (g .asks) n 0 ≡ 0) ⊎ ((getD (g .asks) n 0 ≡ unitAt shelf j .settings .priority) × (1 ≤ besides (waiting (unitAt after j)) (eqb n (g .unit))))
   request-cell g is j h = same-or n (g .unit) (λ e. inl (cleared is e)) (λ e. stands is e)
     where
       n : ℕ
@@ -135,11 +137,11 @@ module _ (card : Card) (shelf after : Shelf) (bytes records frame : ℕ) (s : So
       kept (nothing q) e = ap (λ (x : Grant). getD (x .asks) n 0) q
       kept (someone p least a small q) e = ap (λ (x : Grant). getD (x .asks) n 0) q ∙ getD-set-other asks (g .unit) n 0 0 e
 
-      stands : Granting last asks g → (n ≡ g .unit → ⊥) → (getD (g .asks) n 0 ≡ 0) ⊎ ((getD (g .asks) n 0 ≡ unitAt shelf j .settings .priority) × (1 ≤ besides (unitAt after j .inlet .count) (eqb n (g .unit))))
+      stands : Granting last asks g → (n ≡ g .unit → ⊥) → (getD (g .asks) n 0 ≡ 0) ⊎ ((getD (g .asks) n 0 ≡ unitAt shelf j .settings .priority) × (1 ≤ besides (waiting (unitAt after j)) (eqb n (g .unit))))
       stands is e =
           ⊎-elim
           (λ z. inl (kept is e ∙ z))
-          (λ r. inr (kept is e ∙ r .0, subst (λ b. 1 ≤ besides (unitAt after j .inlet .count) b) (sym (ne-eqb n (g .unit) e)) (let k = r .1 in omega arith)))
+          (λ r. inr (kept is e ∙ r .0, subst (λ b. 1 ≤ besides (waiting (unitAt after j)) b) (sym (ne-eqb n (g .unit) e)) (let k = r .1 in omega arith)))
           (asks-after j h)
 
   unit-after : (g : Grant) → Granting last asks g → (j : ℕ) → j < length (declared shelf) → UnitSound card (after .bus) (g .unit) (g .asks) (unitAt after j)
@@ -156,8 +158,9 @@ module _ (card : Card) (shelf after : Shelf) (bytes records frame : ℕ) (s : So
         limits = w .limits;
         inlet = w .inlet;
         queues = w .queues;
-        grant = subst (λ x. x .number ≡ g .unit → 1 ≤ unitAt after j .inlet .count) (sym e) (granted-cell g is j h);
-        ask = subst (λ x. (getD (g .asks) (x .number) 0 ≡ 0) ⊎ ((getD (g .asks) (x .number) 0 ≡ x .priority) × (1 ≤ besides (unitAt after j .inlet .count) (eqb (x .number) (g .unit))))) (sym e) (request-cell g is j h);
+        side = w .side;
+        grant = subst (λ x. x .number ≡ g .unit → 1 ≤ waiting (unitAt after j)) (sym e) (granted-cell g is j h);
+        ask = subst (λ x. (getD (g .asks) (x .number) 0 ≡ 0) ⊎ ((getD (g .asks) (x .number) 0 ≡ x .priority) × (1 ≤ besides (waiting (unitAt after j)) (eqb (x .number) (g .unit))))) (sym e) (request-cell g is j h);
       }
 
   -- who is granted is declared
@@ -213,8 +216,8 @@ module _ (card : Card) (shelf after : Shelf) (bytes records frame : ℕ) (s : So
   pub sound-after : Sound card (next (granted last asks)) bytes records
   sound-after = sound-next (granted last asks) (granting last asks)
 
--- the frame as it is: with a sender, or idle
-module _ (card : Card) (shelf : Shelf) (store : List ℕ) (records : ℕ) (sound : soundOf card shelf (length store) records ≡ true) where
+-- requests, sending and grant, with a sender or idle; `each` is what the moves counted
+module _ (card : Card) (shelf : Shelf) (store : List ℕ) (records : ℕ) (each : List ℕ) (sound : soundOf card shelf (length store) records ≡ true) where
   all-housed : AllHoused shelf (length store)
   all-housed i h = sound-housed card shelf (length store) records sound i h .0
 
@@ -225,39 +228,56 @@ module _ (card : Card) (shelf : Shelf) (store : List ℕ) (records : ℕ) (sound
   sent-length : (place : ℕ) → place < length (declared shelf) → length (sentFrame shelf place store) ≡ 57
   unfolding sentFrame
   sent-length place h =
-      let u = all-housed place h in
-      let head = u .inlet .place (omega arith) in
-      sealed-length (cellAt store place (inletSlot (unitAt shelf place .inlet .head))) (cell-length store place (inletSlot (unitAt shelf place .inlet .head)) (omega arith) (u .inside))
+      let u = unitAt shelf place in
+      let a = all-housed place h in
+      sealed-length (cellAt store place (sendSlot u)) (cell-length store place (sendSlot u) (send-below place (length store) u a) (a .inside))
 
   abbrev out : ℕ → Shelf
-  out place = withUnit shelf place (withInlet (unitAt shelf place) (popped (unitAt shelf place .inlet) 4))
+  out place = withUnit shelf place (unitOut (unitAt shelf place))
 
   out-all : (place : ℕ) → place < length (declared shelf) → (k : ℕ) → k < length (declared (out place)) → Housed (0 + k) (getD (declared (out place)) k blank) (length store)
   out-all place h k few =
       let zero-on : k ≡ 0 + k = omega arith in
       let less : k < shelf .count = omega (arith, length-take (shelf .count) (out place .units), few) in
       subst (λ n. Housed n (getD (declared (out place)) k blank) (length store)) zero-on
-      (subst (λ u. Housed k u (length store)) (sym (declared-at (out place) k blank less))
-      (out-housed shelf place (length store) (unitAt shelf place) refl (popped (unitAt shelf place .inlet) 4) refl h all-housed k few))
+      (subst (λ u. Housed k u (length store)) (sym (declared-at (out place) k blank less)) (out-housed shelf place (length store) (unitAt shelf place) refl h all-housed k few))
 
-  pub frame-shelf : (f : F.Found) → sender shelf ≡ f → Sound card (ended shelf (grantedOf shelf) (listenedBy f shelf store) .reply .shelf) (length store) records
+  turn-shelf : (f : F.Found) → sender shelf ≡ f → Sound card (ended shelf (grantedOf shelf) (listenedBy f shelf store each) .reply .shelf) (length store) records
   unfolding listenedBy sentBy cellOut
-  frame-shelf found.Nothing e =
+  turn-shelf found.Nothing e =
       sound-after card shelf shelf (length store) records _ facts refl refl refl (λ j h. went-nowhere (shelf .granted) j (length store) (unitAt shelf j) (all-housed j h))
-  frame-shelf (found.At place) e =
+  turn-shelf (found.At place) e =
       let at = find-at (shelf .granted) (declared shelf) place .0 e in
       let named : numberOf (unitAt shelf place) ≡ shelf .granted = ap numberOf (sym (declared-at shelf place blank (let i = at .inside in omega (arith, length-take (shelf .count) (shelf .units))))) ∙ at .named in
       let h = heard (sentFrame shelf place store) in
-      sound-after card shelf (heardByAll (out place) h .shelf) (length store) records _ facts
-      (bus-kept h 0 (declared (out place)) (silence (out place)))
-      (count-kept h 0 (declared (out place)) (silence (out place)))
-      (many-kept h 0 (declared (out place)) (silence (out place)) ∙ length-set (shelf .units) place (withInlet (unitAt shelf place) (popped (unitAt shelf place .inlet) 4)))
-      (λ j k. subst (λ n. Went n (unitAt shelf j) (unitAt (heardByAll (out place) h .shelf) j)) named (went-heard shelf place (length store) all-housed (at .inside) h j k))
+      sound-after card shelf (heardByAll (out place) each h .shelf) (length store) records _ facts
+      (bus-kept h 0 (declared (out place)) (silence (out place) each))
+      (count-kept h 0 (declared (out place)) (silence (out place) each))
+      (many-kept h 0 (declared (out place)) (silence (out place) each) ∙ length-set (shelf .units) place (unitOut (unitAt shelf place)))
+      (λ j k. subst (λ n. Went n (unitAt shelf j) (unitAt (heardByAll (out place) each h .shelf) j)) named (went-heard shelf place (length store) all-housed (at .inside) each h j k))
 
-  pub frame-store : (f : F.Found) → sender shelf ≡ f → length (storeBy f shelf store) ≡ length store
+  turn-store : (f : F.Found) → sender shelf ≡ f → length (storeBy f shelf store) ≡ length store
   unfolding storeBy sentStore cellOut
-  frame-store found.Nothing e = refl
-  frame-store (found.At place) e =
+  turn-store found.Nothing e = refl
+  turn-store (found.At place) e =
       let at = find-at (shelf .granted) (declared shelf) place .0 e in
       let l = sent-length place (at .inside) in
       store-length (heard (sentFrame shelf place store)) 0 (declared (out place)) store (take 56 (sentFrame shelf place store)) (let a = length-take 56 (sentFrame shelf place store) in omega arith) (out-all place (at .inside))
+
+-- the frame as it is: the moves first
+module _ (card : Card) (shelf : Shelf) (store : List ℕ) (records : ℕ) (sound : soundOf card shelf (length store) records ≡ true) where
+  abbrev stored : List ℕ
+  stored = movedStores shelf store
+
+  stays-long : length stored ≡ length store
+  stays-long = stores-moved card shelf store records sound
+
+  stays-sound : soundOf card (moved shelf) (length stored) records ≡ true
+  stays-sound = moves-sound card shelf store records sound
+
+  pub frame-shelf : Sound card (doneAt shelf store .reply .shelf) (length store) records
+  frame-shelf =
+      subst (λ n. Sound card (doneAt shelf store .reply .shelf) n records) stays-long (turn-shelf card (moved shelf) stored records (movedEach shelf) stays-sound (sender (moved shelf)) refl)
+
+  pub frame-store : length (storeAt shelf store) ≡ length store
+  frame-store = turn-store card (moved shelf) stored records (movedEach shelf) stays-sound (sender (moved shelf)) refl ∙ stays-long

@@ -1,30 +1,15 @@
 -- Soundness is kept by every event. Assumes nothing.
-use Prim.Native.Nat.{ℕ, _<_, _≤_}
+use Prim.Native.Nat.{ℕ, _<_}
 use native.Mathlib.Omega.{arith}
-use mathlib.Core.Path.{_≡_, refl, sym, ap, subst, _∙_}
+use mathlib.Core.Path.{_≡_, refl, sym, ap, _∙_}
 use mathlib.Core.Bool.{Bool, true, false, cond, false≢true}
-use mathlib.Core.List.{List, [], _∷_, _++_}
+use mathlib.Core.List.{List, [], _∷_}
 use lib.Dec.{eqb}
-use lib.ListN.{length, length-append, length-take, length-drop, take, drop}
-use borrow.Author.Tests.{eqb-true, leb-false}
-use Rattle.octets.specs.Octets.{part, be2, be4}
+use lib.ListN.{length, length-take, take}
+use borrow.Author.Tests.{eqb-true}
 use Rattle.card.specs.declared.Card.{Card}
-use Rattle.bus.specs.Frame.{cell, heard}
-use Rattle.bus.specs.declared.Heard as H
-use Rattle.outlet.specs.Outlets.{RingFits, queue, capacity}
-use Rattle.outlet.specs.declared.Ring.{Ring}
-use Rattle.outlet.specs.declared.Mode.{Mode}
-use Rattle.outlet.specs.declared.Mode.the-variants.{One, Four}
-use Rattle.outlet.specs.Taking.{leaving, queues}
-use Rattle.outlet.specs.declared.Leaving as L
-use Rattle.outlet.specs.declared.Leaving.the-variants as leaves
-use Rattle.outlet.proofs.Leaves.{leaving-iff}
-use Rattle.store.specs.Places.{putAt, inletSlot}
-use Rattle.store.specs.Rings.{tail, pushed, popped}
-use Rattle.store.proofs.Rounds.{pushed-fits, popped-fits}
+use Rattle.bus.specs.Frame.{heard}
 use Rattle.shelf.specs.Shelves.{declared}
-use Rattle.shelf.specs.declared.Unit as U
-use Rattle.shelf.specs.Shelf.{Shelf}
 use Rattle.shelf.proofs.Finding.{find-at}
 use Rattle.soundness.specs.State.{Sound, soundOf}
 use Rattle.soundness.proofs.Facts.{sound-iff}
@@ -33,28 +18,26 @@ use Rattle.answer.specs.declared.Counters as C
 use Rattle.answer.proofs.Settling.{length-settled}
 use Rattle.answer.specs.Answers.{refused}
 use Rattle.answer.specs.Done.{Done}
-use Rattle.answer.specs.declared.Arrival.the-variants.{Inletfull, Queued}
-use Rattle.soundness.specs.Admission.{admitted, decided, unitAt, withUnit, withQueue, Housed}
+use Rattle.soundness.specs.Admission.{admitted, decided, unitAt, Housed}
 use Rattle.soundness.specs.declared.Admitted as A
 use Rattle.soundness.specs.declared.Admitted.the-variants.{At, Refused}
 use Rattle.soundness.proofs.Laws.{at-let-in, let-in-housed}
 use Rattle.arriving.specs.Arriving as arriving
-use Rattle.arriving.specs.declared.Way.{Way}
-use Rattle.arriving.specs.declared.Way.the-variants.{Bus, Lost}
-use Rattle.arriving.proofs.Leaves.{inlet-inside}
 use Rattle.hearing.specs.Hearings as hearing
 use Rattle.taking.specs.Takes as taking
+use Rattle.handing.specs.Hands as hands
+use Rattle.handing.specs.Collects as collects
 use Rattle.framing.specs.Frames as framing
 use Rattle.table.specs.Loads.{loadDone}
 use Rattle.promise.proofs.Loads.{load-sound}
-use Rattle.document.specs.Events.{Event, arrive, frame, hear, take-cell, count, numberSaid}
+use Rattle.document.specs.Events.{Event, arrive, frame, hear, take-cell, count, hand, collect, numberSaid}
 use Rattle.running.specs.Events.{World, happens}
 use Rattle.running.specs.Keeping.{soundIn, SoundnessKept, run, loaded, NeverState}
-use Rattle.running.specs.Refusing.{known, fits}
+use Rattle.running.specs.Refusing.{known, fits, taken as busy}
 use Rattle.running.proofs.Refused.{refused-iff}
 use Rattle.running.proofs.Framed.{frame-shelf, frame-store}
-use Rattle.running.proofs.Changed.{queue-changed, shelf-changed}
-use Rattle.running.proofs.Copies.{put-kept, copied, store-kept}
+use Rattle.running.proofs.Copies.{store-kept}
+use Rattle.running.proofs.UnitKept.{arrived, heard-by, taken, handed, handed-store, collected}
 use Rattle.running.proofs.InPlace.{after-load}
 
 -- an event at a unit: what it does to the shelf, and the store's length
@@ -88,61 +71,6 @@ module _ (card : Card) (w : World) (inside : ℕ → Done) (store : ℕ → List
           let k = kept i (find-at unit (declared (w .shelf)) i .0 (l .found) .inside) (sound-iff card (w .shelf) s n .0 sound) (let-in-housed card (w .shelf) s n unit right i l .0) (l .fits) in
           (λ t. soundOf card (inside i .reply .shelf) (k .1 t) (length-settled (w .rows) (inside i .rises) (inside i .rises .to) t)) ∙ sound-iff card (inside i .reply .shelf) s n .1 (k .0)
 
--- arrival: one cell more in an inlet that has room
-module _ (card : Card) (shelf : Shelf) (store c : List ℕ) (rows i : ℕ) (here : i < length (declared shelf)) (sound : Sound card shelf (length store) rows) (housed : Housed i (unitAt shelf i) (length store)) (whole : length c ≡ 53) where
-  abbrev u : U.Unit
-  u = unitAt shelf i
-
-  composed-length : (routing header : ℕ) → length (cell routing 0 header (part c 5 48)) ≡ 56
-  unfolding cell
-  composed-length routing header =
-      length-append (be2 routing ++ be2 0 ++ be4 header) (part c 5 48) ∙ (let a = length-take 48 (drop 5 c) in let b = length-drop 5 c in omega arith)
-
-  more : u .inlet .count < 4 → u .inlet .count ≤ pushed (u .inlet) .count
-  unfolding pushed
-  more room = omega arith
-
-  arrived : (way : Way) → Sound card (arriving.doneBy way shelf i .reply .shelf) (length store) rows × (length (arriving.storeBy way u i store c) ≡ length store)
-  unfolding arriving.doneBy arriving.storeBy
-  arrived (Lost fate) = (sound, refl)
-  arrived (Bus routing header) = pick (arriving.inletFull u) refl
-    where
-      pick : (b : Bool) → arriving.inletFull u ≡ b →
-          Sound card (cond b (arriving.arrived shelf i Inletfull) (arriving.arrived (arriving.cellIn shelf i) i Queued) .reply .shelf) (length store) rows
-          × (length (cond b store (putAt store i (inletSlot (tail (u .inlet) 4)) (cell routing 0 header (part c 5 48)))) ≡ length store)
-      pick true t = (sound, refl)
-      pick false t =
-          let room : u .inlet .count < 4 = leb-false 4 (u .inlet .count) t in (
-            shelf-changed card shelf (length store) rows i (u .outlet) (pushed (u .inlet)) here sound (housed .limits) (housed .queues) (pushed-fits 4 (u .inlet) (housed .inlet) (omega arith) room) (more room),
-            put-kept store i (inletSlot (tail (u .inlet) 4)) (cell routing 0 header (part c 5 48)) (inlet-inside i (length store) (u .inlet) (housed .inside) (housed .inlet) room) (composed-length routing header),
-          )
-
-module _ (card : Card) (shelf : Shelf) (bytes rows i : ℕ) (here : i < length (declared shelf)) (sound : Sound card shelf bytes rows) (housed : Housed i (unitAt shelf i) bytes) where
-  abbrev v : U.Unit
-  v = unitAt shelf i
-
-  -- a queue changed, the inlet as it was
-  changed : (q : ℕ) (ring : Ring) → RingFits ring (capacity (v .outlet .limits) q) → Sound card (withUnit shelf i (withQueue v q ring)) bytes rows
-  changed q ring fits =
-      shelf-changed card shelf bytes rows i (withQueue v q ring .outlet) (v .inlet) here sound (housed .limits) (queue-changed v q ring (housed .queues) fits) (housed .inlet) (omega arith)
-
-  heard-by : (h : H.Heard) → Sound card (withUnit shelf i (hearing.copyOf v h .unit)) bytes rows
-  heard-by h =
-      let k = copied v h (housed .limits) (housed .queues) in
-      subst (λ x. Sound card (withUnit shelf i x) bytes rows) (sym (k .copy))
-      (shelf-changed card shelf bytes rows i (hearing.copyOf v h .unit .outlet) (v .inlet) here sound (k .limits) (k .queues) (housed .inlet) (omega arith))
-
-  taken : (l : L.Leaving) → leaving (v .outlet) ≡ l → Sound card (taking.doneBy l shelf i .reply .shelf) bytes rows
-  unfolding taking.doneBy
-  taken leaves.Empty e = sound
-  taken (leaves.Queue q) e =
-      changed q (popped (queue (v .outlet) q) (capacity (v .outlet .limits) q))
-      (popped-fits (capacity (v .outlet .limits) q) (queue (v .outlet) q) (housed .queues .each q (few (v .outlet .limits .mode) (leaving-iff (v .outlet) (leaves.Queue q) .0 e .0))))
-    where
-      few : (m : Mode) → q < queues m → q < 4
-      few One h = omega arith
-      few Four h = h
-
 either-way : (store : List ℕ) (a : A.Admitted) → decided a (λ place. store) (λ number. store) ≡ store
 unfolding decided
 either-way store (At place) = refl
@@ -166,8 +94,8 @@ soundness-kept card w (arrive unit c) sound =
 soundness-kept card w (frame buffer) sound =
     let good = framing.doneAt (w .shelf) (w .store) in
     framed card w (soundIn card w) (eqb (length buffer) 57) good (framing.storeAt (w .shelf) (w .store)) sound sound
-    ((λ t. soundOf card (good .reply .shelf) (frame-store card (w .shelf) (w .store) (length (w .rows)) sound (framing.sender (w .shelf)) refl t) (length-settled (w .rows) (good .rises) (good .rises .to) t))
-    ∙ sound-iff card (good .reply .shelf) (length (w .store)) (length (w .rows)) .1 (frame-shelf card (w .shelf) (w .store) (length (w .rows)) sound (framing.sender (w .shelf)) refl))
+    ((λ t. soundOf card (good .reply .shelf) (frame-store card (w .shelf) (w .store) (length (w .rows)) sound t) (length-settled (w .rows) (good .rises) (good .rises .to) t))
+    ∙ sound-iff card (good .reply .shelf) (length (w .store)) (length (w .rows)) .1 (frame-shelf card (w .shelf) (w .store) (length (w .rows)) sound))
 soundness-kept card w (hear unit f) sound =
     at-unit card w (λ place. hearing.doneAt (w .shelf) place f) (λ place. hearing.storeAt (w .shelf) place (w .store) f) unit (eqb (length f) 57) sound
     (λ i here s housed fits. (
@@ -180,6 +108,18 @@ soundness-kept card w (take-cell unit b) sound =
     ap (λ x. soundOf card (done .reply .shelf) (length x) (length rows)) (sym (either-way (w .store) (admitted card (w .shelf) (length (w .store)) (length (w .rows)) unit (eqb (length b) 53))))
     ∙ at-unit card w (taking.doneAt (w .shelf)) (λ place. w .store) unit (eqb (length b) 53) sound
     (λ i here s housed fits. (taken card (w .shelf) (length (w .store)) (length (w .rows)) i here s housed _ refl, refl))
+soundness-kept card w (hand unit c) sound =
+    at-unit card w (hands.handAt (w .shelf)) (λ place. hands.handStoreAt (w .shelf) place (w .store) c) unit (eqb (length c) 56) sound
+    (λ i here s housed fits. (
+      handed card (w .shelf) (length (w .store)) (length (w .rows)) i here s housed,
+      handed-store (w .store) (w .shelf) i c housed (eqb-true (length c) 56 fits),
+    ))
+soundness-kept card w (collect unit b) sound =
+    let done = collects.collectDone card (w .shelf) (length (w .store)) (length (w .rows)) unit (length b) in
+    let rows = settled (w .rows) (done .rises) in
+    ap (λ x. soundOf card (done .reply .shelf) (length x) (length rows)) (sym (either-way (w .store) (admitted card (w .shelf) (length (w .store)) (length (w .rows)) unit (eqb (length b) 56))))
+    ∙ at-unit card w (collects.collectAt (w .shelf)) (λ place. w .store) unit (eqb (length b) 56) sound
+    (λ i here s housed fits. (collected card (w .shelf) (length (w .store)) (length (w .rows)) i here s housed, refl))
 soundness-kept card w (count unit) sound = sound
 
 runs-kept : (card : Card) (w : World) (es : List Event) → soundIn card w ≡ true → soundIn card (run card w es) ≡ true
@@ -188,14 +128,15 @@ runs-kept card w [] sound = sound
 runs-kept card w (e ∷ es) sound = runs-kept card (happens card w e .world) es (soundness-kept card w e sound)
 
 -- a sound world is not refused as State
-other : (s k f : Bool) → s ≡ true → _≡_ {A = ℕ} (cond s (cond k (cond f 0 10) 9) 8) 8 → ⊥
-other true true true t q = omega arith
-other true true false t q = omega arith
-other true false f t q = omega arith
-other false k f t q = false≢true t
+other : (s k f b : Bool) → s ≡ true → _≡_ {A = ℕ} (cond s (cond k (cond f (cond b 11 0) 10) 9) 8) 8 → ⊥
+other true true true true t q = omega arith
+other true true true false t q = omega arith
+other true true false b t q = omega arith
+other true false f b t q = omega arith
+other false k f b t q = false≢true t
 
 not-state : (card : Card) (w : World) (e : Event) → soundIn card w ≡ true → numberSaid (happens card w e .said) ≡ 8 → ⊥
-not-state card w e sound eight = other (soundIn card w) (known (w .shelf) e) (fits e) sound (sym (refused-iff card w e) ∙ eight)
+not-state card w e sound eight = other (soundIn card w) (known (w .shelf) e) (fits e) (busy (w .shelf) e) sound (sym (refused-iff card w e) ∙ eight)
 
 pub loads-sound : (card : Card) (text memory store : List ℕ) (rows : List C.Counters) → soundIn card (loaded card text memory store rows) ≡ true
 loads-sound card text memory store rows =

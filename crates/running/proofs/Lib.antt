@@ -1,8 +1,11 @@
 pub mod Refused
 pub mod Changed
 pub mod Copies
+pub mod Went
+pub mod UnitKept
 pub mod Asking
 pub mod Sent
+pub mod Moved
 pub mod Framed
 pub mod InPlace
 pub mod Kept

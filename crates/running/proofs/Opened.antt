@@ -56,7 +56,7 @@ told-idle (Mc u session ∷ told) = joined-idle (shelfOf told) (findIn (declared
 
 -- B. the units, but for the sessions that they hear
 abbrev plain : U.Unit → U.Unit
-plain u = record { settings = u .settings; outlet = u .outlet; inlet = u .inlet; place = u .place; sessions = replicate 32 0 }
+plain u = record { settings = u .settings; outlet = u .outlet; inlet = u .inlet; side = u .side; place = u .place; sessions = replicate 32 0 }
 
 plain-set : (us : List U.Unit) (i j : ℕ) (u : U.Unit) → plain u ≡ plain (getD us i blank) → plain (getD (set us i u) j blank) ≡ plain (getD us j blank)
 plain-set [] i j u e = refl
@@ -195,6 +195,7 @@ module _ (card : Card) (room store rows : ℕ) (told : List Line) (good : Good c
         );
         inlet = ap (λ x. x .inlet) e;
         queues = ap (λ x. x .outlet .queues) e;
+        side = ap (λ x. x .side) e;
       }
 
   pub opened : Opened told shelf

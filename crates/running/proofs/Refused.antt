@@ -1,4 +1,4 @@
--- Refusals 8 to 10 over every event. Assumes nothing.
+-- Refusals 8 to 11 over every event. Assumes nothing.
 use Prim.Native.Nat.{ℕ}
 use mathlib.Core.Path.{_≡_, refl, sym, ap, _∙_}
 use mathlib.Core.Bool.{Bool, true, false, cond}
@@ -12,11 +12,12 @@ use Rattle.shelf.specs.Shelf.{Shelf}
 use Rattle.shelf.specs.declared.Found as F
 use Rattle.shelf.specs.declared.Found.the-variants as found
 use Rattle.soundness.specs.State.{soundOf}
-use Rattle.answer.specs.Answers.{numberOf, refused}
+use Rattle.store.specs.Places.{controlInSlot, putAt}
+use Rattle.answer.specs.Answers.{#taken, numberOf, none, row, ends, refused}
 use Rattle.answer.specs.Done.{Done}
 use Rattle.answer.specs.Counting.{settledTo}
 use Rattle.answer.specs.declared.Counters as C
-use Rattle.soundness.specs.Admission.{atUnit, admitted, decided, toldApart, unitAt}
+use Rattle.soundness.specs.Admission.{atUnit, admitted, decided, toldApart, unitAt, withUnit}
 use Rattle.soundness.specs.declared.Admitted as A
 use Rattle.soundness.specs.declared.Admitted.the-variants.{At, Refused}
 use Rattle.arriving.specs.Arriving as arriving
@@ -27,14 +28,16 @@ use Rattle.outlet.specs.declared.Leaving as L
 use Rattle.outlet.specs.declared.Leaving.the-variants as leaves
 use Rattle.outlet.specs.Taking.{leaving}
 use Rattle.taking.specs.Takes as taking
+use Rattle.handing.specs.Hands as hands
+use Rattle.handing.specs.Collects as collects
 use Rattle.framing.specs.Frames as framing
 use Rattle.entry.specs.Counts.{counted}
 use Rattle.entry.specs.declared.Counted.the-variants as Counted
 use Rattle.answer.specs.declared.Arrival.the-variants.{Inletfull, Queued}
 use Rattle.answer.specs.declared.Answer.the-variants as answer
-use Rattle.document.specs.Events.{Event, arrive, frame, hear, take-cell, count, bytesOf, answers, numberSaid}
+use Rattle.document.specs.Events.{Event, arrive, frame, hear, take-cell, count, hand, collect, bytesOf, answers, numberSaid}
 use Rattle.running.specs.Events.{World, Outcome, ended, countSaid, happens}
-use Rattle.running.specs.Refusing.{known, fits, refusal, RefusedIff, RefusalChangesNothing}
+use Rattle.running.specs.Refusing.{known, fits, takenAt, taken, refusal, RefusedIff, RefusalChangesNothing}
 
 -- an event that is refused, or let in
 unfoldable numberBy : A.Admitted → ℕ
@@ -93,6 +96,49 @@ framed-none : (shelf : Shelf) (store : List ℕ) → numberOf (framing.doneAt sh
 unfolding numberOf
 framed-none shelf store = refl
 
+collect-none : (shelf : Shelf) (place : ℕ) → numberOf (collects.collectAt shelf place .reply .answer) ≡ 0
+unfolding numberOf
+collect-none shelf place = pick (collects.bare (unitAt shelf place))
+  where
+    pick : (b : Bool) → numberOf (cond b (ends answer.Empty shelf none) (ends answer.Taken (withUnit shelf place (collects.collectedFrom (unitAt shelf place))) (row place #taken)) .reply .answer) ≡ 0
+    pick true = refl
+    pick false = refl
+
+-- a hand-in: State, Unit, Length, then Busy
+module _ (w : World) (cell : List ℕ) where
+  abbrev handIn : Bool → F.Found → Bool → A.Admitted
+  handIn s f r = cond s (atUnit f r) (Refused 8)
+
+  abbrev handNumber : Bool → F.Found → Bool → ℕ
+  handNumber s f r = cond s (cond (isAt f) (cond r (cond (takenAt (w .shelf) f) 11 0) 10) 9) 8
+
+  hand-number : (s : Bool) (f : F.Found) (r : Bool) → numberOf (decided (handIn s f r) (hands.handAt (w .shelf)) (refused (w .shelf)) .reply .answer) ≡ handNumber s f r
+  unfolding decided atUnit numberOf
+  hand-number true (found.At place) true = pick (hands.busy (unitAt (w .shelf) place))
+    where
+      pick : (b : Bool) → numberOf (cond b (refused (w .shelf) 11) (ends answer.Handed (withUnit (w .shelf) place (hands.handedTo (unitAt (w .shelf) place))) none) .reply .answer) ≡ cond b 11 0
+      pick true = refl
+      pick false = refl
+  hand-number true (found.At place) false = refl
+  hand-number true found.Nothing r = refl
+  hand-number false f r = refl
+
+  abbrev handCame : A.Admitted → Outcome
+  handCame d = ended w (decided d (hands.handAt (w .shelf)) (refused (w .shelf))) (decided d (λ place. hands.handStoreAt (w .shelf) place (w .store) cell) (λ number. w .store)) cell
+
+  hand-kept : (s : Bool) (f : F.Found) (r : Bool) → (handNumber s f r ≡ 0 → ⊥) → handCame (handIn s f r) ≡ asWas w (handNumber s f r) cell
+  unfolding decided atUnit numberOf settledTo
+  hand-kept true (found.At place) true h = pick (hands.busy (unitAt (w .shelf) place)) h
+    where
+      pick : (b : Bool) → (_≡_ {A = ℕ} (cond b 11 0) 0 → ⊥) →
+          ended w (cond b (refused (w .shelf) 11) (ends answer.Handed (withUnit (w .shelf) place (hands.handedTo (unitAt (w .shelf) place))) none)) (cond b (w .store) (putAt (w .store) place controlInSlot cell)) cell
+          ≡ asWas w (cond b 11 0) cell
+      pick true h = refl
+      pick false h = absurd (h refl)
+  hand-kept true (found.At place) false h = refl
+  hand-kept true found.Nothing r h = refl
+  hand-kept false f r h = refl
+
 -- a count
 count-number : (d : A.Admitted) (row : C.Counters) → numberSaid (countSaid (counted (toldApart d) row)) ≡ numberBy d
 unfolding counted toldApart countSaid numberBy numberSaid numberOf
@@ -142,7 +188,7 @@ module _ (card : Card) (w : World) where
   by-order unit right = in-order sound (findIn (declared (w .shelf)) unit) right
 
   number-is : (e : Event) → numberSaid (happens card w e .said) ≡ refusal card w e
-  unfolding happens known fits framing.checked numberSaid
+  unfolding happens known fits taken framing.checked numberSaid admitted
   number-is (arrive unit cell) =
       at-unit w (λ place. arriving.doneAt card (w .shelf) place (w .memory) cell) (λ d. []) (λ d. []) []
       (λ place. arrive-none (arriving.wayOf card (unitAt (w .shelf) place) (w .memory) cell) (w .shelf) place) (let-in unit (eqb (length cell) 53))
@@ -154,10 +200,14 @@ module _ (card : Card) (w : World) where
   number-is (take-cell unit buffer) =
       at-unit w (taking.doneAt (w .shelf)) (λ d. []) (λ d. []) [] (λ place. take-none (leaving (unitAt (w .shelf) place .outlet)) (w .shelf) place) (let-in unit (eqb (length buffer) 53))
       ∙ by-order unit (eqb (length buffer) 53)
+  number-is (hand unit cell) = hand-number w cell sound (findIn (declared (w .shelf)) unit) (eqb (length cell) 56)
+  number-is (collect unit buffer) =
+      at-unit w (collects.collectAt (w .shelf)) (λ d. []) (λ d. []) [] (collect-none (w .shelf)) (let-in unit (eqb (length buffer) 56))
+      ∙ by-order unit (eqb (length buffer) 56)
   number-is (count unit) = count-number (let-in unit true) _ ∙ by-order unit true
 
   changes-nothing : (e : Event) → (refusal card w e ≡ 0 → ⊥) → happens card w e ≡ asWas w (refusal card w e) (bytesOf e)
-  unfolding happens known fits bytesOf framing.checked decided
+  unfolding happens known fits taken bytesOf framing.checked decided admitted
   changes-nothing (arrive unit cell) h =
       let r = eqb (length cell) 53 in
       at-unit-kept w (λ place. arriving.doneAt card (w .shelf) place (w .memory) cell)
@@ -176,6 +226,13 @@ module _ (card : Card) (w : World) where
       let r = eqb (length buffer) 53 in
       at-unit-kept w (taking.doneAt (w .shelf)) (λ d. w .store)
       (λ d. decided d (λ place. taking.bufferAt (w .shelf) place (w .store) buffer) (λ number. buffer))
+      buffer (λ number. refl) (λ number. refl) (let-in unit r) (λ z. h (sym (by-order unit r) ∙ z))
+      ∙ ap (λ n. asWas w n buffer) (by-order unit r)
+  changes-nothing (hand unit cell) h = hand-kept w cell sound (findIn (declared (w .shelf)) unit) (eqb (length cell) 56) h
+  changes-nothing (collect unit buffer) h =
+      let r = eqb (length buffer) 56 in
+      at-unit-kept w (collects.collectAt (w .shelf)) (λ d. w .store)
+      (λ d. decided d (λ place. collects.collectBufferAt (w .shelf) place (w .store) buffer) (λ number. buffer))
       buffer (λ number. refl) (λ number. refl) (let-in unit r) (λ z. h (sym (by-order unit r) ∙ z))
       ∙ ap (λ n. asWas w n buffer) (by-order unit r)
   changes-nothing (count unit) h =

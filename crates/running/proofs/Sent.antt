@@ -1,22 +1,21 @@
 -- A frame has been sent and heard: what is left of the units and of the store. Assumes nothing.
-use Prim.Native.Nat.{ℕ, suc, _+_, _<_, _≤_}
+use Prim.Native.Nat.{ℕ, zero, suc, _+_, _-_, _<_, _≤_}
 use native.Mathlib.Omega.{arith}
 use mathlib.Core.Path.{_≡_, refl, sym, ap, subst, _∙_}
 use mathlib.Core.Logic.{_⊎_, inl, inr, ⊎-elim}
-use mathlib.Core.Bool.{Bool, true, false}
+use mathlib.Core.Bool.{Bool, true, false, cond}
 use mathlib.Core.List.{List, [], _∷_, _++_, map}
 use lib.Bits.{bitOr}
-use lib.Dec.{eqb}
+use lib.Dec.{eqb, leb}
 use lib.ListN.{length, length-set, length-take, getD, drop, List·getD-append}
-use lib.Seq.{sets, sets-eq}
-use borrow.Author.Tests.{eq-eqb}
+use lib.Seq.{sets, sets-eq, getD-set-same, getD-set-other}
+use borrow.Author.Tests.{eq-eqb, leb-true}
 use Rattle.arbiter.specs.Arbitration.{besides}
 use Rattle.bus.specs.declared.Heard as H
-use Rattle.outlet.specs.Outlets.{Given, RingFits, RingsFit}
 use Rattle.store.specs.Places.{Cell}
 use Rattle.store.specs.Rings.{popped}
 use Rattle.store.proofs.Rounds.{popped-fits}
-use Rattle.shelf.specs.Shelves.{declared, blank, numberOf}
+use Rattle.shelf.specs.Shelves.{declared, blank, waiting, numberOf}
 use Rattle.shelf.specs.declared.Unit as U
 use Rattle.shelf.specs.Shelf.{Shelf}
 use Rattle.shelf.proofs.Finding.{declared-at}
@@ -25,11 +24,12 @@ use Rattle.answer.specs.declared.Hearing as A
 use Rattle.answer.specs.declared.Hearing.the-variants as fate·
 use Rattle.paper.specs.Counters.{sent, unheard, damaged, queued, full, clp, wide, hearingCounts, sentCounts, occurs}
 use Rattle.paper.proofs.Counters.{tallies, Agree, agree}
-use Rattle.soundness.specs.Admission.{unitAt, withUnit, withInlet, Housed}
+use Rattle.soundness.specs.Admission.{unitAt, withUnit, withInlet, withSide, Housed}
 use Rattle.hearing.specs.Hearings.{copyOf, storeOf}
-use Rattle.framing.specs.Sending.{Listened, silence, after, heardFrom, storeFrom, heardByAll, sentRises}
+use Rattle.framing.specs.Sending.{Listened, silence, after, heardFrom, storeFrom, heardByAll, sentRises, unitOut}
 use Rattle.running.proofs.Changed.{set-or}
-use Rattle.running.proofs.Copies.{Copied, copied, store-kept}
+use Rattle.running.proofs.Copies.{copied, store-kept}
+use Rattle.running.proofs.Went.{Went, went-copy, went-nowhere}
 
 -- a place of a run of stores
 pub sets-at : {X : Type 0} (vs l : List X) (k : ℕ) (x : X) → length vs ≤ length l → k < length vs → getD (sets l 0 vs) k x ≡ getD vs k x
@@ -43,11 +43,38 @@ module _ (h : H.Heard) where
   heard-units place [] l = refl
   heard-units place (u ∷ us) l = heard-units (suc place) us (after place (copyOf u h) l)
 
-  -- every row rises by its fate
-  pub heard-each : (place : ℕ) (us : List U.Unit) (l : Listened) → heardFrom h place us l .each ≡ sets (l .each) place (map (λ u. hearingRises (copyOf u h .fate)) us)
+  -- every row has its fate's counters besides those that stood there
+  pub each-long : (place : ℕ) (us : List U.Unit) (l : Listened) → length (heardFrom h place us l .each) ≡ length (l .each)
   unfolding heardFrom
-  heard-each place [] l = refl
-  heard-each place (u ∷ us) l = heard-each (suc place) us (after place (copyOf u h) l)
+  each-long place [] l = refl
+  each-long place (u ∷ us) l = each-long (suc place) us (after place (copyOf u h) l) ∙ length-set (l .each) place (bitOr (getD (l .each) place 0) (hearingRises (copyOf u h .fate)))
+
+  each-before : (place : ℕ) (us : List U.Unit) (l : Listened) (j : ℕ) → j < place → getD (heardFrom h place us l .each) j 0 ≡ getD (l .each) j 0
+  unfolding heardFrom
+  each-before place [] l j low = refl
+  each-before place (u ∷ us) l j low =
+      each-before (suc place) us (after place (copyOf u h) l) j (omega arith)
+      ∙ getD-set-other (l .each) place j (bitOr (getD (l .each) place 0) (hearingRises (copyOf u h .fate))) 0 (λ e. omega arith)
+
+  pub heard-each : (place : ℕ) (us : List U.Unit) (l : Listened) (k : ℕ) → k < length us → place + k < length (l .each) →
+      getD (heardFrom h place us l .each) (place + k) 0 ≡ bitOr (getD (l .each) (place + k) 0) (hearingRises (copyOf (getD us k blank) h .fate))
+  unfolding heardFrom
+  heard-each place [] l k few room = absurd (omega arith)
+  heard-each place (u ∷ us) l zero few room =
+      let on : place + 0 ≡ place = omega arith in
+      let rises = hearingRises (copyOf u h .fate) in
+      ap (λ n. getD (heardFrom h (suc place) us (after place (copyOf u h) l) .each) n 0) on
+      ∙ each-before (suc place) us (after place (copyOf u h) l) place (omega arith)
+      ∙ getD-set-same (l .each) place (bitOr (getD (l .each) place 0) rises) 0 (omega arith)
+      ∙ ap (λ n. bitOr (getD (l .each) n 0) rises) (sym on)
+  heard-each place (u ∷ us) l (suc k) few room =
+      let on : place + suc k ≡ suc place + k = omega arith in
+      let rises = hearingRises (copyOf (getD us k blank) h .fate) in
+      let here = bitOr (getD (l .each) place 0) (hearingRises (copyOf u h .fate)) in
+      ap (λ n. getD (heardFrom h (suc place) us (after place (copyOf u h) l) .each) n 0) on
+      ∙ heard-each (suc place) us (after place (copyOf u h) l) k (omega arith) (omega (arith, length-set (l .each) place here))
+      ∙ ap (λ n. bitOr n rises) (getD-set-other (l .each) place (suc place + k) here 0 (λ e. omega arith))
+      ∙ ap (λ n. bitOr (getD (l .each) n 0) rises) (sym on)
 
   pub bus-kept : (place : ℕ) (us : List U.Unit) (l : Listened) → heardFrom h place us l .shelf .bus ≡ l .shelf .bus
   unfolding heardFrom
@@ -89,42 +116,44 @@ module _ (h : H.Heard) where
       subst (λ n. Housed (suc place + k) (getD us k blank) n) (sym one) (subst (λ p. Housed p (getD us k blank) (length store)) on (housed (suc k) (omega arith))))
       ∙ one
 
--- what a unit of a sound shelf is after the frame: all that its request asked for is still there
-pub record Went (granted : ℕ) (u v : U.Unit) : Type 0 where
-  pub settings : v .settings ≡ u .settings
-  pub limits : Given (v .outlet .limits)
-  pub queues : RingsFit (v .outlet)
-  pub inlet : RingFits (v .inlet) 4
-  pub enough : besides (u .inlet .count) (eqb (numberOf u) granted) ≤ v .inlet .count
+-- a unit with other cells in the single places of its inlet
+abbrev beside : U.Unit → ℕ → ℕ → U.Unit
+beside u control loopback = withSide u (record { controlin = control; loopbackin = loopback; controlout = u .side .controlout; loopbackout = u .side .loopbackout })
 
-went-copy : (granted : ℕ) (u v w : U.Unit) → Went granted u v → Copied v w → Went granted u w
-went-copy granted u v w a c =
-    record {
-      settings = ap (λ x. x .settings) (c .copy) ∙ a .settings;
-      limits = c .limits;
-      queues = c .queues;
-      inlet = subst (λ r. RingFits r 4) (sym (ap (λ x. x .inlet) (c .copy))) (a .inlet);
-      enough = subst (λ r. besides (u .inlet .count) (eqb (numberOf u) granted) ≤ r .count) (sym (ap (λ x. x .inlet) (c .copy))) (a .enough);
-    }
+-- the sender without the cell that it sends
+went-out : (place bytes : ℕ) (u : U.Unit) → Housed place u bytes → Went (numberOf u) u (unitOut u)
+unfolding unitOut popped
+went-out place bytes u h = pick (leb 1 (u .inlet .count)) refl
+  where
+    one : besides (waiting u) (eqb (numberOf u) (numberOf u)) ≡ waiting u - 1
+    one = ap (λ b. besides (waiting u) b) (eq-eqb (numberOf u) (numberOf u) refl)
 
-pub went-nowhere : (granted place bytes : ℕ) (u : U.Unit) → Housed place u bytes → Went granted u u
-went-nowhere granted place bytes u h = record { settings = refl; limits = h .limits; queues = h .queues; inlet = h .inlet; enough = omega arith }
+    -- one of the two single places is empty afterwards
+    out : (control loopback : ℕ) → control ≤ 1 → loopback ≤ 1 → waiting u - 1 ≤ waiting (beside u control loopback) → Went (numberOf u) u (beside u control loopback)
+    out control loopback c l enough =
+        record {
+          settings = refl;
+          limits = h .limits;
+          queues = h .queues;
+          inlet = h .inlet;
+          side = record { controlout = h .side .controlout; controlin = c; loopbackin = l; loopbackout = h .side .loopbackout };
+          enough = omega (arith, one, enough);
+        }
 
--- the sender without its oldest cell
-went-out : (place bytes : ℕ) (u : U.Unit) → Housed place u bytes → Went (numberOf u) u (withInlet u (popped (u .inlet) 4))
-unfolding popped
-went-out place bytes u h =
-    record {
-      settings = refl;
-      limits = h .limits;
-      queues = h .queues;
-      inlet = popped-fits 4 (u .inlet) (h .inlet);
-      enough = let e = ap (λ b. besides (u .inlet .count) b) (eq-eqb (numberOf u) (numberOf u) refl) in omega arith;
-    }
+    single : (b : Bool) → leb 1 (u .side .controlin) ≡ b → Went (numberOf u) u (cond b (beside u 0 (u .side .loopbackin)) (beside u (u .side .controlin) 0))
+    single true t = out 0 (u .side .loopbackin) (omega arith) (h .side .loopbackin) (let a = h .side .controlin in omega arith)
+    single false t = out (u .side .controlin) 0 (h .side .controlin) (omega arith) (let a = h .side .loopbackin in omega arith)
+
+    pick : (b : Bool) → leb 1 (u .inlet .count) ≡ b →
+        Went (numberOf u) u (cond b (withInlet u (popped (u .inlet) 4)) (cond (leb 1 (u .side .controlin)) (beside u 0 (u .side .loopbackin)) (beside u (u .side .controlin) 0)))
+    pick true t =
+        let some = leb-true 1 (u .inlet .count) t in
+        record { settings = refl; limits = h .limits; queues = h .queues; inlet = popped-fits 4 (u .inlet) (h .inlet); side = h .side; enough = omega (arith, one) }
+    pick false t = single (leb 1 (u .side .controlin)) refl
 
 module _ (shelf : Shelf) (place bytes : ℕ) (all : (j : ℕ) → j < length (declared shelf) → Housed j (unitAt shelf j) bytes) (here : place < length (declared shelf)) where
   abbrev out : Shelf
-  out = withUnit shelf place (withInlet (unitAt shelf place) (popped (unitAt shelf place .inlet) 4))
+  out = withUnit shelf place (unitOut (unitAt shelf place))
 
   abbrev g : ℕ
   g = numberOf (unitAt shelf place)
@@ -133,16 +162,16 @@ module _ (shelf : Shelf) (place bytes : ℕ) (all : (j : ℕ) → j < length (de
   went-sender j k =
       ⊎-elim
       (λ o.
-      subst (λ v. Went g (unitAt shelf j) v) (sym (o .1)) (subst (λ n. Went g (unitAt shelf n) (withInlet (unitAt shelf place) (popped (unitAt shelf place .inlet) 4))) (sym (o .0)) (went-out place bytes (unitAt shelf place) (all place here))))
+      subst (λ v. Went g (unitAt shelf j) v) (sym (o .1)) (subst (λ n. Went g (unitAt shelf n) (unitOut (unitAt shelf place))) (sym (o .0)) (went-out place bytes (unitAt shelf place) (all place here))))
       (λ o. subst (λ v. Went g (unitAt shelf j) v) (sym o) (went-nowhere g j bytes (unitAt shelf j) (all j k)))
-      (set-or (shelf .units) place (withInlet (unitAt shelf place) (popped (unitAt shelf place .inlet) 4)) blank j)
+      (set-or (shelf .units) place (unitOut (unitAt shelf place)) blank j)
 
   out-length : length (declared out) ≡ length (declared shelf)
   out-length =
-      length-take (shelf .count) (out .units) ∙ ap (Prim.Native.Nat.min (shelf .count)) (length-set (shelf .units) place (withInlet (unitAt shelf place) (popped (unitAt shelf place .inlet) 4))) ∙ sym (length-take (shelf .count) (shelf .units))
+      length-take (shelf .count) (out .units) ∙ ap (Prim.Native.Nat.min (shelf .count)) (length-set (shelf .units) place (unitOut (unitAt shelf place))) ∙ sym (length-take (shelf .count) (shelf .units))
 
-  pub went-heard : (h : H.Heard) (j : ℕ) → j < length (declared shelf) → Went g (unitAt shelf j) (unitAt (heardByAll out h .shelf) j)
-  went-heard h j k =
+  pub went-heard : (each : List ℕ) (h : H.Heard) (j : ℕ) → j < length (declared shelf) → Went g (unitAt shelf j) (unitAt (heardByAll out each h .shelf) j)
+  went-heard each h j k =
       let a = went-sender j k in
       ⊎-elim
       (λ e. subst (λ v. Went g (unitAt shelf j) v) (sym e) a)
@@ -150,8 +179,8 @@ module _ (shelf : Shelf) (place bytes : ℕ) (all : (j : ℕ) → j < length (de
       let same : r .0 ≡ j = omega (arith, r .2) in
       let few : r .0 < shelf .count = omega (arith, length-take (shelf .count) (out .units), r .1) in
       let it : getD (declared out) (r .0) blank ≡ unitAt out j = declared-at out (r .0) blank few ∙ ap (λ n. unitAt out n) same in
-      subst (λ v. Went g (unitAt shelf j) v) (sym (r .3 ∙ ap (λ x. copyOf x h .unit) it)) (went-copy g (unitAt shelf j) (unitAt out j) (copyOf (unitAt out j) h .unit) a (copied (unitAt out j) h (a .limits) (a .queues))))
-      (unit-or h 0 (declared out) (silence out) j)
+      subst (λ v. Went g (unitAt shelf j) v) (sym (r .3 ∙ ap (λ x. copyOf x h .unit) it)) (went-copy g (unitAt shelf j) (unitAt out j) (copyOf (unitAt out j) h .unit) a (copied (unitAt out j) h (a .limits) (a .queues) (a .side))))
+      (unit-or h 0 (declared out) (silence out each) j)
 
 -- a sender hears its own cell
 pub agree-sent : (fate : A.Hearing) (b : Bool) → Agree (bitOr (hearingRises fate) (sentRises b)) (sentCounts b ++ hearingCounts fate)

@@ -1,4 +1,4 @@
--- The contracts of the six entry points, as `entry` has them, and that each is the step that the promises speak of. Assumes nothing.
+-- The contracts of the eight entry points, as `entry` has them, and that each is the step that the promises speak of. Assumes nothing.
 use Prim.Native.Nat.{ℕ}
 use mathlib.Core.Path.{_≡_}
 use mathlib.Core.List.{List, []}
@@ -17,19 +17,23 @@ use denote.Triple.Clauses.{AtExit}
 use Rattle.card.specs.declared.Card.{Card}
 use Rattle.answer.specs.declared.Answer.{Answer}
 use Rattle.answer.specs.declared.Counters as C
-use Rattle.entry.specs.Outcomes.{arrives, frames, hears, takes, countsOf, loads, LeavesStore, LeavesAll, LeavesBytes, LeavesMemory}
+use Rattle.entry.specs.Outcomes.{arrives, frames, hears, takes, hands, collects, countsOf, loads, LeavesStore, LeavesAll, LeavesBytes, LeavesCell, LeavesMemory}
 use Rattle.entry.specs.declared.Counted.{Counted}
 use Rattle.entry.proofs.arrive as entry-arrive
 use Rattle.entry.proofs.frame as entry-frame
 use Rattle.entry.proofs.hear as entry-hear
 use Rattle.entry.proofs.take as entry-take
+use Rattle.entry.proofs.hand as entry-hand
+use Rattle.entry.proofs.collect as entry-collect
 use Rattle.entry.proofs.count as entry-count
 use Rattle.entry.proofs.load as entry-load
-use Rattle.document.specs.Events.{arrive, frame, hear, take-cell, count, answers}
+use Rattle.document.specs.Events.{arrive, frame, hear, take-cell, count, hand, collect, answers}
 use Rattle.entry.proofs.arrive.Statement as code-arrive
 use Rattle.entry.proofs.frame.Statement as code-frame
 use Rattle.entry.proofs.hear.Statement as code-hear
 use Rattle.entry.proofs.take.Statement as code-take
+use Rattle.entry.proofs.hand.Statement as code-hand
+use Rattle.entry.proofs.collect.Statement as code-collect
 use Rattle.entry.proofs.count.Statement as code-count
 use Rattle.entry.proofs.load.Statement as code-load
 use Rattle.running.specs.Events.{countSaid}
@@ -47,6 +51,12 @@ Hears card l unit heard r state store rows = LeavesStore (hears card (l .state) 
 
 abbrev pub Takes : Card → Lent → ℕ → List ℕ → Answer → List ℕ → List C.Counters → List ℕ → Type 0
 Takes card l unit buffer r state rows bytes = LeavesBytes (takes card (l .state) (l .store) (l .rows) (length (l .rows)) unit buffer) r state bytes rows
+
+abbrev pub Hands : Card → Lent → ℕ → List ℕ → Answer → List ℕ → List ℕ → Type 0
+Hands card l unit cell r state store = LeavesCell (hands card (l .state) (l .store) (l .rows) (length (l .rows)) unit cell) r state store
+
+abbrev pub Collects : Card → Lent → ℕ → List ℕ → Answer → List ℕ → List C.Counters → List ℕ → Type 0
+Collects card l unit buffer r state rows bytes = LeavesBytes (collects card (l .state) (l .store) (l .rows) (length (l .rows)) unit buffer) r state bytes rows
 
 abbrev pub Counts : Card → Lent → ℕ → Counted → Type 0
 Counts card l unit r = r ≡ countsOf card (l .state) (l .store) (l .rows) (length (l .rows)) unit
@@ -69,6 +79,12 @@ pub record Says {M : Type 1} (𝓤 : URA M) (H : Heap 𝓤) (A : Atoms 𝓤) (me
   pub takes : (m : List ℕ) (κs : Lfts (entry-take.ended .signature .lifetimes)) (a : Args (entry-take.ended .signature) κs) (r : Res (entry-take.ended .signature) κs) (e : AtExit entry-take.ended κs) →
       entry-take.clauses 𝓤 H A mem run κs a .ensures tt r e
       ≡ fact 𝓤 (Takes (a .0) (record { state = now (a .1 .0); memory = m; store = now (a .1 .1 .0); rows = now (a .1 .1 .1 .0) }) (a .1 .1 .1 .1 .0) (now (a .1 .1 .1 .1 .1 .0)) r (now (e .1 .0)) (now (e .1 .1 .1 .0)) (now (e .1 .1 .1 .1 .1 .0)))
+  pub hands : (m : List ℕ) (κs : Lfts (entry-hand.ended .signature .lifetimes)) (a : Args (entry-hand.ended .signature) κs) (r : Res (entry-hand.ended .signature) κs) (e : AtExit entry-hand.ended κs) →
+      entry-hand.clauses 𝓤 H A mem run κs a .ensures tt r e
+      ≡ fact 𝓤 (Hands (a .0) (record { state = now (a .1 .0); memory = m; store = now (a .1 .1 .0); rows = now (a .1 .1 .1 .0) }) (a .1 .1 .1 .1 .0) (now (a .1 .1 .1 .1 .1 .0)) r (now (e .1 .0)) (now (e .1 .1 .0)))
+  pub collects : (m : List ℕ) (κs : Lfts (entry-collect.ended .signature .lifetimes)) (a : Args (entry-collect.ended .signature) κs) (r : Res (entry-collect.ended .signature) κs) (e : AtExit entry-collect.ended κs) →
+      entry-collect.clauses 𝓤 H A mem run κs a .ensures tt r e
+      ≡ fact 𝓤 (Collects (a .0) (record { state = now (a .1 .0); memory = m; store = now (a .1 .1 .0); rows = now (a .1 .1 .1 .0) }) (a .1 .1 .1 .1 .0) (now (a .1 .1 .1 .1 .1 .0)) r (now (e .1 .0)) (now (e .1 .1 .1 .0)) (now (e .1 .1 .1 .1 .1 .0)))
   pub counts : (m : List ℕ) (κs : Lfts (entry-count.ended .signature .lifetimes)) (a : Args (entry-count.ended .signature) κs) (r : Res (entry-count.ended .signature) κs) (e : AtExit entry-count.ended κs) →
       entry-count.clauses 𝓤 H A mem run κs a .ensures tt r e
       ≡ fact 𝓤 (Counts (a .0) (record { state = now (a .1 .0); memory = m; store = now (a .1 .1 .0); rows = now (a .1 .1 .1 .0) }) (a .1 .1 .1 .1 .0) r)
@@ -82,6 +98,8 @@ pub record AsksNothing {M : Type 1} (𝓤 : URA M) (H : Heap 𝓤) (A : Atoms �
   pub frames : (κs : Lfts (entry-frame.ended .signature .lifetimes)) (a : Args (entry-frame.ended .signature) κs) → entry-frame.clauses 𝓤 H A mem run κs a .requires tt ≡ emp 𝓤
   pub hears : (κs : Lfts (entry-hear.ended .signature .lifetimes)) (a : Args (entry-hear.ended .signature) κs) → entry-hear.clauses 𝓤 H A mem run κs a .requires tt ≡ emp 𝓤
   pub takes : (κs : Lfts (entry-take.ended .signature .lifetimes)) (a : Args (entry-take.ended .signature) κs) → entry-take.clauses 𝓤 H A mem run κs a .requires tt ≡ emp 𝓤
+  pub hands : (κs : Lfts (entry-hand.ended .signature .lifetimes)) (a : Args (entry-hand.ended .signature) κs) → entry-hand.clauses 𝓤 H A mem run κs a .requires tt ≡ emp 𝓤
+  pub collects : (κs : Lfts (entry-collect.ended .signature .lifetimes)) (a : Args (entry-collect.ended .signature) κs) → entry-collect.clauses 𝓤 H A mem run κs a .requires tt ≡ emp 𝓤
   pub counts : (κs : Lfts (entry-count.ended .signature .lifetimes)) (a : Args (entry-count.ended .signature) κs) → entry-count.clauses 𝓤 H A mem run κs a .requires tt ≡ emp 𝓤
   pub loads : (κs : Lfts (entry-load.ended .signature .lifetimes)) (a : Args (entry-load.ended .signature) κs) → entry-load.clauses 𝓤 H A mem run κs a .requires tt ≡ emp 𝓤
 
@@ -92,12 +110,14 @@ EntrySays = (M : Type 1) (𝓤 : URA M) (H : Heap 𝓤) (A : Atoms 𝓤) (mem : 
 abbrev pub EntryAsksNothing : Type 2
 EntryAsksNothing = (M : Type 1) (𝓤 : URA M) (H : Heap 𝓤) (A : Atoms 𝓤) (mem : Memory → SProp 𝓤) (run : Routine → Fun 𝓤) → AsksNothing 𝓤 H A mem run
 
--- and Rattle's own theorem of each of the six: its code is safe, ends, and meets that contract
+-- and Rattle's own theorem of each of the eight: its code is safe, ends, and meets that contract
 pub record EntryMeets (M : Type 1) : Type 2 where
   pub arrives : code-arrive.statement M
   pub frames : code-frame.statement M
   pub hears : code-hear.statement M
   pub takes : code-take.statement M
+  pub hands : code-hand.statement M
+  pub collects : code-collect.statement M
   pub counts : code-count.statement M
   pub loads : code-load.statement M
 
@@ -115,6 +135,10 @@ pub record Steps (card : Card) : Type 0 where
       Hears card l unit heard r state store rows → cameTo l r state store rows heard ≡ does card l (hear unit heard)
   pub takes : (l : Lent) (unit : ℕ) (buffer : List ℕ) (r : Answer) (state : List ℕ) (rows : List C.Counters) (bytes : List ℕ) →
       Takes card l unit buffer r state rows bytes → cameTo l r state (l .store) rows bytes ≡ does card l (take-cell unit buffer)
+  pub hands : (l : Lent) (unit : ℕ) (cell : List ℕ) (r : Answer) (state store : List ℕ) →
+      Hands card l unit cell r state store → cameTo l r state store (l .rows) cell ≡ does card l (hand unit cell)
+  pub collects : (l : Lent) (unit : ℕ) (buffer : List ℕ) (r : Answer) (state : List ℕ) (rows : List C.Counters) (bytes : List ℕ) →
+      Collects card l unit buffer r state rows bytes → cameTo l r state (l .store) rows bytes ≡ does card l (collect unit buffer)
   pub counts : (l : Lent) (unit : ℕ) (r : Counted) →
       Counts card l unit r → record { said = countSaid r; lent = l; bytes = [] } ≡ does card l (count unit)
   pub loads : (text memory store : List ℕ) (rows : List C.Counters) (r : Answer) (memory′ state′ : List ℕ) (rows′ : List C.Counters) →
@@ -129,5 +153,7 @@ pub record Determined (card : Card) : Type 0 where
   pub frames : (l : Lent) (buffer : List ℕ) → Only (λ (x : Answer × List ℕ × List ℕ × List C.Counters × List ℕ). Frames card l buffer (x .0) (x .1) (x .2) (x .3) (x .4))
   pub hears : (l : Lent) (unit : ℕ) (heard : List ℕ) → Only (λ (x : Answer × List ℕ × List ℕ × List C.Counters). Hears card l unit heard (x .0) (x .1) (x .2) (x .3))
   pub takes : (l : Lent) (unit : ℕ) (buffer : List ℕ) → Only (λ (x : Answer × List ℕ × List C.Counters × List ℕ). Takes card l unit buffer (x .0) (x .1) (x .2) (x .3))
+  pub hands : (l : Lent) (unit : ℕ) (cell : List ℕ) → Only (λ (x : Answer × List ℕ × List ℕ). Hands card l unit cell (x .0) (x .1) (x .2))
+  pub collects : (l : Lent) (unit : ℕ) (buffer : List ℕ) → Only (λ (x : Answer × List ℕ × List C.Counters × List ℕ). Collects card l unit buffer (x .0) (x .1) (x .2) (x .3))
   pub counts : (l : Lent) (unit : ℕ) → Only (λ r. Counts card l unit r)
   pub loads : (text memory store : List ℕ) (rows : List C.Counters) → Only (λ (x : Answer × List ℕ × List ℕ × List C.Counters). Loads card text memory store rows (x .0) (x .1) (x .2) (x .3))

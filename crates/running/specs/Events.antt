@@ -13,7 +13,9 @@ use Rattle.arriving.specs.Arriving.{arriveDone, arriveStore}
 use Rattle.framing.specs.Frames.{frameDone, frameStore, frameBuffer}
 use Rattle.hearing.specs.Hearings.{hearDone, hearStore}
 use Rattle.taking.specs.Takes.{takeDone, takeBuffer}
-use Rattle.document.specs.Events.{Event, arrive, frame, hear, take-cell, count, Said, answers, counts}
+use Rattle.handing.specs.Hands.{handDone, handStore}
+use Rattle.handing.specs.Collects.{collectDone, collectBuffer}
+use Rattle.document.specs.Events.{Event, arrive, frame, hear, take-cell, count, hand, collect, Said, answers, counts}
 use Rattle.entry.specs.Counts.{countOf}
 use Rattle.entry.specs.declared.Counted.{Counted}
 use Rattle.entry.specs.declared.Counted.the-variants.{Counters, Refused}
@@ -44,7 +46,7 @@ unfoldable pub countSaid : Counted → Said
 countSaid (Counters row) = counts row
 countSaid (Refused number) = answers (answer.Refused number)
 
--- what each of the five does
+-- what each of the seven does
 unfoldable pub happens : Card → World → Event → Outcome
 happens card w (arrive unit cell) =
     ended w (arriveDone card (w .shelf) (w .memory) (length (w .store)) (length (w .rows)) unit cell) (arriveStore card (w .shelf) (w .memory) (w .store) (length (w .rows)) unit cell) cell
@@ -55,4 +57,8 @@ happens card w (hear unit heard) =
     ended w (hearDone card (w .shelf) (length (w .store)) (length (w .rows)) unit heard) (hearStore card (w .shelf) (w .store) (length (w .rows)) unit heard) heard
 happens card w (take-cell unit buffer) =
     ended w (takeDone card (w .shelf) (length (w .store)) (length (w .rows)) unit (length buffer)) (w .store) (takeBuffer card (w .shelf) (w .store) (length (w .rows)) unit buffer)
+happens card w (hand unit cell) =
+    ended w (handDone card (w .shelf) (length (w .store)) (length (w .rows)) unit (length cell)) (handStore card (w .shelf) (w .store) (length (w .rows)) unit cell) cell
+happens card w (collect unit buffer) =
+    ended w (collectDone card (w .shelf) (length (w .store)) (length (w .rows)) unit (length buffer)) (w .store) (collectBuffer card (w .shelf) (w .store) (length (w .rows)) unit buffer)
 happens card w (count unit) = record { said = countSaid (countOf (counted card (w .shelf) (length (w .store)) (length (w .rows)) unit) (w .rows)); world = w; bytes = [] }

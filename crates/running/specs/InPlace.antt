@@ -13,14 +13,19 @@ use Rattle.running.specs.Events.{happens}
 use Rattle.running.specs.Keeping.{run, loaded}
 use Rattle.running.specs.Lent.{Lent, Long, does, runIn, loadedIn, seen, shown}
 
--- the bytes that no event writes: every column of a place that is not declared, and of the others all but the columns of rings, from 14 on; 804, the bus, and 805, the count of units; from
--- 808 on the free bytes and the sessions
-abbrev pub Untouched : List ℕ → ℕ → Type 0
-Untouched state k = ((k < 768) × (getD state 805 0 ≤ k % 32)) ⊎ ((k < 448) ⊎ (((k ≡ 804) ⊎ (k ≡ 805)) ⊎ (808 ≤ k)))
+-- a byte of a column: 0 to 767, and 832 to 991
+abbrev pub InColumn : ℕ → Type 0
+InColumn k = (k < 768) ⊎ ((832 ≤ k) × (k < 992))
 
--- the bytes that say nothing: "808 to 1,023 | free", and all bytes of the places that are not declared, their columns and their sessions
+-- the bytes that no event writes: every column of a place that is not declared, and of the others all but the columns of rings and places, from 14 on; 804, the bus, and 805, the count of
+-- units; the free bytes and the sessions
+abbrev pub Untouched : List ℕ → ℕ → Type 0
+Untouched state k = (InColumn k × (getD state 805 0 ≤ k % 32)) ⊎ ((k < 448) ⊎ (((k ≡ 804) ⊎ (k ≡ 805)) ⊎ (((808 ≤ k) × (k < 832)) ⊎ (992 ≤ k))))
+
+-- the bytes that say nothing: "808 to 831 and 992 to 1,023 | free", and all bytes of the places that are not declared, their columns and their sessions
 abbrev pub Spare : List ℕ → ℕ → Type 0
-Spare state k = ((808 ≤ k) × (k < 1024)) ⊎ (((k < 768) × (getD state 805 0 ≤ k % 32)) ⊎ ((1024 + 32 * getD state 805 0 ≤ k) × (k < 2048)))
+Spare state k =
+    (((808 ≤ k) × (k < 832)) ⊎ ((992 ≤ k) × (k < 1024))) ⊎ ((InColumn k × (getD state 805 0 ≤ k % 32)) ⊎ ((1024 + 32 * getD state 805 0 ≤ k) × (k < 2048)))
 
 -- bytes that are a state: what is said, the lent bytes and the shelf afterwards are those of the event on their shelf, and they are a state again
 pub record Tied (card : Card) (l : Lent) (e : Event) : Type 0 where

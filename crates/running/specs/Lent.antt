@@ -6,8 +6,8 @@ use lib.ListN.{length}
 use Rattle.card.specs.declared.Card.{Card}
 use Rattle.state.specs.Bytes.{shelfIn}
 use Rattle.answer.specs.declared.Counters as C
-use Rattle.entry.specs.Outcomes.{Left, arrives, frames, hears, takes, countsOf, loads}
-use Rattle.document.specs.Events.{Event, arrive, frame, hear, take-cell, count, Said, answers}
+use Rattle.entry.specs.Outcomes.{Left, arrives, frames, hears, takes, hands, collects, countsOf, loads}
+use Rattle.document.specs.Events.{Event, arrive, frame, hear, take-cell, count, hand, collect, Said, answers}
 use Rattle.running.specs.Events.{World, Outcome, countSaid}
 
 -- what is lent to a running shelf: the bytes of its state, the memory, the store and the counter rows
@@ -41,6 +41,8 @@ does card l (arrive unit cell) = came l (arrives card (l .state) (l .memory) (l 
 does card l (frame buffer) = came l (frames card (l .state) (l .store) (l .rows) (length (l .rows)) buffer)
 does card l (hear unit heard) = came l (hears card (l .state) (l .store) (l .rows) (length (l .rows)) unit heard)
 does card l (take-cell unit buffer) = came l (takes card (l .state) (l .store) (l .rows) (length (l .rows)) unit buffer)
+does card l (hand unit cell) = came l (hands card (l .state) (l .store) (l .rows) (length (l .rows)) unit cell)
+does card l (collect unit buffer) = came l (collects card (l .state) (l .store) (l .rows) (length (l .rows)) unit buffer)
 does card l (count unit) = record { said = countSaid (countsOf card (l .state) (l .store) (l .rows) (length (l .rows)) unit); lent = l; bytes = [] }
 
 -- one event after the other

@@ -10,6 +10,7 @@ use Rattle.outlet.specs.declared.Limits.{Limits}
 use Rattle.outlet.specs.declared.Mode.the-variants.{One}
 use Rattle.outlet.specs.declared.Ring.{Ring}
 use Rattle.shelf.specs.declared.Settings.{Settings}
+use Rattle.shelf.specs.declared.Side.{Side}
 use Rattle.shelf.specs.declared.Unit as U
 use Rattle.shelf.specs.Shelf.{Shelf}
 use Rattle.line.specs.declared.Line.{Line}
@@ -19,6 +20,10 @@ use Rattle.promise.specs.Says.{recordsOf, unitLines}
 -- a queue without a cell
 abbrev pub noCell : Ring
 noCell = record { head = 0; count = 0 }
+
+-- no cell in the places beside the data queues
+abbrev pub noSide : Side
+noSide = record { controlin = 0; loopbackin = 0; controlout = noCell; loopbackout = 0 }
 
 -- a place where no unit is declared
 abbrev pub noUnit : U.Unit
@@ -30,6 +35,7 @@ noUnit =
         queues = noCell ∷ noCell ∷ noCell ∷ noCell ∷ [];
       };
       inlet = noCell;
+      side = noSide;
       place = 0;
       sessions = replicate 32 0;
     }
@@ -57,6 +63,7 @@ pub record Declared (told : List Line) (settings : Settings) (limits : Limits) (
   -- "starts with all queues empty"
   pub inlet : u .inlet ≡ noCell
   pub queues : u .outlet .queues ≡ noCell ∷ noCell ∷ noCell ∷ noCell ∷ []
+  pub side : u .side ≡ noSide
 
 -- the shelf of these lines, the latest first, before any event: each unit in the place of its `unit` line among those, and nothing granted, asked or sent
 pub record Opened (told : List Line) (shelf : Shelf) : Type 0 where

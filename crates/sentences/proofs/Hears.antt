@@ -3,11 +3,11 @@ use Prim.Native.Nat.{ℕ, _+_, _<_, _≤_}
 use native.Mathlib.Omega.{arith}
 use mathlib.Core.Path.{_≡_, refl, sym, ap, subst, _∙_}
 use mathlib.Core.Logic.{_≢_, _↔_}
-use mathlib.Core.Bool.{true, cond, false≢true}
+use mathlib.Core.Bool.{Bool, true, false, cond, false≢true}
 use mathlib.Core.List.{List, _++_}
-use lib.Dec.{eqb}
+use lib.Dec.{eqb, leb}
 use lib.ListN.{length, take, drop}
-use borrow.Author.Tests.{eqb-true, eq-eqb}
+use borrow.Author.Tests.{eqb-true, eqb-false, eq-eqb, ne-eqb, leb-true, leb-false, le-leb, lt-leb}
 use Rattle.octets.specs.Octets as octets
 use Rattle.card.specs.declared.Card.{Card}
 use Rattle.bus.specs.declared.Target as T
@@ -28,28 +28,28 @@ use Rattle.shelf.specs.Shelf.{Shelf}
 use Rattle.answer.specs.declared.Hearing as H
 use Rattle.answer.specs.declared.Hearing.the-variants as fate·
 use Rattle.hearing.specs.Hearings as hearing
-use Rattle.hearing.specs.Hearings.{Plan, Queue, Lost}
+use Rattle.hearing.specs.Hearings.{Plan, Queue, ToControl, ToLoopback, Lost}
 use Rattle.hearing.proofs.Plans.{before-parity}
 use Rattle.answer.specs.Answers.{hearingRises, row}
 use Rattle.answer.specs.Counting.{settled}
 use Rattle.soundness.specs.Admission as admit
 use Rattle.document.specs.Events.{hear}
 use Rattle.running.specs.Events.{World, Outcome, happens, ended}
-use Rattle.paper.specs.Outlets.{queueAt, ringAt, held, slotAt, behind}
+use Rattle.paper.specs.Outlets.{queueAt, ringAt, slotAt, behind}
 use Rattle.paper.specs.Counters.{hearingCounts, RisenAt}
 use Rattle.paper.specs.State.{unitAt, DeclaredAt, UnitSound}
 use Rattle.paper.proofs.Outlets.{capacity-is, first-is, slot-is, longer-is}
 use Rattle.paper.proofs.Counters.{agree-hearing, risen-at}
 use Rattle.paper.proofs.State.{tail-is, capacity-most}
-use Rattle.sentences.specs.Changes.{withUnit, withQueue, Runs, OnShelves}
-use Rattle.sentences.specs.Hearing.{slotFor, withCopy, Hears as Hears·, HearingRule}
+use Rattle.sentences.specs.Changes.{withQueue, withSide, withCell, Runs, OnShelves}
+use Rattle.sentences.specs.Hearing.{slotIn, withOne, slotFor, withCopy, Hears as Hears·, HearingRule}
 use Rattle.sentences.proofs.Found.{many-units, unit-at, itself}
 use Rattle.sentences.proofs.Arrives.{let-in}
 use Rattle.paper.specs.Cells.{two, four, kind, class, address, Says, Damaged}
-use Rattle.paper.specs.Hearing.{Hears, Addressed, by-unit, by-session, by-broadcast, queueOf, HearingIs}
+use Rattle.paper.specs.Hearing.{Hears, Addressed, by-unit, by-session, by-broadcast, by-third, queueOf, Waits, in-queue, in-control, in-loopback, waitsIn, roomIn, heldIn, Room, Comes, HearingIs}
 use Rattle.outlet.proofs.Truth.{decide}
-use Rattle.paper.proofs.Cells.{HeardAs, as-damaged, as-cell, heard-as}
-use Rattle.paper.proofs.Hearing.{hears-iff, queue-is, queue-in, CopyIs, copy-to, copy-from}
+use Rattle.paper.proofs.Cells.{HeardAs, as-damaged, as-cell, as-control, as-loopback, heard-as}
+use Rattle.paper.proofs.Hearing.{hears-iff, queue-is, queue-in, waits-queue, waits-control, waits-loopback, third-iff, third-narrow, third-kept, CopyIs, copy-to, copy-from}
 
 -- A. whom a frame addresses
 to-target : (u : U.Unit) (t : T.Target) (r : ℕ) → Says t (kind r) (address r) → (hearing.addressed u t ≡ true) ↔ Addressed u r
@@ -63,6 +63,7 @@ to-target u (target.Unit n) r s = (
     named (by-unit k a) = sym a ∙ s .1
     named (by-session k h) = absurd (omega (arith, s .0))
     named (by-broadcast k) = absurd (omega (arith, s .0))
+    named (by-third k a) = absurd (omega (arith, s .0))
 to-target u (target.Session n) r s = (
   λ e. by-session (s .0) (subst (Hears (u .sessions)) (sym (s .1)) (hears-iff (u .sessions) n .0 e)),
   λ a. hears-iff (u .sessions) n .1 (listens a),
@@ -72,7 +73,14 @@ to-target u (target.Session n) r s = (
     listens (by-unit k a) = absurd (omega (arith, s .0))
     listens (by-session k h) = subst (Hears (u .sessions)) (s .1) h
     listens (by-broadcast k) = absurd (omega (arith, s .0))
+    listens (by-third k a) = absurd (omega (arith, s .0))
 to-target u target.All r s = (λ e. by-broadcast (s .0), λ a. refl)
+
+-- a target is of a data cell
+says-data : (t : T.Target) (k n : ℕ) → Says t k n → k ≢ 3
+says-data (target.Unit unit) k n s e = omega (arith, s .0)
+says-data (target.Session session) k n s e = omega (arith, s .0)
+says-data target.All k n s e = omega (arith, s .0)
 
 -- B. the fate of a frame of 57 bytes
 -- the four of a copy
@@ -82,12 +90,29 @@ copyFate fates.Full = fate·.Full
 copyFate fates.Clp = fate·.Clp
 copyFate fates.Queued = fate·.Queued
 
+-- where a copy is held, as a plan, and in which of the unit's slots
+unfoldable pub planAs : Waits → Plan
+planAs (in-queue q) = Queue q
+planAs in-control = ToControl
+planAs in-loopback = ToLoopback
+
+unfoldable pub codeSlot : U.Unit → Waits → ℕ
+codeSlot u (in-queue q) = places.outletSlot (u .outlet .limits) q (rings.tail (outlet.queue (u .outlet) q) (outlet.capacity (u .outlet .limits) q))
+codeSlot u in-control = places.controlOutSlot (rings.tail (u .side .controlout) 4)
+codeSlot u in-loopback = places.loopbackOutSlot
+
 -- what is planned for it
 pub data Planned (u : U.Unit) (f : List ℕ) : Type 0 where
   loses : (x : H.Hearing) → HearingIs u f x → x ≢ fate·.Queued → hearing.planOf u (heard f) ≡ Lost x → Planned u f
-  holds : HearingIs u f fate·.Queued → hearing.planOf u (heard f) ≡ Queue (queueOf u f) → Planned u f
+  holds : HearingIs u f fate·.Queued → hearing.planOf u (heard f) ≡ planAs (waitsIn u f) → Planned u f
 
 module _ (u : U.Unit) (f : List ℕ) (whole : length f ≡ 57) where
+  abbrev plan : B.Heard → Plan
+  plan h = hearing.planOf u h
+
+  abbrev its : Plan
+  its = plan (heard f)
+
   -- a sound frame, addressed to the unit
   module _ (sound : Damaged f → ⊥) (mine : Addressed u (two f 0)) where
     copy-is : (x : Fate) → CopyIs u f x → HearingIs u f (copyFate x)
@@ -97,27 +122,83 @@ module _ (u : U.Unit) (f : List ℕ) (whole : length f ≡ 57) where
     copy-is fates.Clp c = (record { sound = sound; addressed = mine; narrow = c .0 }, c .1, c .2)
     copy-is fates.Queued c = (record { sound = sound; addressed = mine; narrow = c .0 }, c .1, c .2)
 
-    planned-for : (x : Fate) → CopyIs u f x → hearing.planOf u (heard f) ≡ hearing.planFor x (queueOf u f) → Planned u f
-    unfolding hearing.planFor copyFate
-    planned-for fates.Wide c e = loses fate·.Wide (copy-is fates.Wide c) (λ q. let z : _≡_ {A = ℕ} 0 1 = cc in omega arith) e
-    planned-for fates.Full c e = loses fate·.Full (copy-is fates.Full c) (λ q. let z : _≡_ {A = ℕ} 0 1 = cc in omega arith) e
-    planned-for fates.Clp c e = loses fate·.Clp (copy-is fates.Clp c) (λ q. let z : _≡_ {A = ℕ} 0 1 = cc in omega arith) e
-    planned-for fates.Queued c e = holds (copy-is fates.Queued c) e
+    planned-for : (x : Fate) → CopyIs u f x → waitsIn u f ≡ in-queue (queueOf u f) → its ≡ hearing.planFor x (queueOf u f) → Planned u f
+    unfolding hearing.planFor copyFate planAs
+    planned-for fates.Wide c there e = loses fate·.Wide (copy-is fates.Wide c) (λ q. let z : _≡_ {A = ℕ} 0 1 = cc in omega arith) e
+    planned-for fates.Full c there e = loses fate·.Full (copy-is fates.Full c) (λ q. let z : _≡_ {A = ℕ} 0 1 = cc in omega arith) e
+    planned-for fates.Clp c there e = loses fate·.Clp (copy-is fates.Clp c) (λ q. let z : _≡_ {A = ℕ} 0 1 = cc in omega arith) e
+    planned-for fates.Queued c there e = holds (copy-is fates.Queued c) (e ∙ ap planAs (sym there))
 
-  abbrev plan : B.Heard → Plan
-  plan h = hearing.planOf u h
-
+  -- a data cell
   planned-cell : (Damaged f → ⊥) → (t : T.Target) → Says t (kind (two f 0)) (address (two f 0)) → heard f ≡ sort.Cell t (class (two f 0)) (four f 4) → Planned u f
   unfolding hearing.planOf
   planned-cell sound t s e =
       let x = queueing.fate (u .outlet) (u .settings .link) (class (two f 0)) (four f 4) in
+      let is-data = says-data t (kind (two f 0)) (address (two f 0)) s in
       decide (hearing.addressed u t)
       (λ yes.
-      planned-for sound (to-target u t (two f 0) s .0 yes) x (copy-to u f x (fate-iff (u .outlet) (u .settings .link) (class (two f 0)) (four f 4) x .0 refl))
+      planned-for sound (to-target u t (two f 0) s .0 yes) x (copy-to u f is-data x (fate-iff (u .outlet) (u .settings .link) (class (two f 0)) (four f 4) x .0 refl)) (waits-queue u f is-data)
       (ap plan e ∙ (λ i. cond (yes i) (hearing.planFor x (queue-is u f i)) (Lost fate·.Other))))
       (λ not.
       loses fate·.Other (sound, λ a. false≢true (sym not ∙ to-target u t (two f 0) s .1 a)) (λ q. let z : _≡_ {A = ℕ} 0 1 = cc in omega arith)
       (ap plan e ∙ (λ i. cond (not i) (hearing.planFor x (queueing.queueOf (u .outlet .limits) (class (two f 0)))) (Lost fate·.Other))))
+
+  -- a control or a loopback cell: it waits in x
+  abbrev third : Waits → Plan
+  third x = cond (eqb (numberOf u) (address (two f 0))) (hearing.planIn (roomIn u x) (heldIn u x) (planAs x)) (Lost fate·.Other)
+
+  module _ (sound : Damaged f → ⊥) (k : kind (two f 0) ≡ 3) (x : Waits) (there : waitsIn u f ≡ x) (e : its ≡ third x) where
+    abbrev reaches : Addressed u (two f 0) → Comes u f
+    reaches mine = record { sound = sound; addressed = mine; narrow = third-narrow u f k }
+
+    planned-third : Planned u f
+    unfolding hearing.planIn
+    planned-third =
+        decide (eqb (numberOf u) (address (two f 0)))
+        (λ yes.
+        let mine = third-iff u f k .1 (eqb-true (numberOf u) (address (two f 0)) yes) in
+        decide (leb (roomIn u x) (heldIn u x))
+        (λ full.
+        loses fate·.Full (reaches mine, subst (λ w. roomIn u w ≤ heldIn u w) (sym there) (leb-true (roomIn u x) (heldIn u x) full)) (λ q. let z : _≡_ {A = ℕ} 0 1 = cc in omega arith)
+        (e ∙ (λ i. cond (yes i) (cond (full i) (Lost fate·.Full) (planAs x)) (Lost fate·.Other))))
+        (λ room.
+        holds (reaches mine, subst (λ w. heldIn u w < roomIn u w) (sym there) (leb-false (roomIn u x) (heldIn u x) room), third-kept u f k)
+        (e ∙ (λ i. cond (yes i) (cond (room i) (Lost fate·.Full) (planAs (sym there i))) (Lost fate·.Other)))))
+        (λ not.
+        loses fate·.Other (sound, λ a. eqb-false (numberOf u) (address (two f 0)) not (third-iff u f k .0 a)) (λ q. let z : _≡_ {A = ℕ} 0 1 = cc in omega arith)
+        (e ∙ (λ i. cond (not i) (hearing.planIn (roomIn u x) (heldIn u x) (planAs x)) (Lost fate·.Other))))
+
+    held-fate : (w : Waits) → hearing.fateBy (planAs w) ≡ fate·.Queued
+    unfolding planAs hearing.fateBy
+    held-fate (in-queue q) = refl
+    held-fate in-control = refl
+    held-fate in-loopback = refl
+
+    named : Addressed u (two f 0) → eqb (numberOf u) (address (two f 0)) ≡ true
+    named a = eq-eqb (numberOf u) (address (two f 0)) (third-iff u f k .0 a)
+
+    found-third : (y : H.Hearing) → HearingIs u f y → hearing.fateBy its ≡ y
+    unfolding hearing.planIn hearing.fateBy
+    found-third fate·.Damaged h = absurd (sound h)
+    found-third fate·.Other h =
+        ap hearing.fateBy e
+        ∙ (λ i. hearing.fateBy (cond (ne-eqb (numberOf u) (address (two f 0)) (λ q. h .1 (third-iff u f k .1 q)) i) (hearing.planIn (roomIn u x) (heldIn u x) (planAs x)) (Lost fate·.Other)))
+    found-third fate·.Wide h = absurd (third-narrow u f k (h .2))
+    found-third fate·.Full h =
+        let full = le-leb (roomIn u x) (heldIn u x) (subst (λ w. roomIn u w ≤ heldIn u w) there (h .1)) in
+        ap hearing.fateBy e ∙ (λ i. hearing.fateBy (cond (named (h .0 .addressed) i) (cond (full i) (Lost fate·.Full) (planAs x)) (Lost fate·.Other)))
+    found-third fate·.Clp h = absurd (third-kept u f k (h .2))
+    found-third fate·.Queued h =
+        let room = lt-leb (roomIn u x) (heldIn u x) (subst (λ w. heldIn u w < roomIn u w) there (h .1)) in
+        ap hearing.fateBy e ∙ (λ i. hearing.fateBy (cond (named (h .0 .addressed) i) (cond (room i) (Lost fate·.Full) (planAs x)) (Lost fate·.Other))) ∙ held-fate x
+
+  control-plan : heard f ≡ sort.Control (address (two f 0)) → its ≡ third in-control
+  unfolding hearing.planOf planAs
+  control-plan e = ap plan e
+
+  loopback-plan : heard f ≡ sort.Loopback (address (two f 0)) → its ≡ third in-loopback
+  unfolding hearing.planOf planAs
+  loopback-plan e = ap plan e
 
   pub planned : Planned u f
   unfolding hearing.planOf
@@ -126,13 +207,15 @@ module _ (u : U.Unit) (f : List ℕ) (whole : length f ≡ 57) where
       by : HeardAs f → Planned u f
       by (as-damaged d e) = loses fate·.Damaged d (λ q. let z : _≡_ {A = ℕ} 0 1 = cc in omega arith) (ap plan e)
       by (as-cell n t s e) = planned-cell n t s e
+      by (as-control n k c e) = planned-third n k in-control (waits-control u f k c) (control-plan e)
+      by (as-loopback n k c e) = planned-third n k in-loopback (waits-loopback u f k c) (loopback-plan e)
 
   -- C. and no other
   met : (x : Fate) → Addressed u (two f 0) → CopyIs u f x → (t : T.Target) → Says t (kind (two f 0)) (address (two f 0)) → heard f ≡ sort.Cell t (class (two f 0)) (four f 4) → hearing.fateBy (hearing.planOf u (heard f)) ≡ copyFate x
   unfolding hearing.planOf hearing.fateBy hearing.planFor copyFate
   met x a c t s e =
       let yes = to-target u t (two f 0) s .1 a in
-      let is = fate-iff (u .outlet) (u .settings .link) (class (two f 0)) (four f 4) x .1 (copy-from u f x c) in
+      let is = fate-iff (u .outlet) (u .settings .link) (class (two f 0)) (four f 4) x .1 (copy-from u f (says-data t (kind (two f 0)) (address (two f 0)) s) x c) in
       ap (λ h. hearing.fateBy (plan h)) e
       ∙ (λ i. hearing.fateBy (cond (yes i) (hearing.planFor (is i) (queueing.queueOf (u .outlet .limits) (class (two f 0)))) (Lost fate·.Other)))
       ∙ for x
@@ -164,31 +247,63 @@ module _ (u : U.Unit) (f : List ℕ) (whole : length f ≡ 57) where
   found (as-cell n t s e) fate·.Full h = met fates.Full (h .0 .addressed) (h .0 .narrow, h .1) t s e
   found (as-cell n t s e) fate·.Clp h = met fates.Clp (h .0 .addressed) (h .0 .narrow, h .1, h .2) t s e
   found (as-cell n t s e) fate·.Queued h = met fates.Queued (h .0 .addressed) (h .0 .narrow, h .1, h .2) t s e
+  found (as-control n k c e) x h = found-third n k in-control (waits-control u f k c) (control-plan e) x h
+  found (as-loopback n k c e) x h = found-third n k in-loopback (waits-loopback u f k c) (loopback-plan e) x h
 
   pub one-fate : (x y : H.Hearing) → HearingIs u f x → HearingIs u f y → x ≡ y
   one-fate x y p q = sym (found (heard-as f whole) x p) ∙ found (heard-as f whole) y q
 
 -- D. where a queued copy goes
-module _ (card : Card) (shelf : Shelf) (u : U.Unit) (good : UnitSound card shelf u) (f : List ℕ) (room : held (u .outlet) (queueOf u f) < queueAt (u .outlet) (queueOf u f) .capacity) where
+-- one of the three places
+by-waits : (u : U.Unit) (f : List ℕ) (P : Waits → Type 0) → P (in-queue (queueOf u f)) → P in-control → P in-loopback → P (waitsIn u f)
+by-waits u f P queue control loopback = pick (eqb (kind (two f 0)) 3) (eqb (class (two f 0)) 0)
+  where
+    pick : (s t : Bool) → P (cond s (cond t in-control in-loopback) (in-queue (queueOf u f)))
+    pick false t = queue
+    pick true true = control
+    pick true false = loopback
+
+-- the unit with it, and the store
+pub with-one : (u : U.Unit) (x : Waits) → heldIn u x < 255 → hearing.copyBy (planAs x) u ≡ hearing.copyWith (withOne u x) fate·.Queued
+unfolding planAs hearing.copyBy
+with-one u (in-queue q) h = ap (λ r. hearing.copyWith (withQueue u q r) fate·.Queued) (longer-is (ringAt (u .outlet) q) h)
+with-one u in-control h =
+    ap (λ r. hearing.copyWith (withSide u (u .side .controlin) (u .side .loopbackin) r (u .side .loopbackout)) fate·.Queued) (longer-is (u .side .controlout) h)
+with-one u in-loopback h = refl
+
+pub store-as : (x : Waits) (u : U.Unit) (place : ℕ) (store cell : List ℕ) → hearing.storeBy (planAs x) u place store cell ≡ places.putAt store place (codeSlot u x) cell
+unfolding planAs codeSlot hearing.storeBy
+store-as (in-queue q) u place store cell = refl
+store-as in-control u place store cell = refl
+store-as in-loopback u place store cell = refl
+
+module _ (card : Card) (shelf : Shelf) (u : U.Unit) (good : UnitSound card shelf u) (f : List ℕ) (room : Room u f) where
   abbrev q : ℕ
   q = queueOf u f
-
-  few : q < 4
-  few = subst (λ n. n < 4) (queue-is u f) (queue-lt (u .outlet .limits) (class (two f 0)))
 
   most : queueAt (u .outlet) q .capacity ≤ 123
   most = capacity-most (u .outlet .limits) q (good .limits)
 
-  behind-it : rings.tail (ringAt (u .outlet) q) (outlet.capacity (u .outlet .limits) q) ≡ behind (ringAt (u .outlet) q) (queueAt (u .outlet) q .capacity)
-  behind-it =
+  pub few-held : heldIn u (waitsIn u f) < 255
+  few-held = let a : roomIn u (waitsIn u f) ≤ 123 = by-waits u f (λ x. roomIn u x ≤ 123) most (omega arith) (omega arith) in omega (arith, room)
+
+  few : q < 4
+  few = subst (λ n. n < 4) (queue-is u f) (queue-lt (u .outlet .limits) (class (two f 0)))
+
+  behind-it : 0 < queueAt (u .outlet) q .capacity → rings.tail (ringAt (u .outlet) q) (outlet.capacity (u .outlet .limits) q) ≡ behind (ringAt (u .outlet) q) (queueAt (u .outlet) q .capacity)
+  behind-it some =
       ap (rings.tail (ringAt (u .outlet) q)) (capacity-is (u .outlet .limits) q)
-      ∙ tail-is (ringAt (u .outlet) q) (queueAt (u .outlet) q .capacity) (omega (arith, most)) (omega arith) (good .queues q few)
+      ∙ tail-is (ringAt (u .outlet) q) (queueAt (u .outlet) q .capacity) (omega (arith, most)) some (good .queues q few)
 
-  pub slot-for : (place : ℕ) → places.slotAt place (places.outletSlot (u .outlet .limits) q (rings.tail (outlet.queue (u .outlet) q) (outlet.capacity (u .outlet .limits) q))) ≡ slotFor u place f
-  slot-for place = slot-is place (places.start (u .outlet .limits) q + rings.tail (ringAt (u .outlet) q) (outlet.capacity (u .outlet .limits) q)) ∙ (λ i. slotAt place (first-is (u .outlet .limits) q (queue-in u f) i + behind-it i))
-
-  pub with-copy : hearing.queuedUp u q ≡ withCopy u f
-  with-copy = ap (withQueue u q) (longer-is (ringAt (u .outlet) q) (omega (arith, most)))
+  pub slot-for : (place : ℕ) → places.slotAt place (codeSlot u (waitsIn u f)) ≡ slotFor u place f
+  unfolding codeSlot
+  slot-for place =
+      by-waits u f (λ x. heldIn u x < roomIn u x → places.slotAt place (codeSlot u x) ≡ slotIn u place x)
+      (λ h.
+      slot-is place (places.start (u .outlet .limits) q + rings.tail (ringAt (u .outlet) q) (outlet.capacity (u .outlet .limits) q))
+      ∙ (λ i. slotAt place (first-is (u .outlet .limits) q (queue-in u f) i + behind-it (omega arith) i)))
+      (λ h. slot-is place (129 + rings.tail (u .side .controlout) 4) ∙ ap (λ n. slotAt place (129 + n)) (tail-is (u .side .controlout) 4 (omega arith) (omega arith) (good .controlout)))
+      (λ h. slot-is place 133) room
 
 -- E. a frame handed in
 -- what a hearing comes to, where it is let in
@@ -233,8 +348,29 @@ module _ (card : Card) (w : World) (runs : Runs card w) (unit place : ℕ) (d : 
         stored = λ e. absurd (not e);
       }
 
-  held-it : HearingIs own f fate·.Queued → Hears· w place f (outcome w place f (Queue (queueOf own f)))
-  unfolding outcome hearing.copyBy hearing.storeBy places.putAt
+  -- a copy that is held
+  abbrev good : UnitSound card (w .shelf) own
+  good = runs .sound .each place (d .inside)
+
+  heldOutcome : Outcome
+  heldOutcome = ended w (hearing.heardBy (hearing.copyWith (withCopy own f) fate·.Queued) (w .shelf) place) (withCell (w .store) (slotFor own place f) (take 56 f)) f
+
+  stored-it : Room own f → hearing.storeBy (planAs (waitsIn own f)) own place (w .store) (take 56 f) ≡ withCell (w .store) (slotFor own place f) (take 56 f)
+  unfolding places.putAt
+  stored-it room =
+      store-as (waitsIn own f) own place (w .store) (take 56 f)
+      ∙ ap (λ k. octets.splice (w .store) k (take 56 f)) (slot-for card (w .shelf) own good f room place)
+      ∙ ap (λ n. take (slotFor own place f) (w .store) ++ take 56 f ++ drop (slotFor own place f + n) (w .store)) (before-parity f whole)
+
+  held-is : Room own f → outcome w place f (planAs (waitsIn own f)) ≡ heldOutcome
+  unfolding outcome heldOutcome
+  held-is room =
+      let p = planAs (waitsIn own f) in
+      ap (λ u. ended w (hearing.heardBy (hearing.copyBy p u) (w .shelf) place) (hearing.storeBy p u place (w .store) (take 56 f)) f) (sym same)
+      ∙ (λ i. ended w (hearing.heardBy (with-one own (waitsIn own f) (few-held card (w .shelf) own good f room) i) (w .shelf) place) (stored-it room i) f)
+
+  held-it : HearingIs own f fate·.Queued → Hears· w place f heldOutcome
+  unfolding heldOutcome
   held-it is =
       record {
         fate = fate·.Queued;
@@ -246,18 +382,13 @@ module _ (card : Card) (w : World) (runs : Runs card w) (unit place : ℕ) (d : 
         bytes = refl;
         same-shelf = λ n. absurd (n refl);
         same-store = λ n. absurd (n refl);
-        held = λ e.
-            ap (λ x. withUnit (w .shelf) place (hearing.queuedUp x (queueOf own f))) (sym same)
-            ∙ ap (withUnit (w .shelf) place) (with-copy card (w .shelf) own (runs .sound .each place (d .inside)) f (is .1));
-        stored = λ e.
-            ap (λ x. octets.splice (w .store) (places.slotAt place (places.outletSlot (x .outlet .limits) (queueOf own f) (rings.tail (outlet.queue (x .outlet) (queueOf own f)) (outlet.capacity (x .outlet .limits) (queueOf own f))))) (take 56 f)) (sym same)
-            ∙ ap (λ k. octets.splice (w .store) k (take 56 f)) (slot-for card (w .shelf) own (runs .sound .each place (d .inside)) f (is .1) place)
-            ∙ ap (λ n. take (slotFor own place f) (w .store) ++ take 56 f ++ drop (slotFor own place f + n) (w .store)) (before-parity f whole);
+        held = λ e. refl;
+        stored = λ e. refl;
       }
 
   heard-by : Planned own f → Hears· w place f (happens card w (hear unit f))
   heard-by (loses x is not e) = subst (Hears· w place f) (sym (comes ∙ ap (outcome w place f) e)) (lost x is not)
-  heard-by (holds is e) = subst (Hears· w place f) (sym (comes ∙ ap (outcome w place f) e)) (held-it is)
+  heard-by (holds is e) = subst (Hears· w place f) (sym (comes ∙ ap (outcome w place f) e ∙ held-is (is .1))) (held-it is)
 
 pub hearing-rule : OnShelves HearingRule
 hearing-rule card w runs unit place d f whole = heard-by card w runs unit place d f whole (planned (unitAt (w .shelf) place) f whole)

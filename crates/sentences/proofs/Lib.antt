@@ -3,7 +3,9 @@ pub mod Refused
 pub mod Arrives
 pub mod Hears
 pub mod Takes
+pub mod Hands
 pub mod Asks
 pub mod Listens
+pub mod Moving
 pub mod Frames
 pub mod InPlace

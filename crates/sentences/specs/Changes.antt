@@ -25,7 +25,7 @@ withUnit shelf place u =
 
 -- a unit with another ring for its inlet, or for a queue of its outlet
 abbrev pub withInlet : U.Unit → Ring → U.Unit
-withInlet u ring = record { settings = u .settings; outlet = u .outlet; inlet = ring; place = u .place; sessions = u .sessions }
+withInlet u ring = record { settings = u .settings; outlet = u .outlet; inlet = ring; side = u .side; place = u .place; sessions = u .sessions }
 
 abbrev pub withQueue : U.Unit → ℕ → Ring → U.Unit
 withQueue u q ring =
@@ -33,6 +33,19 @@ withQueue u q ring =
       settings = u .settings;
       outlet = record { limits = u .outlet .limits; queues = set (u .outlet .queues) q ring };
       inlet = u .inlet;
+      side = u .side;
+      place = u .place;
+      sessions = u .sessions;
+    }
+
+-- or with other cells beside its data queues: in its inlet, in its control outlet, in its loopback outlet
+abbrev pub withSide : U.Unit → ℕ → ℕ → Ring → ℕ → U.Unit
+withSide u controlin loopbackin controlout loopbackout =
+    record {
+      settings = u .settings;
+      outlet = u .outlet;
+      inlet = u .inlet;
+      side = record { controlin = controlin; loopbackin = loopbackin; controlout = controlout; loopbackout = loopbackout };
       place = u .place;
       sessions = u .sessions;
     }

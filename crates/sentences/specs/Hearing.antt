@@ -12,19 +12,27 @@ use Rattle.answer.specs.declared.Hearing.the-variants as hearing
 use Rattle.paper.specs.Outlets.{queueAt, ringAt, slotAt, behind, longer}
 use Rattle.paper.specs.Counters.{hearingCounts, RisenAt}
 use Rattle.paper.specs.State.{unitAt, DeclaredAt}
-use Rattle.paper.specs.Hearing.{queueOf, HearingIs}
+use Rattle.paper.specs.Hearing.{Waits, in-queue, in-control, in-loopback, waitsIn, HearingIs}
 use Rattle.document.specs.Events.{Event, hear, answers}
 use Rattle.running.specs.Events.{World, Outcome}
-use Rattle.sentences.specs.Changes.{withUnit, withQueue, withCell}
+use Rattle.sentences.specs.Changes.{withUnit, withQueue, withSide, withCell}
 
--- a copy that is queued stands behind the others in the queue of its class: where in the store, and the unit with it
+-- a copy that is queued stands behind the others in the queue of its class, in the control outlet or in the loopback outlet: where in the store, and the unit with it
+abbrev pub slotIn : U.Unit → ℕ → Waits → ℕ
+slotIn u place (in-queue q) = slotAt place (queueAt (u .outlet) q .first + behind (ringAt (u .outlet) q) (queueAt (u .outlet) q .capacity))
+slotIn u place in-control = slotAt place (129 + behind (u .side .controlout) 4)
+slotIn u place in-loopback = slotAt place 133
+
+abbrev pub withOne : U.Unit → Waits → U.Unit
+withOne u (in-queue q) = withQueue u q (longer (ringAt (u .outlet) q))
+withOne u in-control = withSide u (u .side .controlin) (u .side .loopbackin) (longer (u .side .controlout)) (u .side .loopbackout)
+withOne u in-loopback = withSide u (u .side .controlin) (u .side .loopbackin) (u .side .controlout) 1
+
 abbrev pub slotFor : U.Unit → ℕ → List ℕ → ℕ
-slotFor u place f =
-    let q = queueOf u f in
-    slotAt place (queueAt (u .outlet) q .first + behind (ringAt (u .outlet) q) (queueAt (u .outlet) q .capacity))
+slotFor u place f = slotIn u place (waitsIn u f)
 
 abbrev pub withCopy : U.Unit → List ℕ → U.Unit
-withCopy u f = withQueue u (queueOf u f) (longer (ringAt (u .outlet) (queueOf u f)))
+withCopy u f = withOne u (waitsIn u f)
 
 -- a frame of 57 bytes meets exactly one fate at the unit named with it; that fate is said and counted there, and nothing else changes but that a queued copy is held
 pub record Hears (w : World) (place : ℕ) (f : List ℕ) (o : Outcome) : Type 0 where

@@ -3,5 +3,7 @@ pub mod Refusals
 pub mod Arrival
 pub mod Hearing
 pub mod Take
+pub mod Hand
+pub mod Collect
 pub mod Frame
 pub mod Count

@@ -14,10 +14,20 @@ pub struct Settings {
     pub priority: u8,
 }
 
+// The places beside the data queues: a control cell and a loopback cell in the inlet, 0 or 1 of each; the control outlet; a loopback cell in the outlet,
+// 0 or 1.
+pub struct Side {
+    pub controlin: u8,
+    pub loopbackin: u8,
+    pub controlout: Ring,
+    pub loopbackout: u8,
+}
+
 pub struct Unit {
     pub settings: Settings,
     pub inlet: Ring,
     pub outlet: Outlet,
+    pub side: Side,
     // the byte of the memory where its VPI records start
     pub place: u32,
     // the sessions that it hears: session s is bit s % 8 of byte s / 8
@@ -31,8 +41,11 @@ pub enum Found {
 }
 
 impl Unit {
-    // how many cells an inlet holds
+    // how many data cells an inlet holds
     pub const INLET: u8 = 4;
+
+    // how many cells a control outlet holds
+    pub const CONTROL: u8 = 4;
 }
 
 // How many units are declared; there are 32 places.

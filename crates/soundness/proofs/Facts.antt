@@ -19,12 +19,13 @@ use Rattle.outlet.specs.Outlets.{Given, RingFits, RingsFit}
 use Rattle.outlet.proofs.Truth.{le-iff, lt-iff, eq-iff, and-iff, or-iff}
 use Rattle.outlet.proofs.Laws.{given-iff, fits-iff, rings-iff}
 use Rattle.arbiter.specs.Arbitration.{nobody, besides}
-use Rattle.shelf.specs.Shelves.{declared, blank, fresh, numberOf, numbers, findIn}
+use Rattle.shelf.specs.Shelves.{declared, blank, fresh, waiting, numberOf, numbers, findIn}
+use Rattle.shelf.specs.declared.Side.{Side}
 use Rattle.shelf.specs.declared.Unit as U
 use Rattle.shelf.specs.Shelf.{Shelf}
 use Rattle.shelf.specs.declared.Found.the-variants.{At}
 use Rattle.shelf.proofs.Finding.{find-at}
-use Rattle.soundness.specs.State.{every, among, noneRepeated, settingsGiven, belowBus, couldBeGiven, withinCapacity, grantHasCell, requestHasCell, nobodyOr, asksKnown, arbiterKnown, soundOf, UnitSound, DeclaredIn, Sound}
+use Rattle.soundness.specs.State.{every, among, noneRepeated, settingsGiven, belowBus, couldBeGiven, sideFits, withinCapacity, grantHasCell, requestHasCell, nobodyOr, asksKnown, arbiterKnown, soundOf, SideFits, UnitSound, DeclaredIn, Sound}
 use Rattle.soundness.proofs.Pass.{roomy-iff}
 
 -- a test that does not hold, and one that holds where another does
@@ -91,6 +92,14 @@ given-unit-iff card u =
     (and-iff (le-iff 1 (u .settings .priority)) (le-iff (u .settings .priority) 3)))
     (given-iff (u .outlet .limits))
 
+-- the places beside the data queues
+pub side-iff : (s : Side) → (sideFits s ≡ true) ↔ SideFits s
+side-iff s =
+    let e = and-iff (and-iff (and-iff (fits-iff (s .controlout) 4) (le-iff (s .controlin) 1)) (le-iff (s .loopbackin) 1)) (le-iff (s .loopbackout) 1) in (
+      λ t. let w = e .0 t in record { controlout = w .0 .0 .0; controlin = w .0 .0 .1; loopbackin = w .0 .1; loopbackout = w .1 },
+      λ w. e .1 (((w .controlout, w .controlin), w .loopbackin), w .loopbackout),
+    )
+
 -- requests of declared units alone
 asks-iff : (known : ℕ → Bool) (n : ℕ) (asks : List ℕ) → (asksKnown known n asks ≡ true) ↔ ((k : ℕ) → (getD asks k 0 ≡ 0) ⊎ (known (n + k) ≡ true))
 unfolding asksKnown
@@ -131,13 +140,13 @@ sound-iff card shelf store rows =
     (and-iff (and-iff (roomy-iff (shelf .bus) (shelf .count) store rows) (once-iff us))
     (every-iff (belowBus (shelf .bus)) (λ u. numberOf u < shelf .bus) (λ u. lt-iff (numberOf u) (shelf .bus)) us))
     (every-iff (couldBeGiven card) (SettingsGiven card) (given-unit-iff card) us))
-    (every-iff withinCapacity (λ u. RingFits (u .inlet) 4 × RingsFit (u .outlet)) (λ u. and-iff (fits-iff (u .inlet) 4) (rings-iff (u .outlet))) us))
-    (every-iff (grantHasCell (shelf .granted)) (λ u. numberOf u ≡ shelf .granted → 1 ≤ u .inlet .count)
-    (λ u. imp-iff (eq-iff (numberOf u) (shelf .granted)) (le-iff 1 (u .inlet .count))) us))
+    (every-iff withinCapacity (λ u. (RingFits (u .inlet) 4 × RingsFit (u .outlet)) × SideFits (u .side)) (λ u. and-iff (and-iff (fits-iff (u .inlet) 4) (rings-iff (u .outlet))) (side-iff (u .side))) us))
+    (every-iff (grantHasCell (shelf .granted)) (λ u. numberOf u ≡ shelf .granted → 1 ≤ waiting u)
+    (λ u. imp-iff (eq-iff (numberOf u) (shelf .granted)) (le-iff 1 (waiting u))) us))
     (every-iff (requestHasCell (shelf .granted) asks)
-    (λ u. (getD asks (numberOf u) 0 ≡ 0) ⊎ ((getD asks (numberOf u) 0 ≡ u .settings .priority) × (1 ≤ besides (u .inlet .count) (eqb (numberOf u) (shelf .granted)))))
+    (λ u. (getD asks (numberOf u) 0 ≡ 0) ⊎ ((getD asks (numberOf u) 0 ≡ u .settings .priority) × (1 ≤ besides (waiting u) (eqb (numberOf u) (shelf .granted)))))
     (λ u. or-iff (eq-iff (getD asks (numberOf u) 0) 0)
-    (and-iff (eq-iff (getD asks (numberOf u) 0) (u .settings .priority)) (le-iff 1 (besides (u .inlet .count) (eqb (numberOf u) (shelf .granted)))))) us))
+    (and-iff (eq-iff (getD asks (numberOf u) 0) (u .settings .priority)) (le-iff 1 (besides (waiting u) (eqb (numberOf u) (shelf .granted)))))) us))
     (and-iff
     (and-iff (nobodyOr-iff (shelf .granted)) (and-iff (and-iff (nobodyOr-iff (getD last 0 0)) (nobodyOr-iff (getD last 1 0))) (nobodyOr-iff (getD last 2 0))))
     (quiet-iff us asks)) in (
@@ -158,8 +167,9 @@ sound-iff card shelf store rows =
                   least = s .0 .1 .0;
                   most = s .0 .1 .1;
                   limits = s .1;
-                  inlet = k .0;
-                  queues = k .1;
+                  inlet = k .0 .0;
+                  queues = k .0 .1;
+                  side = k .1;
                   grant = w .0 .0 .1 i h;
                   ask = w .0 .1 i h;
                 };
@@ -177,7 +187,7 @@ sound-iff card shelf store rows =
                     (((((s .bus, s .count), s .store), s .rows), s .once), λ i h. at i h .below),
                     λ i h. let u = at i h in (((u .link, u .top), (u .least, u .most)), u .limits),
                   ),
-                  λ i h. (at i h .inlet, at i h .queues),
+                  λ i h. let u = at i h in ((u .inlet, u .queues), u .side),
                 ),
                 λ i h. at i h .grant,
               ),

@@ -19,9 +19,9 @@ use Rattle.outlet.specs.Outlets.{between, capacities, capacity, given, ringFits
 use Rattle.outlet.specs.declared.Limits.{Limits}
 use Rattle.outlet.specs.declared.Ring.{Ring}
 use Rattle.outlet.proofs.Laws.{given-iff, fits-iff}
-use Rattle.soundness.specs.State.{settingsGiven, unitFits}
-use Rattle.state.specs.Bytes.{col, linkOf, modeOf, limitsBy, outletBy, ringBy, unitBy}
-use Rattle.soundness.specs.Lanes.{highestLink, lesser, limitsAt, ringsAt, laneAt, laneGood, lanes}
+use Rattle.soundness.specs.State.{settingsGiven, sideFits, unitFits}
+use Rattle.state.specs.Bytes.{col, linkOf, modeOf, limitsBy, outletBy, ringBy, sideBy, unitBy}
+use Rattle.soundness.specs.Lanes.{highestLink, lesser, limitsAt, ringsAt, fixedAt, laneAt, laneGood, lanes}
 
 -- what is over 0 is not at most; the greater is 0 where both are, the lesser where one is
 pub over-zero : (n m : ℕ) → eqb (n - m) 0 ≡ leb n m
@@ -33,6 +33,13 @@ pub greater-zero : (a b c : ℕ) → a ≤ c → b ≤ c → (c ≡ a) ⊎ (c �
 greater-zero a b c h l one =
     let e = eq-iff c 0 in let f = and-iff (eq-iff a 0) (eq-iff b 0) in
     same (eqb c 0) (eqb a 0 && eqb b 0) (λ t. let z = e .0 t in f .1 (omega arith, omega arith))
+    (λ t. let w = f .0 t in ⊎-elim (λ x. e .1 (omega arith)) (λ x. e .1 (omega arith)) one)
+
+-- and at most a number where both are
+pub greater-most : (a b c n : ℕ) → a ≤ c → b ≤ c → (c ≡ a) ⊎ (c ≡ b) → leb c n ≡ (leb a n && leb b n)
+greater-most a b c n h l one =
+    let e = le-iff c n in let f = and-iff (le-iff a n) (le-iff b n) in
+    same (leb c n) (leb a n && leb b n) (λ t. let z = e .0 t in f .1 (omega arith, omega arith))
     (λ t. let w = f .0 t in ⊎-elim (λ x. e .1 (omega arith)) (λ x. e .1 (omega arith)) one)
 
 pub lesser-zero : (a b : ℕ) → eqb (lesser a b) 0 ≡ (eqb a 0 || eqb b 0)
@@ -92,53 +99,65 @@ module _ (l c v k : ℕ) where
   limits m = record { mode = modeOf m; cbrlength = l; cbrlimit = c; vbrlimit = v; mark = eqb k 1 }
 
   abbrev flat : ℕ → Bool
-  flat m = (leb k 1 && between (lesser l 1) (lesser l 1) m) && (between m l c && between 1 (cond (eqb m 0) 123 (89 - l)) v)
+  flat m = between (lesser l 1) (lesser l 1) m && (between m l c && between 1 (cond (eqb m 0) 123 (89 - l)) v)
 
-  limits-by : (m : ℕ) → flat m ≡ (leb m 1 && leb k 1 && given (limits m))
+  limits-by : (m : ℕ) → flat m ≡ (leb m 1 && given (limits m))
   unfolding modeOf
   limits-by zero =
-      let e = and-iff (and-iff (le-iff k 1) (and-iff (le-iff (lesser l 1) 0) (le-iff 0 (lesser l 1)))) (and-iff (and-iff (le-iff 0 c) (le-iff c l)) (and-iff (le-iff 1 v) (le-iff v 123))) in
-      let f = and-iff (and-iff (le-iff 0 1) (le-iff k 1)) (given-iff (limits 0)) in
-      same (flat 0) (leb 0 1 && leb k 1 && given (limits 0))
-      (λ t. let w = e .0 t in f .1 ((omega arith, w .0 .0), (omega arith, omega arith, w .1 .1 .0, w .1 .1 .1)))
-      (λ t. let w = f .0 t in e .1 ((w .0 .1, (omega arith, omega arith)), ((omega arith, omega arith), (w .1 .2, w .1 .3))))
+      let e = and-iff (and-iff (le-iff (lesser l 1) 0) (le-iff 0 (lesser l 1))) (and-iff (and-iff (le-iff 0 c) (le-iff c l)) (and-iff (le-iff 1 v) (le-iff v 123))) in
+      let f = and-iff (le-iff 0 1) (given-iff (limits 0)) in
+      same (flat 0) (leb 0 1 && given (limits 0))
+      (λ t. let w = e .0 t in f .1 (omega arith, (omega arith, omega arith, w .1 .1 .0, w .1 .1 .1)))
+      (λ t. let w = f .0 t in e .1 ((omega arith, omega arith), ((omega arith, omega arith), (w .1 .2, w .1 .3))))
   limits-by (suc zero) =
-      let e = and-iff (and-iff (le-iff k 1) (and-iff (le-iff (lesser l 1) 1) (le-iff 1 (lesser l 1)))) (and-iff (and-iff (le-iff 1 c) (le-iff c l)) (and-iff (le-iff 1 v) (le-iff v (89 - l)))) in
-      let f = and-iff (and-iff (le-iff 1 1) (le-iff k 1)) (given-iff (limits 1)) in
-      same (flat 1) (leb 1 1 && leb k 1 && given (limits 1))
-      (λ t. let w = e .0 t in f .1 ((omega arith, w .0 .0), (omega arith, omega arith, w .1 .0 .0, w .1 .0 .1, w .1 .1 .0, w .1 .1 .1)))
-      (λ t. let w = f .0 t in e .1 ((w .0 .1, (omega arith, omega arith)), ((w .1 .2, w .1 .3), (w .1 .4, w .1 .5))))
+      let e = and-iff (and-iff (le-iff (lesser l 1) 1) (le-iff 1 (lesser l 1))) (and-iff (and-iff (le-iff 1 c) (le-iff c l)) (and-iff (le-iff 1 v) (le-iff v (89 - l)))) in
+      let f = and-iff (le-iff 1 1) (given-iff (limits 1)) in
+      same (flat 1) (leb 1 1 && given (limits 1))
+      (λ t. let w = e .0 t in f .1 (omega arith, (omega arith, omega arith, w .1 .0 .0, w .1 .0 .1, w .1 .1 .0, w .1 .1 .1)))
+      (λ t. let w = f .0 t in e .1 ((omega arith, omega arith), ((w .1 .2, w .1 .3), (w .1 .4, w .1 .5))))
   limits-by (suc (suc m)) =
-      let e = and-iff (le-iff k 1) (and-iff (le-iff (lesser l 1) (suc (suc m))) (le-iff (suc (suc m)) (lesser l 1))) in
-      rw (past m 1 (omega arith)) (none (leb k 1 && between (lesser l 1) (lesser l 1) (suc (suc m))) _ (λ t. let w = e .0 t in absurd (omega arith)))
+      let e = and-iff (le-iff (lesser l 1) (suc (suc m))) (le-iff (suc (suc m)) (lesser l 1)) in
+      rw (past m 1 (omega arith)) (none (between (lesser l 1) (lesser l 1) (suc (suc m))) _ (λ t. let w = e .0 t in absurd (omega arith)))
     where
       none : (a b : Bool) → (a ≡ true → ⊥) → (a && b) ≡ false
       none true b h = absurd (h refl)
       none false b h = refl
 
   -- in mode one there is no CBR length
-  alone : (m : ℕ) → m ≡ 0 → (leb m 1 && leb k 1 && given (limits m)) ≡ true → l ≡ 0
+  alone : (m : ℕ) → m ≡ 0 → (leb m 1 && given (limits m)) ≡ true → l ≡ 0
   unfolding modeOf
-  alone zero e t = and-iff (and-iff (le-iff 0 1) (le-iff k 1)) (given-iff (limits 0)) .0 t .1 .0
+  alone zero e t = and-iff (le-iff 0 1) (given-iff (limits 0)) .0 t .1 .0
   alone (suc m) e t = absurd (omega arith)
 
--- the rings, in mode one and in mode four
-module _ (inlet q r u v : Ring) (l : ℕ) where
-  five : (a b c d e : Bool) → ((a && b) && (c && (d && e))) ≡ (a && (((b && c) && d) && e))
-  five false b c d e = refl
-  five true false c d e = refl
-  five true true false d e = refl
-  five true true true d e = refl
+-- the outlet's rings, in mode one and in mode four
+module _ (q r u v : Ring) (l : ℕ) where
+  four : (b c d e : Bool) → (b && (c && (d && e))) ≡ (((b && c) && d) && e)
+  four false c d e = refl
+  four true false d e = refl
+  four true true d e = refl
 
   rings-by : (m : ℕ) → (m ≡ 0 → l ≡ 0) →
       let caps = capacities (modeOf m) l in
-      ((ringFits inlet 4 && ringFits q (cond (eqb m 0) 123 2)) && (ringFits r l && (ringFits u (cond (eqb m 0) 0 (89 - l)) && ringFits v (cond (eqb m 0) 0 32))))
-      ≡ (ringFits inlet 4 && (ringFits q (getD caps 0 0) && ringFits r (getD caps 1 0) && ringFits u (getD caps 2 0) && ringFits v (getD caps 3 0)))
+      (ringFits q (cond (eqb m 0) 123 2) && (ringFits r l && (ringFits u (cond (eqb m 0) 0 (89 - l)) && ringFits v (cond (eqb m 0) 0 32))))
+      ≡ (ringFits q (getD caps 0 0) && ringFits r (getD caps 1 0) && ringFits u (getD caps 2 0) && ringFits v (getD caps 3 0))
   unfolding modeOf
   rings-by zero h =
-      ap (λ n. (ringFits inlet 4 && ringFits q 123) && (ringFits r n && (ringFits u 0 && ringFits v 0))) (h refl)
-      ∙ five (ringFits inlet 4) (ringFits q 123) (ringFits r 0) (ringFits u 0) (ringFits v 0)
-  rings-by (suc m) h = rw (eqb·suc-zero m) (five (ringFits inlet 4) (ringFits q 2) (ringFits r l) (ringFits u (89 - l)) (ringFits v 32))
+      ap (λ n. ringFits q 123 && (ringFits r n && (ringFits u 0 && ringFits v 0))) (h refl)
+      ∙ four (ringFits q 123) (ringFits r 0) (ringFits u 0) (ringFits v 0)
+  rings-by (suc m) h = rw (eqb·suc-zero m) (four (ringFits q 2) (ringFits r l) (ringFits u (89 - l)) (ringFits v 32))
+
+-- what has one bound in every unit: the mark, the inlet, the places beside the data queues
+sorted : (k h g c d a b e : Bool) → (((h && g) && (c && d)) && ((k && a) && (b && e))) ≡ (k && ((h && c) && ((((g && d) && a) && b) && e)))
+sorted false h g c d a b e = and-false ((h && g) && (c && d))
+sorted true false g c d a b e = refl
+sorted true true false false d a b e = refl
+sorted true true true false d a b e = refl
+sorted true true g true d a b e = sym (and-assoc (g && d) a (b && e)) ∙ sym (and-assoc ((g && d) && a) b e)
+
+fixed-by : (f : ℕ → ℕ) → fixedAt f ≡ (leb (f 9) 1 && (ringFits (ringBy f 14 15) 4 && sideFits (sideBy f)))
+fixed-by f =
+    sorted (leb (f 9) 1) (leb (f 14) 3) (leb (f 28) 3) (leb (f 15) 4) (leb (f 29) 4) (leb (f 26) 1) (leb (f 27) 1) (leb (f 30) 1)
+    ∙ (λ t. leb (f 9) 1 && (ring-flat (ringBy f 14 15) 4 t && (((ring-flat (ringBy f 28 29) 4 t && leb (f 26) 1) && leb (f 27) 1) && leb (f 30) 1)))
 
 guarded : (b x y : Bool) → (b ≡ true → x ≡ y) → (b && x) ≡ (b && y)
 guarded true x y h = h refl
@@ -149,12 +168,16 @@ turned false l h p x = refl
 turned true true h p x = refl
 turned true false h p x = refl
 
-mix : (n l s p m k g w : Bool) → (n && (((l && s) && p) && (((m && k) && g) && w))) ≡ (((l && m) && k) && ((n && ((s && p) && g)) && w))
-mix false l s p m k g w = sym (and-false ((l && m) && k))
-mix true false s p m k g w = refl
-mix true true false p m k g w = sym (and-false (m && k))
-mix true true true false m k g w = sym (and-false (m && k))
-mix true true true true m k g w = and-assoc (m && k) g w
+mix : (n l s p m g q k i w : Bool) → (n && (((l && s) && p) && ((m && g) && (q && (k && (i && w)))))) ≡ (((l && m) && k) && ((n && ((s && p) && g)) && ((i && q) && w)))
+mix false l s p m g q k i w = sym (and-false ((l && m) && k))
+mix true false s p m g q k i w = refl
+mix true true false p m g q k i w = sym (and-false (m && k))
+mix true true true false m g q k i w = sym (and-false (m && k))
+mix true true true true false g q k i w = refl
+mix true true true true true false q k i w = sym (and-false k)
+mix true true true true true true q false i w = and-false q
+mix true true true true true true q true false w = and-false q
+mix true true true true true true q true true w = refl
 
 -- all tests of a place together
 pub lane-by : (card : Card) (bus : ℕ) (b : List ℕ) (i : ℕ) → 0 < bus → col b i 3 < 256 → laneAt (highestLink card) (bus - 1) (col b i) ≡ laneGood card bus b i
@@ -162,13 +185,15 @@ unfolding unitBy unitFits settingsGiven ringsFit queueFits capacity
 lane-by card bus b i h low =
     let f = col b i in
     let o = holds card (On (linkOf (f 1))) && leb (f 2 * 256 + f 3) (highest (linkOf (f 1))) in
-    let g = leb (f 5) 1 && leb (f 9) 1 && given (limitsBy f) in
-    let w = ringFits (ringBy f 14 15) 4 && ringsFit (outletBy f) in
-    turned (leb (f 0) (bus - 1)) (leb (f 1) (highestLink card)) (leb (f 2) (cond (eqb (f 1) 0) 0 15)) (between 1 3 (f 4)) (limitsAt f && ringsAt f)
-    ∙ (λ t. below-bus (f 0) bus h t && ((link-by card (f 1) (f 2) (f 3) low t && between 1 3 (f 4)) && (limits-by (f 6) (f 7) (f 8) (f 9) (f 5) t && ringsAt f)))
+    let g = leb (f 5) 1 && given (limitsBy f) in
+    let inlet = ringFits (ringBy f 14 15) 4 in
+    turned (leb (f 0) (bus - 1)) (leb (f 1) (highestLink card)) (leb (f 2) (cond (eqb (f 1) 0) 0 15)) (between 1 3 (f 4)) (limitsAt f && (ringsAt f && fixedAt f))
+    ∙ (λ t. below-bus (f 0) bus h t && ((link-by card (f 1) (f 2) (f 3) low t && between 1 3 (f 4)) && (limits-by (f 6) (f 7) (f 8) (f 9) (f 5) t && (ringsAt f && fixedAt f))))
     ∙ ap (λ x. ltb (f 0) bus && (((leb (f 1) 1 && o) && between 1 3 (f 4)) && x))
-    (guarded g (ringsAt f) w (λ t. rings-by (ringBy f 14 15) (ringBy f 16 20) (ringBy f 17 21) (ringBy f 18 22) (ringBy f 19 23) (f 6) (f 5) (λ e. alone (f 6) (f 7) (f 8) (f 9) (f 5) e t)))
-    ∙ mix (ltb (f 0) bus) (leb (f 1) 1) o (between 1 3 (f 4)) (leb (f 5) 1) (leb (f 9) 1) (given (limitsBy f)) w
+    (guarded g (ringsAt f && fixedAt f) (ringsFit (outletBy f) && (leb (f 9) 1 && (inlet && sideFits (sideBy f)))) (λ t.
+    let rings = rings-by (ringBy f 16 20) (ringBy f 17 21) (ringBy f 18 22) (ringBy f 19 23) (f 6) (f 5) (λ e. alone (f 6) (f 7) (f 8) (f 9) (f 5) e t) in
+    (λ z. rings z && fixed-by f z)))
+    ∙ mix (ltb (f 0) bus) (leb (f 1) 1) o (between 1 3 (f 4)) (leb (f 5) 1) (given (limitsBy f)) (ringsFit (outletBy f)) (leb (f 9) 1) inlet (sideFits (sideBy f))
 
 -- places judged alike
 pub lanes-same : (f g : ℕ → Bool) (count i n : ℕ) → ((j : ℕ) → i ≤ j → j < i + n → f j ≡ g j) → lanes f count i n ≡ lanes g count i n

@@ -1,4 +1,4 @@
--- Bytes that say links, modes and marks go on saying them: where those columns and the count are as they were, and so after a ring is written, and after a frame's end. Assumes nothing.
+-- Bytes that say links, modes and marks go on saying them: where those columns and the count are as they were, and so after a ring or another byte of a column is written, and after a frame's end. Assumes nothing.
 use mathlib.Core.Path.{_≡_, ap, _∙_}
 use mathlib.Core.Bool.{_&&_}
 use mathlib.Core.List.{List}
@@ -8,8 +8,8 @@ use lib.Dec.{leb}
 use lib.ListN.{length, getD}
 use Rattle.outlet.specs.declared.Ring.{Ring}
 use Rattle.arbiter.specs.declared.Arbiter.{Arbiter}
-use Rattle.state.specs.Bytes.{col, withRing, withTurn}
-use Rattle.state.proofs.Kept.{ring-behind, ring-column}
+use Rattle.state.specs.Bytes.{col, withRing, withByte, withTurn}
+use Rattle.state.proofs.Kept.{Column, byte-own, byte-column}
 use Rattle.state.proofs.Turn.{turn-before, turn-between}
 use Rattle.soundness.specs.Lanes.{formed, lanes}
 use Rattle.soundness.specs.Soundings.{formedAll}
@@ -22,14 +22,14 @@ formed-same a b n e =
     let x = e j (omega arith) in
     (λ t. leb (x .0 t) 1 && leb (x .1 t) 1 && leb (x .2 t) 1))
 
--- the columns of rings are 14 to 23
-pub formed-ring : (b : List ℕ) (h c i : ℕ) (r : Ring) → 14 ≤ h → h < 24 → 14 ≤ c → c < 24 → i < 32 → formedAll (withRing b h c i r) ≡ formedAll b
-formed-ring b h c i r lh hh lc hc hi =
-    formed-same (withRing b h c i r) b (ring-behind b h c i r hh hc hi 805 (omega arith)) (λ j hj. (
-      ring-column b h c i r hh hc hi j 1 hj (λ e. omega arith) (λ e. omega arith),
-      ring-column b h c i r hh hc hi j 5 hj (λ e. omega arith) (λ e. omega arith),
-      ring-column b h c i r hh hc hi j 9 hj (λ e. omega arith) (λ e. omega arith),
-    ))
+-- no column from 14 on says one
+pub formed-byte : (b : List ℕ) (c i v : ℕ) → 14 ≤ c → Column c → i < 32 → formedAll (withByte b c i v) ≡ formedAll b
+formed-byte b c i v l hc hi =
+    formed-same (withByte b c i v) b (byte-own b c i v hi hc 805 (omega arith)) (λ j hj.
+    (byte-column b c i v hi j 1 hj (λ e. omega arith), byte-column b c i v hi j 5 hj (λ e. omega arith), byte-column b c i v hi j 9 hj (λ e. omega arith)))
+
+pub formed-ring : (b : List ℕ) (h c i : ℕ) (r : Ring) → 14 ≤ h → Column h → 14 ≤ c → Column c → i < 32 → formedAll (withRing b h c i r) ≡ formedAll b
+formed-ring b h c i r lh hh lc hc hi = formed-byte (withByte b h i (r .head)) c i (r .count) lc hc hi ∙ formed-byte b h i (r .head) lh hh hi
 
 pub formed-turn : (b : List ℕ) (a : Arbiter) (g n : ℕ) → length b ≡ 2048 → length (a .asks) ≡ 32 → formedAll (withTurn b a g n) ≡ formedAll b
 formed-turn b a g n long all =

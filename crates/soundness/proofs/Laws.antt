@@ -10,7 +10,7 @@ use Rattle.octets.proofs.Parts.{getD-any}
 use Rattle.header.specs.declared.Link.the-variants.{Uni}
 use Rattle.outlet.specs.declared.Mode.the-variants.{One}
 use Rattle.card.specs.declared.Card.{Card}
-use Rattle.shelf.specs.Shelves.{declared, blank, findIn}
+use Rattle.shelf.specs.Shelves.{declared, blank, emptySide, findIn}
 use Rattle.shelf.specs.declared.Unit as U
 use Rattle.shelf.specs.Shelf.{Shelf}
 use Rattle.shelf.specs.declared.Found as F
@@ -76,6 +76,7 @@ module _ (card : Card) (shelf : Shelf) (store rows : ℕ) where
         limits = u .limits;
         queues = u .queues;
         inlet = u .inlet;
+        side = u .side;
       } in
       (subst (λ x. Housed i x store) (declared-at shelf i blank k) m, omega (arith, s .rows))
 
@@ -106,6 +107,7 @@ nowhere =
       settings = record { number = 0; link = Uni; top = 0; priority = 0 };
       outlet = record { limits = record { mode = One; cbrlength = 0; cbrlimit = 0; vbrlimit = 0; mark = false }; queues = [] };
       inlet = record { head = 0; count = 0 };
+      side = emptySide;
       place = 0;
       sessions = [];
     }

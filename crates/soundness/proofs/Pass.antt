@@ -12,7 +12,7 @@ use lib.ListN.{length, getD, set, drop, replicate, length-set, drop-of-length-le
 use lib.Seq.{drop-cons, getD-set-same, getD-set-other}
 use borrow.Author.Tests.{eqb-true, eqb-false, eq-eqb, ne-eqb}
 use Rattle.outlet.proofs.Truth.{same, and-iff, or-iff, eq-iff, le-iff}
-use Rattle.shelf.specs.Shelves.{blank, numberOf, numbers}
+use Rattle.shelf.specs.Shelves.{blank, waiting, numberOf, numbers}
 use Rattle.shelf.specs.declared.Unit as U
 use Rattle.soundness.specs.State.{among, noneRepeated, roomy}
 use Rattle.soundness.specs.Lanes.{lesser}
@@ -23,7 +23,7 @@ abbrev pub priorityOf : U.Unit → ℕ
 priorityOf u = u .settings .priority
 
 abbrev pub cellsOf : U.Unit → ℕ
-cellsOf u = u .inlet .count
+cellsOf u = waiting u
 
 abbrev unmarked : List ℕ → List U.Unit → Bool
 unmarked xs [] = true

@@ -16,6 +16,7 @@ use Rattle.card.specs.declared.Card.{Card}
 use Rattle.card.specs.declared.Ask.the-variants.{On}
 use Rattle.card.specs.Cards.{holds}
 use Rattle.outlet.proofs.Truth.{le-iff, lt-iff, and-iff, or-iff}
+use Rattle.outlet.proofs.Laws.{fits-iff}
 use Rattle.shelf.specs.Shelves.{declared, blank, numberOf, numbers, findIn}
 use Rattle.shelf.specs.declared.Unit as U
 use Rattle.shelf.proofs.Finding.{declared-length, declared-at}
@@ -23,10 +24,10 @@ use Rattle.state.specs.Bytes.{col, unitBy, unitIn, shelfIn}
 use Rattle.state.proofs.Laws.{units-length, unit-at}
 use Rattle.soundness.specs.State.{every, among, noneRepeated, roomy, belowBus, settingsGiven, couldBeGiven, withinCapacity, grantHasCell, requestHasCell, arbiterKnown, unitFits, soundOf}
 use Rattle.soundness.specs.Lanes.{formed, laneGood, lanes}
-use Rattle.soundness.specs.Numbered.{standingIn, arbiterHeld, noted, notedFrom, howMany, none, cellsIn, heldIn, numbersHeld, Places, noteOf}
+use Rattle.soundness.specs.Numbered.{standing, standingIn, arbiterHeld, noted, notedFrom, howMany, none, cellsIn, heldIn, numbersHeld, Places, noteOf}
 use Rattle.soundness.specs.Soundings.{formedAll, soundIn, looked}
 use Rattle.soundness.proofs.Pass.{priorityOf, cellsOf, Placed, all-placed, counted, roomy-iff, bus-most}
-use Rattle.soundness.proofs.Facts.{every-iff}
+use Rattle.soundness.proofs.Facts.{every-iff, side-iff}
 use Rattle.soundness.proofs.Numbered.{Ranged, stands-some, noted-found, numbers-document}
 
 split : (k i : ℕ) → k ≤ i → (k ≡ i) ⊎ (suc k ≤ i)
@@ -63,11 +64,10 @@ lanes-all good count k (suc n) g =
         less (inl h) e = absurd (false≢true (sym e ∙ le-iff count k .1 h))
         less (inr h) e = h
 
--- one place more is noted
-pub one-more : (b : List ℕ) (granted : ℕ) (each : List ℕ) (i n : ℕ) → i < length each → ((j : ℕ) → j < i → getD each j 0 ≡ 8 * j + standingIn granted (col b j)) → n ≡ 8 * i + standingIn granted (col b i) →
-    (j : ℕ) → j < i + 1 → getD (set each i n) j 0 ≡ 8 * j + standingIn granted (col b j)
-one-more b granted each i n l g e j h =
-    ⊎-elim (λ x. subst (λ k. getD (set each i n) k 0 ≡ 8 * k + standingIn granted (col b k)) (sym x) (getD-set-same each i n 0 l ∙ e)) (λ x. getD-set-other each i j n 0 (λ y. omega arith) ∙ g j (omega arith))
+-- one place more of an array holds what it should
+pub one-more : (f : ℕ → ℕ) (each : List ℕ) (i n : ℕ) → i < length each → ((j : ℕ) → j < i → getD each j 0 ≡ f j) → n ≡ f i → (j : ℕ) → j < i + 1 → getD (set each i n) j 0 ≡ f j
+one-more f each i n l g e j h =
+    ⊎-elim (λ x. subst (λ k. getD (set each i n) k 0 ≡ f k) (sym x) (getD-set-same each i n 0 l ∙ e)) (λ x. getD-set-other each i j n 0 (λ y. omega arith) ∙ g j (omega arith))
     (split j i (omega arith))
 
 -- two tests, and one of them
@@ -141,8 +141,10 @@ module _ (b : List ℕ) where
   unfolding notedFrom noted unitBy
   left p held i zero e = let l = long (p .0) in sym (ap (noted (getD b 803 0) held i) (drop-of-length-le us {i = i} (omega arith)))
   left p held i (suc n) e =
-      ap (λ k. notedFrom b (set held k (8 * i + standingIn (getD b 803 0) (col b i))) (suc i) n) (mod-eq-of-lt (p .1 i (omega arith)))
-      ∙ left p (set held (col b i 0) (8 * i + standingIn (getD b 803 0) (col b i))) (suc i) n (omega arith)
+      let w = p .1 i (omega arith) in
+      let f = col b i in
+      (λ t. notedFrom b (set held (mod-eq-of-lt (w .0) t) (8 * i + standing (f 4) (mod-eq-of-lt (w .1) t) (f 0) (getD b 803 0))) (suc i) n)
+      ∙ left p (set held (f 0) (8 * i + standing (f 4) (f 15 + f 26 + f 27) (f 0) (getD b 803 0))) (suc i) n (omega arith)
       ∙ sym (ap (noted (getD b 803 0) held i) (next (p .0) i (omega arith)))
 
   pub all-noted : Places b → notedFrom b none 0 count ≡ heldIn b
@@ -226,12 +228,14 @@ module _ (card : Card) (b : List ℕ) (store rows : ℕ) where
         λ i h.
             let m = bus-most bus (count b) store rows t in
             let n = lt-iff (col b i 0) bus .0 (first (belowBus bus (unitIn b i)) (couldBeGiven card (unitIn b i)) (first (belowBus bus (unitIn b i) && couldBeGiven card (unitIn b i)) (withinCapacity (unitIn b i)) (parts i h .1))) in
-            omega (arith, n, m),
+            let w = and-iff (and-iff (fits-iff (unitIn b i .inlet) 4) Iff·rfl) (side-iff (unitIn b i .side)) .0 (second (belowBus bus (unitIn b i) && couldBeGiven card (unitIn b i)) (withinCapacity (unitIn b i)) (parts i h .1)) in
+            let s = w .1 in
+            (omega (arith, n, m), omega (arith, w .0 .0 .held, s .controlin, s .loopbackin)),
       )
 
       cells : (i : ℕ) → i < length (us b) → cellsIn b i ≡ cellsOf (getD (us b) i blank)
       unfolding unitBy
-      cells i h = let l = long b few in sym (ap cellsOf (there b few i (omega arith)))
+      cells i h = let l = long b few in let c : i < count b = omega arith in mod-eq-of-lt (places .1 i c .1) ∙ sym (ap cellsOf (there b few i c))
 
       by-number : soundIn card b store rows ≡ numbersHeld b
       unfolding soundIn soundOf

@@ -8,12 +8,13 @@ use Rattle.outlet.specs.Outlets.{Given, RingFits, RingsFit}
 use Rattle.outlet.specs.declared.Ring.{Ring}
 use Rattle.store.specs.Places.{Inside}
 use Rattle.shelf.specs.Shelves.{declared, blank, findIn}
+use Rattle.shelf.specs.declared.Side.{Side}
 use Rattle.shelf.specs.declared.Unit as U
 use Rattle.shelf.specs.Shelf.{Shelf}
 use Rattle.shelf.specs.declared.Found as F
 use Rattle.shelf.specs.declared.Found.the-variants as found
 use Rattle.state.specs.Bytes.{shelfIn}
-use Rattle.soundness.specs.State.{soundOf}
+use Rattle.soundness.specs.State.{soundOf, SideFits}
 use Rattle.soundness.specs.Soundings.{formedAll}
 use Rattle.soundness.specs.declared.Admitted as A
 use Rattle.soundness.specs.declared.Admitted.the-variants.{At, Refused}
@@ -69,7 +70,7 @@ withUnit shelf place u =
 
 -- the unit with another ring for its inlet, or for a queue of its outlet
 abbrev pub withInlet : U.Unit → Ring → U.Unit
-withInlet u ring = record { settings = u .settings; outlet = u .outlet; inlet = ring; place = u .place; sessions = u .sessions }
+withInlet u ring = record { settings = u .settings; outlet = u .outlet; inlet = ring; side = u .side; place = u .place; sessions = u .sessions }
 
 abbrev pub withQueue : U.Unit → ℕ → Ring → U.Unit
 withQueue u q ring =
@@ -77,9 +78,14 @@ withQueue u q ring =
       settings = u .settings;
       outlet = record { limits = u .outlet .limits; queues = set (u .outlet .queues) q ring };
       inlet = u .inlet;
+      side = u .side;
       place = u .place;
       sessions = u .sessions;
     }
+
+-- the unit with other places beside its data queues
+abbrev pub withSide : U.Unit → Side → U.Unit
+withSide u side = record { settings = u .settings; outlet = u .outlet; inlet = u .inlet; side = side; place = u .place; sessions = u .sessions }
 
 -- the unit in a place has its part of a store of so many bytes, and its queues have their places there
 pub record Housed (place : ℕ) (u : U.Unit) (bytes : ℕ) : Type 0 where
@@ -88,3 +94,4 @@ pub record Housed (place : ℕ) (u : U.Unit) (bytes : ℕ) : Type 0 where
   pub limits : Given (u .outlet .limits)
   pub queues : RingsFit (u .outlet)
   pub inlet : RingFits (u .inlet) 4
+  pub side : SideFits (u .side)

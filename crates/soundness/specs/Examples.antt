@@ -11,10 +11,11 @@ use Rattle.card.specs.declared.Card.the-variants.{Narrow, Wide}
 use Rattle.outlet.specs.declared.Mode.the-variants.{One, Four}
 use Rattle.outlet.specs.declared.Ring.{Ring}
 use Rattle.arbiter.specs.Arbitration.{nobody}
-use Rattle.shelf.specs.Shelves.{blank, fresh}
+use Rattle.shelf.specs.Shelves.{blank, emptySide, fresh}
 use Rattle.shelf.specs.declared.Settings.{Settings}
 use Rattle.shelf.specs.declared.Unit as U
 use Rattle.shelf.specs.Shelf.{Shelf}
+use Rattle.soundness.specs.Admission.{withSide}
 use Rattle.soundness.specs.State.{every, soundOf}
 
 abbrev ring : ℕ → ℕ → Ring
@@ -33,6 +34,7 @@ one s limit first second inlet =
         queues = first ∷ second ∷ ring 0 0 ∷ ring 0 0 ∷ [];
       };
       inlet = inlet;
+      side = emptySide;
       place = 1000000000;
       sessions = 7 ∷ 0 ∷ 0 ∷ 9 ∷ [];
     }
@@ -50,9 +52,17 @@ fourteen =
         queues = ring 1 2 ∷ ring 39 40 ∷ ring 0 49 ∷ ring 31 0 ∷ [];
       };
       inlet = ring 0 1;
+      side = emptySide;
       place = 0;
       sessions = replicate 32 0;
     }
+
+-- unit 5 with so many data cells in its inlet, and with these places beside its data queues: control and loopback cell in the inlet, control outlet,
+-- loopback cell in the outlet
+abbrev with : ℕ → ℕ → ℕ → Ring → ℕ → U.Unit
+with cells controlin loopbackin controlout loopbackout =
+    withSide (one (settings 5 Uni 255 2) 123 (ring 122 123) (ring 0 0) (ring 3 cells))
+    (record { controlin = controlin; loopbackin = loopbackin; controlout = controlout; loopbackout = loopbackout })
 
 -- requests: of one more unit; of both
 abbrev ask : ℕ → ℕ → List ℕ → List ℕ
@@ -115,15 +125,33 @@ examples =
     ∷ refused (units (one (settings 5 Uni 255 2) 123 (ring 122 123) (ring 0 1) (ring 3 2) ∷ fourteen ∷ []))
     ∷ refused (units (one (settings 5 Uni 255 2) 123 (ring 122 123) (ring 0 0) (ring 4 2) ∷ fourteen ∷ []))
     ∷ refused (units (one (settings 5 Uni 255 2) 123 (ring 122 123) (ring 0 0) (ring 3 5) ∷ fourteen ∷ []))
+    -- 02, W1: of the control outlet, of each single place
+    ∷ sound Narrow (units (with 2 1 1 (ring 3 4) 1 ∷ fourteen ∷ []))
+    ∷ refused (units (with 2 0 0 (ring 4 0) 0 ∷ fourteen ∷ []))
+    ∷ refused (units (with 2 0 0 (ring 0 5) 0 ∷ fourteen ∷ []))
+    ∷ refused (units (with 2 2 0 (ring 0 0) 0 ∷ fourteen ∷ []))
+    ∷ refused (units (with 2 0 2 (ring 0 0) 0 ∷ fourteen ∷ []))
+    ∷ refused (units (with 2 0 0 (ring 0 0) 2 ∷ fourteen ∷ []))
     -- "an open grant at a unit without a cell", and at one that is not declared
     ∷ refused (shelf 16 2 (one (settings 5 Uni 255 2) 123 (ring 122 123) (ring 0 0) (ring 3 0) ∷ fourteen ∷ []) 5 lasts (ask 14 3 (replicate 32 0)))
     ∷ refused (shelf 16 2 (five ∷ fourteen ∷ []) 6 lasts both)
     ∷ refused (shelf 16 2 (five ∷ fourteen ∷ []) 37 lasts both)
+    -- 02, W1: one with a control cell alone, one with a loopback cell alone, one with cells in its outlets alone
+    ∷ sound Narrow (shelf 16 2 (with 0 1 0 (ring 0 0) 0 ∷ fourteen ∷ []) 5 lasts (ask 14 3 (replicate 32 0)))
+    ∷ sound Narrow (shelf 16 2 (with 0 0 1 (ring 0 0) 0 ∷ fourteen ∷ []) 5 lasts (ask 14 3 (replicate 32 0)))
+    ∷ refused (shelf 16 2 (with 0 0 0 (ring 0 4) 1 ∷ fourteen ∷ []) 5 lasts (ask 14 3 (replicate 32 0)))
     -- "a request at one without a cell besides a granted one", at another priority, at a number that is not declared
     ∷ refused (units (one (settings 5 Uni 255 2) 123 (ring 122 123) (ring 0 0) (ring 3 1) ∷ fourteen ∷ []))
     ∷ refused (shelf 16 2 (one (settings 5 Uni 255 2) 123 (ring 122 123) (ring 0 0) (ring 3 0) ∷ fourteen ∷ []) nobody lasts both)
     ∷ refused (shelf 16 2 (five ∷ fourteen ∷ []) 5 lasts (ask 5 3 both))
     ∷ refused (shelf 16 2 (five ∷ fourteen ∷ []) 5 lasts (ask 6 2 both))
+    -- 02, W1: a control cell or a loopback cell besides a granted one, and alone
+    ∷ sound Narrow (units (with 1 1 0 (ring 0 0) 0 ∷ fourteen ∷ []))
+    ∷ sound Narrow (units (with 1 0 1 (ring 0 0) 0 ∷ fourteen ∷ []))
+    ∷ sound Narrow (units (with 0 1 1 (ring 0 0) 0 ∷ fourteen ∷ []))
+    ∷ sound Narrow (shelf 16 2 (with 0 1 0 (ring 0 0) 0 ∷ fourteen ∷ []) nobody lasts both)
+    ∷ refused (units (with 0 1 0 (ring 0 0) 0 ∷ fourteen ∷ []))
+    ∷ refused (units (with 0 0 1 (ring 0 0) 0 ∷ fourteen ∷ []))
     -- "a last granted unit not declared"
     ∷ refused (shelf 16 2 (five ∷ fourteen ∷ []) 5 (nobody ∷ 6 ∷ 14 ∷ []) both)
     ∷ refused (shelf 16 2 (five ∷ fourteen ∷ []) 5 (32 ∷ 5 ∷ 14 ∷ []) both)

@@ -35,13 +35,17 @@ abbrev pub lesser : ℕ → ℕ → ℕ
 lesser a b = a - (a - b)
 
 abbrev pub limitsAt : (ℕ → ℕ) → Bool
-limitsAt f = (leb (f 9) 1 && between (lesser (f 6) 1) (lesser (f 6) 1) (f 5)) && (between (f 5) (f 6) (f 7) && between 1 (cond (eqb (f 5) 0) 123 (89 - f 6)) (f 8))
+limitsAt f = between (lesser (f 6) 1) (lesser (f 6) 1) (f 5) && (between (f 5) (f 6) (f 7) && between 1 (cond (eqb (f 5) 0) 123 (89 - f 6)) (f 8))
 
--- of the rings
+-- of the outlet's rings,
 abbrev pub ringsAt : (ℕ → ℕ) → Bool
 ringsAt f =
-    (ringFits (ringBy f 14 15) 4 && ringFits (ringBy f 16 20) (cond (eqb (f 5) 0) 123 2))
+    ringFits (ringBy f 16 20) (cond (eqb (f 5) 0) 123 2)
     && (ringFits (ringBy f 17 21) (f 6) && (ringFits (ringBy f 18 22) (cond (eqb (f 5) 0) 0 (89 - f 6)) && ringFits (ringBy f 19 23) (cond (eqb (f 5) 0) 0 32)))
 
+-- and of what has one bound in every unit: inlet and control outlet, mark and single places
+abbrev pub fixedAt : (ℕ → ℕ) → Bool
+fixedAt f = ((leb (f 14) 3 && leb (f 28) 3) && (leb (f 15) 4 && leb (f 29) 4)) && ((leb (f 9) 1 && leb (f 26) 1) && (leb (f 27) 1 && leb (f 30) 1))
+
 abbrev pub laneAt : ℕ → ℕ → (ℕ → ℕ) → Bool
-laneAt links last f = settingsAt links last f && (limitsAt f && ringsAt f)
+laneAt links last f = settingsAt links last f && (limitsAt f && (ringsAt f && fixedAt f))

@@ -5,7 +5,7 @@ use mathlib.Core.Bool.{Bool, true, not, cond, _&&_, _||_}
 use mathlib.Core.List.{List, [], _∷_}
 use lib.Dec.{eqb, leb}
 use lib.ListN.{getD, set, replicate}
-use Rattle.shelf.specs.Shelves.{declared, blank, numberOf}
+use Rattle.shelf.specs.Shelves.{declared, blank, waiting, numberOf}
 use Rattle.shelf.specs.declared.Unit as U
 use Rattle.shelf.specs.declared.Found.{Found}
 use Rattle.shelf.specs.declared.Found.the-variants.{At, Nothing}
@@ -19,10 +19,10 @@ abbrev pub standing : ℕ → ℕ → ℕ → ℕ → ℕ
 standing priority cells number granted = cond (leb 1 (besides cells (eqb number granted))) (priority % 4) 4
 
 abbrev pub standingIn : ℕ → (ℕ → ℕ) → ℕ
-standingIn granted f = standing (f 4) (f 15) (f 0) granted
+standingIn granted f = standing (f 4) ((f 15 + f 26 + f 27) % 256) (f 0) granted
 
 abbrev pub stands : ℕ → U.Unit → ℕ
-stands granted u = standing (u .settings .priority) (u .inlet .count) (numberOf u) granted
+stands granted u = standing (u .settings .priority) (waiting u) (numberOf u) granted
 
 -- what is noted of the unit in a place: 8 times the place, and how it stands; of each place; of the unit that was found
 abbrev pub note : ℕ → ℕ → U.Unit → ℕ
@@ -80,7 +80,7 @@ none = replicate 32 0
 
 -- of lent bytes; there is a place for each
 abbrev pub cellsIn : List ℕ → ℕ → ℕ
-cellsIn b i = col b i 15
+cellsIn b i = (col b i 15 + col b i 26 + col b i 27) % 256
 
 abbrev pub heldIn : List ℕ → List ℕ
 heldIn b = noted (getD b 803 0) none 0 (declared (shelfIn b))
@@ -91,4 +91,4 @@ numbersHeld b =
     && arbiterHeld (cellsIn b) (heldIn b) (getD b 803 0) (shelfIn b .arbiter .last) (shelfIn b .arbiter .asks)
 
 abbrev pub Places : List ℕ → Type 0
-Places b = (getD b 805 0 ≤ 32) × ((i : ℕ) → i < getD b 805 0 → col b i 0 < 32)
+Places b = (getD b 805 0 ≤ 32) × ((i : ℕ) → i < getD b 805 0 → (col b i 0 < 32) × (col b i 15 + col b i 26 + col b i 27 < 256))

@@ -16,8 +16,9 @@ use Rattle.card.specs.declared.Ask.the-variants.{On}
 use Rattle.card.specs.Cards.{holds}
 use Rattle.outlet.specs.Outlets.{between, given, Given, ringFits, RingFits, ringsFit, RingsFit}
 use Rattle.arbiter.specs.Arbitration.{nobody, besides}
-use Rattle.shelf.specs.Shelves.{declared, blank, numberOf, numbers}
+use Rattle.shelf.specs.Shelves.{declared, blank, waiting, numberOf, numbers}
 use Rattle.shelf.specs.declared.Settings.{Settings}
+use Rattle.shelf.specs.declared.Side.{Side}
 use Rattle.shelf.specs.declared.Unit as U
 use Rattle.shelf.specs.Shelf.{Shelf}
 
@@ -49,8 +50,12 @@ belowBus bus u = ltb (numberOf u) bus
 abbrev pub couldBeGiven : Card → U.Unit → Bool
 couldBeGiven card u = settingsGiven card (u .settings) && given (u .outlet .limits)
 
+-- 02, W1: "a four-cell control outlet", and single places
+abbrev pub sideFits : Side → Bool
+sideFits s = ringFits (s .controlout) 4 && leb (s .controlin) 1 && leb (s .loopbackin) 1 && leb (s .loopbackout) 1
+
 abbrev pub withinCapacity : U.Unit → Bool
-withinCapacity u = ringFits (u .inlet) 4 && ringsFit (u .outlet)
+withinCapacity u = ringFits (u .inlet) 4 && ringsFit (u .outlet) && sideFits (u .side)
 
 unfoldable pub unitFits : Card → ℕ → U.Unit → Bool
 unitFits card bus u = belowBus bus u && couldBeGiven card u && withinCapacity u
@@ -64,10 +69,10 @@ abbrev pub askHeld : ℕ → ℕ → ℕ → ℕ → ℕ → Bool
 askHeld granted ask number priority cells = eqb ask 0 || eqb ask priority && leb 1 (besides cells (eqb number granted))
 
 abbrev pub grantHasCell : ℕ → U.Unit → Bool
-grantHasCell granted u = grantHeld granted (numberOf u) (u .inlet .count)
+grantHasCell granted u = grantHeld granted (numberOf u) (waiting u)
 
 abbrev pub requestHasCell : ℕ → List ℕ → U.Unit → Bool
-requestHasCell granted asks u = askHeld granted (getD asks (numberOf u) 0) (numberOf u) (u .settings .priority) (u .inlet .count)
+requestHasCell granted asks u = askHeld granted (getD asks (numberOf u) 0) (numberOf u) (u .settings .priority) (waiting u)
 
 -- "a last granted unit not declared", before any grant nobody; the same of an open grant. `known` says which numbers are declared
 abbrev pub nobodyOr : (ℕ → Bool) → ℕ → Bool
@@ -96,7 +101,14 @@ soundOf card shelf store rows =
     && every (requestHasCell (shelf .granted) (shelf .arbiter .asks)) (declared shelf)
     && arbiterKnown (among (numbers (declared shelf))) (shelf .granted) (shelf .arbiter .last) (shelf .arbiter .asks)
 
--- The same item by item, as facts. A declared unit
+-- The same item by item, as facts. The places beside the data queues
+pub record SideFits (s : Side) : Type 0 where
+  pub controlout : RingFits (s .controlout) 4
+  pub controlin : s .controlin ≤ 1
+  pub loopbackin : s .loopbackin ≤ 1
+  pub loopbackout : s .loopbackout ≤ 1
+
+-- A declared unit
 pub record UnitSound (card : Card) (bus granted : ℕ) (asks : List ℕ) (u : U.Unit) : Type 0 where
   pub below : numberOf u < bus
   pub link : u .settings .link ≡ Nni → card ≡ Wide
@@ -106,8 +118,9 @@ pub record UnitSound (card : Card) (bus granted : ℕ) (asks : List ℕ) (u : U.
   pub limits : Given (u .outlet .limits)
   pub inlet : RingFits (u .inlet) 4
   pub queues : RingsFit (u .outlet)
-  pub grant : numberOf u ≡ granted → 1 ≤ u .inlet .count
-  pub ask : (getD asks (numberOf u) 0 ≡ 0) ⊎ ((getD asks (numberOf u) 0 ≡ u .settings .priority) × (1 ≤ besides (u .inlet .count) (eqb (numberOf u) granted)))
+  pub side : SideFits (u .side)
+  pub grant : numberOf u ≡ granted → 1 ≤ waiting u
+  pub ask : (getD asks (numberOf u) 0 ≡ 0) ⊎ ((getD asks (numberOf u) 0 ≡ u .settings .priority) × (1 ≤ besides (waiting u) (eqb (numberOf u) granted)))
 
 -- a unit with this number is declared
 abbrev pub DeclaredIn : List U.Unit → ℕ → Type 0

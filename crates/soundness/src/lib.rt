@@ -4,16 +4,16 @@ use card::Card;
 use outlet::Outlet;
 use shelf::Unit;
 ghost use mathlib.Core.Path.{_≡_};
-ghost use mathlib.Core.Bool.{_&&_, cond};
+ghost use mathlib.Core.Bool.{true, _&&_, cond};
 ghost use mathlib.Core.Logic.{_⊎_};
-ghost use Prim.Native.Nat.{_-_, _/_, _<_, _≤_};
+ghost use Prim.Native.Nat.{ℕ, _-_, _/_, _<_, _≤_};
 ghost use lib.Dec.{eqb, leb};
 ghost use lib.ListN.{length, getD};
 ghost use Rattle.outlet.specs.Outlets.{between, ringFits};
 ghost use Rattle.state.specs.Bytes.{col, ringBy};
 ghost use Rattle.soundness.specs.State.{roomy as roomyIn, nobodyOr};
-ghost use Rattle.soundness.specs.Lanes.{highestLink, lesser, settingsAt, limitsAt, ringsAt, laneAt, laneGood, lanes};
-ghost use Rattle.soundness.specs.Numbered.{marks, standing as standingOf, Notes, asksHeld, grantIn, cellsIn, howMany, notedFrom};
+ghost use Rattle.soundness.specs.Lanes.{highestLink, lesser, settingsAt, limitsAt, ringsAt, fixedAt, laneAt, laneGood, lanes};
+ghost use Rattle.soundness.specs.Numbered.{marks, standing as standingOf, Notes, asksHeld, grantIn, cellsIn, howMany, notedFrom, none, heldIn};
 ghost use Rattle.soundness.specs.Soundings.{soundIn, looked};
 ghost use Rattle.soundness.specs.Admission.{admittedIn, toldApart, countedIn};
 
@@ -95,7 +95,7 @@ fn settings_over(s: &[u8], i: usize, links: u8, last: u8) -> u8
     )
 }
 
-// The limits: the mode is 1 exactly where there is a CBR length.
+// The limits but the mark: the mode is 1 exactly where there is a CBR length.
 fn limits_over(s: &[u8], i: usize) -> u8
     requires { ⌜ (length (now s) ≡ 2048) × (i < 32) ⌝ }
     ensures { λ r. ⌜ eqb r 0 ≡ limitsAt (col (now (s .entry)) i) ⌝ }
@@ -105,7 +105,7 @@ fn limits_over(s: &[u8], i: usize) -> u8
     let some = least(cbrlength, 1);
     let vbrmost = by(mode, Outlet::ONE, over(Outlet::SHARED, cbrlength));
     worse(
-        worse(over(state::at(s, 9, i), 1), outside(some, some, mode)),
+        outside(some, some, mode),
         worse(
             outside(mode, cbrlength, state::at(s, 7, i)),
             outside(1, vbrmost, state::at(s, 8, i)),
@@ -113,7 +113,7 @@ fn limits_over(s: &[u8], i: usize) -> u8
     )
 }
 
-// The rings: the inlet's and the four of the outlet, of which mode one has one.
+// The four rings of the outlet, of which mode one has one.
 fn rings_over(s: &[u8], i: usize) -> u8
     requires { ⌜ (length (now s) ≡ 2048) × (i < 32) ⌝ }
     ensures { λ r. ⌜ eqb r 0 ≡ ringsAt (col (now (s .entry)) i) ⌝ }
@@ -122,16 +122,46 @@ fn rings_over(s: &[u8], i: usize) -> u8
     let cbrlength = state::at(s, 6, i);
     let vbrlength = by(mode, 0, over(Outlet::SHARED, cbrlength));
     worse(
-        worse(
-            ring_over(s, i, 14, 15, Unit::INLET),
-            ring_over(s, i, 16, 20, by(mode, Outlet::ONE, Outlet::CONTROL)),
-        ),
+        ring_over(s, i, 16, 20, by(mode, Outlet::ONE, Outlet::CONTROL)),
         worse(
             ring_over(s, i, 17, 21, cbrlength),
             worse(
                 ring_over(s, i, 18, 22, vbrlength),
                 ring_over(s, i, 19, 23, by(mode, 0, Outlet::ABR)),
             ),
+        ),
+    )
+}
+
+// The greater of two bytes: at most a number where both are.
+fn greater(a: u8, b: u8) -> u8
+    ensures { λ r. ⌜ ((n : ℕ) → leb r n ≡ (leb a n && leb b n)) ⌝ }
+{
+    if b < a { a } else { b }
+}
+
+// The same of two columns.
+fn greater_at(s: &[u8], i: usize, a: usize, b: usize) -> u8
+    requires { ⌜ (length (now s) ≡ 2048) × (i < 32) × (a < 32) × (b < 32) ⌝ }
+    ensures { λ r. ⌜ ((n : ℕ) → leb r n ≡ (leb (col (now (s .entry)) i a) n && leb (col (now (s .entry)) i b) n)) ⌝ }
+{
+    greater(state::at(s, a, i), state::at(s, b, i))
+}
+
+// What has one bound in every unit: inlet and control outlet have four places each, the mark and the single places are 0 or 1. Bytes with the same bound
+// share a test.
+fn fixed_over(s: &[u8], i: usize) -> u8
+    requires { ⌜ (length (now s) ≡ 2048) × (i < 32) ⌝ }
+    ensures { λ r. ⌜ eqb r 0 ≡ fixedAt (col (now (s .entry)) i) ⌝ }
+{
+    worse(
+        worse(
+            over(greater_at(s, i, 14, 28), Unit::INLET - 1),
+            over(greater_at(s, i, 15, 29), Unit::INLET),
+        ),
+        over(
+            greater(greater_at(s, i, 9, 26), greater_at(s, i, 27, 30)),
+            1,
         ),
     )
 }
@@ -143,7 +173,7 @@ fn lane(s: &[u8], i: usize, links: u8, last: u8) -> u8
 {
     worse(
         settings_over(s, i, links, last),
-        worse(limits_over(s, i), rings_over(s, i)),
+        worse(limits_over(s, i), worse(rings_over(s, i), fixed_over(s, i))),
     )
 }
 
@@ -191,6 +221,17 @@ fn standing(priority: u8, cells: u8, number: u8, granted: u8) -> u8
     }
 }
 
+// How many cells wait in the inlet of the unit in a place. By 256, as any byte may stand there until the places are judged.
+fn cells(s: &[u8], i: usize) -> u8
+    requires { ⌜ (length (now s) ≡ 2048) × (i < 32) ⌝ }
+    ensures { λ r. ⌜ r ≡ cellsIn (now (s .entry)) i ⌝ }
+{
+    std::num::wrapping_add_u8(
+        std::num::wrapping_add_u8(state::at(s, 15, i), state::at(s, 26, i)),
+        state::at(s, 27, i),
+    )
+}
+
 // What is noted of each place: 8 times the place, and how its unit stands.
 fn notes(s: &[u8], granted: u8) -> [u8; 32]
     requires { ⌜ length (now s) ≡ 2048 ⌝ }
@@ -199,12 +240,7 @@ fn notes(s: &[u8], granted: u8) -> [u8; 32]
     let mut each = [0; 32];
     let mut i: usize = 0;
     while i < 32 {
-        let stands = standing(
-            state::at(s, 4, i),
-            state::at(s, 15, i),
-            state::at(s, 0, i),
-            granted,
-        );
+        let stands = standing(state::at(s, 4, i), cells(s, i), state::at(s, 0, i), granted);
         each[i] = 8 * (i as u8) + stands;
         i += 1;
     }
@@ -236,7 +272,7 @@ fn grant_held(s: &[u8], held: [u8; 32], granted: u8) -> bool
 {
     if granted < 32 {
         let note = held[granted as usize];
-        (note != 0) & (1 <= state::at(s, 15, place_of(note)))
+        (note != 0) & (1 <= cells(s, place_of(note)))
     } else {
         granted == NOBODY
     }
@@ -283,37 +319,40 @@ fn note_all(s: &[u8], held: &mut [u8; 32])
     }
 }
 
-// What is noted of the unit with this number, 0 where none has it; 255 of a state that is not sound. Each unit by itself, all places at once; then
+// What is noted of the unit with this number, 0 where none has it; 255 of a state that is not sound. The notes of all numbers stand where the caller
+// lends room for them, which holds zeros. Each unit by itself, all places at once; then
 // by number: as many notes as units, so no number twice, and the open grant, the last grants and the requests are such as the units could have.
-fn look(card: Card, s: &[u8], store: usize, rows: usize, unit: u8) -> u8
-    requires { ⌜ length (now s) ≡ 2048 ⌝ }
+fn look(card: Card, s: &[u8], store: usize, rows: usize, unit: u8, held: &mut [u8; 32]) -> u8
+    requires { ⌜ (length (now s) ≡ 2048) × (now held ≡ none) ⌝ }
     ensures { λ r. ⌜ r ≡ looked card (now (s .entry)) store rows unit ⌝ }
+    ensures noted { λ r. ⌜ ((r ≡ 255 → ⊥) → now (held .exit) ≡ heldIn (now (s .entry))) ⌝ }
 {
     let bus = s[804];
     let count = s[805];
     if !roomy(bus, count, store, rows) {
         return 255;
     }
-    let mut held = [0; 32];
-    note_all(s, &mut held);
+    note_all(s, held);
     if !units_good(s, card, bus, count) {
         return 255;
     }
-    let good = (how_many(held) == count)
-        & (grant_held(s, held, s[803])
-            & (nobody_or(held, s[800]) & nobody_or(held, s[801]) & nobody_or(held, s[802]))
-            & asks_held(held, state::asks_at(s)));
+    let good = (how_many(*held) == count)
+        & (grant_held(s, *held, s[803])
+            & (nobody_or(*held, s[800]) & nobody_or(*held, s[801]) & nobody_or(*held, s[802]))
+            & asks_held(*held, state::asks_at(s)));
     if !good {
         return 255;
     }
     if unit < 32 { held[unit as usize] } else { 0 }
 }
 
-pub fn sound(card: Card, s: &[u8], store: usize, rows: usize) -> bool
-    requires { ⌜ length (now s) ≡ 2048 ⌝ }
+// Whether a state is sound; and then what is noted of each number, so that a frame need not walk the units again to see who asks.
+pub fn sound(card: Card, s: &[u8], store: usize, rows: usize, held: &mut [u8; 32]) -> bool
+    requires { ⌜ (length (now s) ≡ 2048) × (now held ≡ none) ⌝ }
     ensures { λ r. ⌜ r ≡ soundIn card (now (s .entry)) store rows ⌝ }
+    ensures noted { λ r. ⌜ (r ≡ true → now (held .exit) ≡ heldIn (now (s .entry))) ⌝ }
 {
-    look(card, s, store, rows, 0) != 255
+    look(card, s, store, rows, 0, held) != 255
 }
 
 // The unit stands in this place, or the event is refused with this number.
@@ -333,7 +372,8 @@ pub fn admit(card: Card, s: &[u8], store: usize, rows: usize, unit: u8, right: b
     requires { ⌜ length (now s) ≡ 2048 ⌝ }
     ensures { λ r. ⌜ r ≡ admittedIn card (now (s .entry)) store rows unit right ⌝ }
 {
-    let note = look(card, s, store, rows, unit);
+    let mut held = [0; 32];
+    let note = look(card, s, store, rows, unit, &mut held);
     if note == 255 {
         return Admitted::Refused(8);
     }

@@ -10,7 +10,7 @@ use Rattle.arbiter.specs.Arbitration.{nobody}
 use Rattle.shelf.specs.Shelves.{fresh, blank}
 use Rattle.state.specs.Bytes.{col, linkOf, modeOf, unitBy, unitIn, unitsFrom, shelfIn}
 use Rattle.state.specs.Placing.{zeros, freshBytes}
-use Rattle.state.proofs.Placed.{by-columns, part-at}
+use Rattle.state.proofs.Laws.{by-columns, part-at}
 
 pub all-zero : (b : List ℕ) (i : ℕ) → length b ≤ i → i ≤ length b → length b ≡ 2048 → replicate i 0 ++ drop i b ≡ zeros
 unfolding zeros

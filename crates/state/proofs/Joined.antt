@@ -1,6 +1,6 @@
 -- The bytes after a unit hears a session more are the shelf with that unit. Assumes nothing.
 use mathlib.Core.Path.{_≡_, sym, ap, _∙_}
-use mathlib.Core.List.{List, [], _∷_}
+use mathlib.Core.List.{List}
 use mathlib.Core.Logic.{⊎-elim}
 use Prim.Native.Nat.{ℕ, _+_, _*_, _/_, _%_, _^_, _<_}
 use native.Mathlib.Omega.{arith}
@@ -11,7 +11,7 @@ use Rattle.octets.specs.Octets.{part}
 use Rattle.shelf.specs.Sessions.{withSession}
 use Rattle.state.specs.Bytes.{col, unitBy, unitIn, shelfIn, withUnit}
 use Rattle.state.specs.Placing.{sessionsSet, joined, sessionsPut}
-use Rattle.state.proofs.Placed.{part-at, part-same-bytes, apart, by-columns, units-set}
+use Rattle.state.proofs.Laws.{part-at, part-same-bytes, apart, by-columns, shelf-set}
 
 module _ (b : List ℕ) (i k v : ℕ) (hi : i < 32) (hk : k < 32) (long : length b ≡ 2048) where
   abbrev next : List ℕ
@@ -45,18 +45,8 @@ module _ (b : List ℕ) (i k v : ℕ) (hi : i < 32) (hk : k < 32) (long : length
       (λ m hm. session-kept (1024 + 32 * j + m) (λ e. absurd (⊎-elim (λ less. absurd (omega arith)) (λ more. absurd (omega arith)) (apart j i ne)))))
 
   shelf-session : shelfIn next ≡ withUnit (shelfIn b) i (sessionsPut (unitIn b i) (set old k v))
-  shelf-session t =
-      record {
-        bus = session-kept 804 (λ e. absurd (omega arith)) t;
-        count = session-kept 805 (λ e. absurd (omega arith)) t;
-        units = units-set b next i (sessionsPut (unitIn b i) (set old k v)) hi here there t;
-        arbiter = record {
-          last = session-kept 800 (λ e. absurd (omega arith)) t ∷ session-kept 801 (λ e. absurd (omega arith)) t ∷ session-kept 802 (λ e. absurd (omega arith)) t ∷ [];
-          asks = part-same-bytes next b 768 32 (let l = session-long in omega arith) (session-long ∙ sym long) (λ m hm. session-kept (768 + m) (λ e. absurd (omega arith))) t;
-        };
-        granted = session-kept 803 (λ e. absurd (omega arith)) t;
-        frame = session-kept 806 (λ e. absurd (omega arith)) t * 256 + session-kept 807 (λ e. absurd (omega arith)) t;
-      }
+  shelf-session =
+      shelf-set b next i (sessionsPut (unitIn b i) (set old k v)) hi long (session-long ∙ sym long) (λ x o. session-kept x (λ e. absurd (omega arith))) here there
 
 -- "`mc` unit, session: the unit hears that session"
 pub joined-shelf : (b : List ℕ) (i session : ℕ) → length b ≡ 2048 → i < 32 → session < 256 → shelfIn (joined b i session) ≡ withUnit (shelfIn b) i (sessionsPut (unitIn b i) (withSession (unitIn b i .sessions) session))

@@ -1,37 +1,18 @@
 -- What a frame's end makes of the bytes: they are the shelf that they were, with that arbiter, grant and frame number. Assumes nothing.
 use mathlib.Core.Path.{_≡_, refl, sym, ap, _∙_}
-use mathlib.Core.Bool.{Bool, true, false, cond}
-use mathlib.Core.Logic.{_⊎_, inl, inr}
+use mathlib.Core.Logic.{_⊎_, inl, inr, ⊎-elim}
 use mathlib.Core.List.{List, [], _∷_}
 use Prim.Native.Nat.{ℕ, zero, suc, _+_, _-_, _*_, _/_, _%_, _≤_, _<_}
 use native.Mathlib.Nat.{add-zero}
 use native.Mathlib.Omega.{arith}
-use lib.Dec.{ltb}
 use lib.ListN.{length, getD, set, take, drop, length-set}
 use lib.Seq.{getD-set-same, getD-set-other, getD-take, getD-drop, take-set-le, drop-set-lt, drop-set-add}
-use borrow.Author.Tests.{ltb-true}
 use Rattle.octets.specs.Octets.{part, splice}
 use Rattle.octets.proofs.Parts.{length-splice, part-same, part-before, part-after}
 use Rattle.arbiter.specs.declared.Arbiter.{Arbiter}
-use Rattle.state.specs.Bytes.{col, unitBy, unitIn, unitsFrom, shelfIn, withTurn, turnPut}
-
--- a unit is said by the 24 columns
-abbrev clip : (ℕ → ℕ) → ℕ → ℕ
-clip f c = cond (ltb c 24) (f c) 0
-
-clipped : (f : ℕ → ℕ) (s : List ℕ) → unitBy f s ≡ unitBy (clip f) s
-unfolding unitBy
-clipped f s = refl
-
-clip-same : (f g : ℕ → ℕ) → ((c : ℕ) → c < 24 → f c ≡ g c) → (c : ℕ) → clip f c ≡ clip g c
-clip-same f g e c = by (ltb c 24) refl
-  where
-    by : (t : Bool) → ltb c 24 ≡ t → cond t (f c) 0 ≡ cond t (g c) 0
-    by true h = e c (ltb-true c 24 h)
-    by false h = refl
-
-unit-same : (f g : ℕ → ℕ) (s t : List ℕ) → ((c : ℕ) → c < 24 → f c ≡ g c) → s ≡ t → unitBy f s ≡ unitBy g t
-unit-same f g s t e q = clipped f s ∙ (λ i. unitBy (λ c. clip-same f g e c i) (q i)) ∙ sym (clipped g t)
+use Rattle.state.specs.Bytes.{col, unitIn, unitsFrom, shelfIn, withTurn, turnPut}
+use Rattle.state.proofs.Kept.{Column}
+use Rattle.state.proofs.Laws.{apart, by-columns}
 
 units-same : (a b : List ℕ) (k n : ℕ) → ((j : ℕ) → k ≤ j → j < k + n → unitIn a j ≡ unitIn b j) → unitsFrom a k n ≡ unitsFrom b k n
 unfolding unitsFrom
@@ -124,10 +105,13 @@ module _ (b : List ℕ) (a : Arbiter) (g n : ℕ) where
     pub turn-behind : (k : ℕ) → 808 ≤ k → getD (withTurn b a g n) k 0 ≡ getD b k 0
     turn-behind k h = byte (withTurn b a g n) b k (behind k 1 h)
 
-    -- so are the units
+    -- so are the columns, and the units
+    pub turn-column : (c i : ℕ) → Column c → i < 32 → col (withTurn b a g n) i c ≡ col b i c
+    turn-column c i l h = ⊎-elim (λ x. turn-before (c * 32 + i) (omega arith)) (λ x. turn-behind (c * 32 + i) (omega arith)) (apart c 24 (l .1))
+
     pub turn-unit : (i : ℕ) → i < 32 → unitIn (withTurn b a g n) i ≡ unitIn b i
     turn-unit i h =
-        unit-same (col (withTurn b a g n) i) (col b i) (part (withTurn b a g n) (1024 + 32 * i) 32) (part b (1024 + 32 * i) 32) (λ c l. turn-before (c * 32 + i) (omega arith)) (behind (1024 + 32 * i) 32 (omega arith))
+        by-columns (col (withTurn b a g n) i) (col b i) (part (withTurn b a g n) (1024 + 32 * i) 32) (part b (1024 + 32 * i) 32) (λ c l. turn-column c i l h) (behind (1024 + 32 * i) 32 (omega arith))
 
     -- what is written stands there
     asks-there : part (withTurn b a g n) 768 32 ≡ a .asks

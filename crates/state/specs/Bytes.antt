@@ -14,6 +14,7 @@ use Rattle.outlet.specs.declared.Ring.{Ring}
 use Rattle.outlet.specs.declared.Outlet.{Outlet}
 use Rattle.arbiter.specs.declared.Arbiter.{Arbiter}
 use Rattle.shelf.specs.declared.Settings.{Settings}
+use Rattle.shelf.specs.declared.Side.{Side}
 use Rattle.shelf.specs.declared.Unit as U
 use Rattle.shelf.specs.Shelf.{Shelf}
 
@@ -43,8 +44,12 @@ outletBy f = record { limits = limitsBy f; queues = ringBy f 16 20 ∷ ringBy f 
 abbrev pub placeBy : (ℕ → ℕ) → ℕ
 placeBy f = (f 10 * 256 + f 11) * 65536 + (f 12 * 256 + f 13)
 
+abbrev pub sideBy : (ℕ → ℕ) → Side
+sideBy f = record { controlin = f 26; loopbackin = f 27; controlout = ringBy f 28 29; loopbackout = f 30 }
+
 unfoldable pub unitBy : (ℕ → ℕ) → List ℕ → U.Unit
-unitBy f sessions = record { settings = settingsBy f; inlet = ringBy f 14 15; outlet = outletBy f; place = placeBy f; sessions = sessions }
+unitBy f sessions =
+    record { settings = settingsBy f; inlet = ringBy f 14 15; outlet = outletBy f; side = sideBy f; place = placeBy f; sessions = sessions }
 
 -- the unit in a place
 abbrev pub unitIn : List ℕ → ℕ → U.Unit
@@ -71,9 +76,16 @@ shelfIn b =
 abbrev pub withRing : List ℕ → ℕ → ℕ → ℕ → Ring → List ℕ
 withRing b h c i ring = set (set b (h * 32 + i) (ring .head)) (c * 32 + i) (ring .count)
 
--- a unit with another inlet; a shelf with such a unit
+-- what a write of one byte in a column makes of the bytes
+abbrev pub withByte : List ℕ → ℕ → ℕ → ℕ → List ℕ
+withByte b c i v = set b (c * 32 + i) v
+
+-- a unit with another inlet, or other places beside its data queues; a shelf with such a unit
 abbrev pub inletPut : U.Unit → Ring → U.Unit
-inletPut u ring = record { settings = u .settings; inlet = ring; outlet = u .outlet; place = u .place; sessions = u .sessions }
+inletPut u ring = record { settings = u .settings; inlet = ring; outlet = u .outlet; side = u .side; place = u .place; sessions = u .sessions }
+
+abbrev pub sidePut : U.Unit → Side → U.Unit
+sidePut u side = record { settings = u .settings; inlet = u .inlet; outlet = u .outlet; side = side; place = u .place; sessions = u .sessions }
 
 abbrev pub withUnit : Shelf → ℕ → U.Unit → Shelf
 withUnit s i u = record { bus = s .bus; count = s .count; units = set (s .units) i u; arbiter = s .arbiter; granted = s .granted; frame = s .frame }
@@ -85,6 +97,7 @@ queuePut u q ring =
       settings = u .settings;
       inlet = u .inlet;
       outlet = record { limits = u .outlet .limits; queues = set (u .outlet .queues) q ring };
+      side = u .side;
       place = u .place;
       sessions = u .sessions;
     }

@@ -52,9 +52,13 @@ unfoldable pub puts : List ℕ → ℕ → ℕ → List ℕ → List ℕ
 puts b i c [] = b
 puts b i c (v ∷ vs) = puts (set b (c * 32 + i) v) i (suc c) vs
 
+-- the five columns of the places beside its data queues, all empty
+unfoldable pub sideEmptied : List ℕ → ℕ → List ℕ
+sideEmptied b i = puts b i 26 (replicate 5 0)
+
 -- at the next place: its columns, no session, and one unit more
 unfoldable pub placed : List ℕ → ℕ → List ℕ → List ℕ
-placed b i vs = set (splice (puts b i 0 vs) (1024 + 32 * i) (replicate 32 0)) 805 (i + 1)
+placed b i vs = set (splice (sideEmptied (puts b i 0 vs) i) (1024 + 32 * i) (replicate 32 0)) 805 (i + 1)
 
 abbrev pub declaredBy : List ℕ → Settings → Outlet → ℕ → List ℕ
 declaredBy b s o place = placed b (getD b 805 0) (columnsOf s o place)
@@ -74,4 +78,4 @@ joined b i session = sessionsSet b i (session / 8) (bitOr (getD b (1024 + 32 * i
 
 -- a unit with other sessions
 abbrev pub sessionsPut : U.Unit → List ℕ → U.Unit
-sessionsPut u sessions = record { settings = u .settings; inlet = u .inlet; outlet = u .outlet; place = u .place; sessions = sessions }
+sessionsPut u sessions = record { settings = u .settings; inlet = u .inlet; outlet = u .outlet; side = u .side; place = u .place; sessions = sessions }

@@ -7,15 +7,16 @@ use outlet::Outlet;
 use outlet::Ring;
 use shelf::Found;
 use shelf::Settings;
+use shelf::Side;
 use shelf::Unit;
 ghost use mathlib.Core.Path.{_≡_};
 ghost use Prim.Native.Nat.{_+_, _*_, _<_};
 ghost use lib.ListN.{length, getD};
 ghost use Rattle.octets.specs.Octets.{part};
-ghost use Rattle.shelf.specs.Shelves.{declared, findIn};
+ghost use Rattle.shelf.specs.Shelves.{declared, findIn, waiting};
 ghost use Rattle.shelf.specs.Sessions.{hears};
-ghost use Rattle.state.specs.Bytes.{col, linkOf, modeOf, settingsBy, limitsBy, ringBy, outletBy, placeBy, unitIn, shelfIn, withRing, withTurn};
-ghost use Rattle.state.specs.Placing.{zeros, freshBytes, linkByte, modeByte, markByte, columnsOf, puts, declaredBy, joined};
+ghost use Rattle.state.specs.Bytes.{col, linkOf, modeOf, settingsBy, limitsBy, ringBy, outletBy, sideBy, placeBy, unitIn, shelfIn, withRing, withByte, withTurn};
+ghost use Rattle.state.specs.Placing.{zeros, freshBytes, linkByte, modeByte, markByte, columnsOf, puts, sideEmptied, declaredBy, joined};
 
 pub fn link_of(b: u8) -> Link
     ensures { λ r. ⌜ r ≡ linkOf b ⌝ }
@@ -92,6 +93,19 @@ pub fn outlet_at(s: &[u8], i: usize) -> Outlet
     Outlet { limits, queues }
 }
 
+pub fn side_at(s: &[u8], i: usize) -> Side
+    requires { ⌜ (length (now s) ≡ 2048) × (i < 32) ⌝ }
+    ensures { λ r. ⌜ r ≡ sideBy (col (now (s .entry)) i) ⌝ }
+{
+    let controlout = ring_at(s, 28, 29, i);
+    Side {
+        controlin: at(s, 26, i),
+        loopbackin: at(s, 27, i),
+        controlout,
+        loopbackout: at(s, 30, i),
+    }
+}
+
 pub fn place_at(s: &[u8], i: usize) -> u32
     requires { ⌜ (length (now s) ≡ 2048) × (i < 32) ⌝ }
     ensures { λ r. ⌜ r ≡ placeBy (col (now (s .entry)) i) ⌝ }
@@ -128,14 +142,24 @@ pub fn unit_at(s: &[u8], i: usize) -> Unit
     let settings = settings_at(s, i);
     let inlet = ring_at(s, 14, 15, i);
     let outlet = outlet_at(s, i);
+    let side = side_at(s, i);
     let sessions = sessions_at(s, i);
     Unit {
         settings,
         inlet,
         outlet,
+        side,
         place: place_at(s, i),
         sessions,
     }
+}
+
+// How many cells wait in the inlet of the unit in a place: data, control and loopback.
+pub fn waiting_at(s: &[u8], i: usize) -> u16
+    requires { ⌜ (length (now s) ≡ 2048) × (i < 32) ⌝ }
+    ensures { λ r. ⌜ r ≡ waiting (unitIn (now (s .entry)) i) ⌝ }
+{
+    (at(s, 15, i) as u16) + (at(s, 26, i) as u16) + (at(s, 27, i) as u16)
 }
 
 // A ring is written into its two columns.
@@ -145,6 +169,14 @@ pub fn put_ring(s: &mut [u8], h: usize, c: usize, i: usize, ring: Ring)
 {
     s[h * 32 + i] = ring.head;
     s[c * 32 + i] = ring.count;
+}
+
+// One byte of a column is written.
+pub fn put_byte(s: &mut [u8], c: usize, i: usize, value: u8)
+    requires { ⌜ (length (now s) ≡ 2048) × (c < 32) × (i < 32) ⌝ }
+    ensures { λ _. ⌜ now (s .exit) ≡ withByte (now (s .entry)) c i value ⌝ }
+{
+    s[c * 32 + i] = value;
 }
 
 // Where the unit with this number stands.
@@ -312,6 +344,18 @@ fn put_columns(s: &mut [u8], i: usize, columns: [u8; 24])
     }
 }
 
+// The places beside the data queues of the unit in a place are empty.
+fn empty_side(s: &mut [u8], i: usize)
+    requires { ⌜ (length (now s) ≡ 2048) × (i < 32) ⌝ }
+    ensures { λ _. ⌜ now (s .exit) ≡ sideEmptied (now (s .entry)) i ⌝ }
+{
+    put_byte(s, 26, i, 0);
+    put_byte(s, 27, i, 0);
+    put_byte(s, 28, i, 0);
+    put_byte(s, 29, i, 0);
+    put_byte(s, 30, i, 0);
+}
+
 // One unit more, at the next place.
 pub fn declare(s: &mut [u8], settings: Settings, outlet: Outlet, place: u32)
     requires { ⌜ (length (now s) ≡ 2048) × (getD (now s) 805 0 < 32) ⌝ }
@@ -320,6 +364,7 @@ pub fn declare(s: &mut [u8], settings: Settings, outlet: Outlet, place: u32)
     let count = s[805];
     let i = count as usize;
     put_columns(s, i, columns_of(settings, outlet, place));
+    empty_side(s, i);
     let none = [0; 32];
     octets::copy(&none, s, 1024 + 32 * i);
     s[805] = count + 1;

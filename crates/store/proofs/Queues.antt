@@ -1,17 +1,18 @@
 -- The queues of the units of a store: a cell that is written past the newest of a queue is its last, and every other queue is as it was.
 -- Assumes nothing.
-use mathlib.Core.Path.{_≡_}
+use mathlib.Core.Path.{_≡_, refl, ap, _∙_}
 use mathlib.Core.Logic.{_≢_, _⊎_, inl, inr, ⊎-elim}
 use mathlib.Core.List.{List, [], _∷_, _++_}
 use Prim.Native.Nat.{ℕ, _+_, _≤_, _<_}
+use native.Mathlib.Nat.{add-zero}
 use native.Mathlib.Omega.{arith}
 use lib.ListN.{length}
 use Rattle.outlet.specs.Outlets.{capacity, Given, RingFits}
 use Rattle.outlet.specs.declared.Limits.{Limits}
 use Rattle.outlet.specs.declared.Ring.{Ring}
-use Rattle.store.specs.Rings.{tail, pushed, popped}
-use Rattle.store.specs.Places.{Inside, start, outletSlot, inletSlot, Cell, cellAt, putAt, cells, outletCells, inletCells}
-use Rattle.store.proofs.Slots.{by-lt, start-below, start-inside, put-here, put-other}
+use Rattle.store.specs.Rings.{tail, pushed, popped, queue}
+use Rattle.store.specs.Places.{Inside, start, outletSlot, inletSlot, Cell, cellAt, putAt, cells, outletCells, inletCells, single, singleCells}
+use Rattle.store.proofs.Slots.{by-lt, start-below, start-inside, slot-below, put-here, put-other}
 use Rattle.store.proofs.Rounds.{tail-lt, length-queue, ring-kept, ring-pushed, ring-popped}
 
 -- 1. any ring of slots
@@ -54,7 +55,7 @@ module _ (i : ℕ) (limits : Limits) (given : Given limits) (q : ℕ) (hq : q < 
       let b = start-inside limits q given hq in
       cells-pushed i (start limits q) (capacity limits q) (omega arith) ring fit store cell whole inside room
 
-  -- one goes into another queue of the unit, into its inlet, into another unit
+  -- one goes into another queue of the unit, behind its outlet (into its inlet, or a place beside the data queues), into another unit
   pub outlet-beside : Inside i (length store) → (r p : ℕ) → r < 4 → p < capacity limits r → q ≢ r →
       outletCells (putAt store i (outletSlot limits r p) cell) i limits q ring ≡ outletCells store i limits q ring
   outlet-beside inside r p hr hp ne =
@@ -64,15 +65,25 @@ module _ (i : ℕ) (limits : Limits) (given : Given limits) (q : ℕ) (hq : q < 
       (inr
       (by-lt q r (λ h. let a = start-below limits q r given h (omega arith) in inr (omega arith)) (λ h. let a = start-below limits r q given (omega arith) (omega arith) in inl (omega arith))))
 
-  pub outlet-above : Inside i (length store) → (p : ℕ) → p < 4 → outletCells (putAt store i (inletSlot p) cell) i limits q ring ≡ outletCells store i limits q ring
-  outlet-above inside p hp =
+  pub outlet-behind : Inside i (length store) → (s : ℕ) → 123 ≤ s → s < 146 → outletCells (putAt store i s cell) i limits q ring ≡ outletCells store i limits q ring
+  outlet-behind inside s least most =
       let b = start-inside limits q given hq in
-      cells-kept i (start limits q) (capacity limits q) (omega arith) ring fit store cell whole i (inletSlot p) (omega arith) inside (inr (inr (omega arith)))
+      cells-kept i (start limits q) (capacity limits q) (omega arith) ring fit store cell whole i s most inside (inr (inr (omega arith)))
+
+  pub outlet-above : Inside i (length store) → (p : ℕ) → p < 4 → outletCells (putAt store i (inletSlot p) cell) i limits q ring ≡ outletCells store i limits q ring
+  outlet-above inside p hp = outlet-behind inside (inletSlot p) (omega arith) (omega arith)
 
   pub outlet-elsewhere : (j s : ℕ) → s < 146 → Inside j (length store) → j ≢ i → outletCells (putAt store j s cell) i limits q ring ≡ outletCells store i limits q ring
   outlet-elsewhere j s hs there ne =
       let b = start-inside limits q given hq in
       cells-kept i (start limits q) (capacity limits q) (omega arith) ring fit store cell whole j s hs there (inl ne)
+
+-- a cell that goes into a queue of the outlet leaves every ring behind the outlet as it was
+pub cells-below : (i base cap : ℕ) → 123 ≤ base → base + cap ≤ 146 → (ring : Ring) → RingFits ring cap → (store : List ℕ) (cell : Cell) → length cell ≡ 56 → Inside i (length store) →
+    (limits : Limits) → Given limits → (r p : ℕ) → r < 4 → p < capacity limits r → cells (putAt store i (outletSlot limits r p) cell) i base cap ring ≡ cells store i base cap ring
+cells-below i base cap high fits ring fit store cell whole inside limits given r p hr hp =
+    let d = slot-below limits r p given hr hp in
+    cells-kept i base cap fits ring fit store cell whole i (outletSlot limits r p) (omega arith) inside (inr (inl (omega arith)))
 
 -- 3. the inlet
 pub inlet-popped : (store : List ℕ) (i : ℕ) (ring : Ring) → 0 < ring .count → inletCells store i ring ≡ cellAt store i (inletSlot (ring .head)) ∷ inletCells store i (popped ring 4)
@@ -85,8 +96,22 @@ module _ (i : ℕ) (ring : Ring) (fit : RingFits ring 4) (store : List ℕ) (cel
   pub inlet-below : Inside i (length store) → (limits : Limits) → Given limits → (r p : ℕ) → r < 4 → p < capacity limits r →
       inletCells (putAt store i (outletSlot limits r p) cell) i ring ≡ inletCells store i ring
   inlet-below inside limits given r p hr hp =
-      let d = start-inside limits r given hr in
-      cells-kept i 123 4 (omega arith) ring fit store cell whole i (outletSlot limits r p) (omega arith) inside (inr (inl (omega arith)))
+      cells-below i 123 4 (omega arith) (omega arith) ring fit store cell whole inside limits given r p hr hp
 
   pub inlet-elsewhere : (j s : ℕ) → s < 146 → Inside j (length store) → j ≢ i → inletCells (putAt store j s cell) i ring ≡ inletCells store i ring
   inlet-elsewhere j s hs there ne = cells-kept i 123 4 (omega arith) ring fit store cell whole j s hs there (inl ne)
+
+-- 4. a single place is a ring of one: none there, one there, one put there. The laws of any ring say what leaves it as it was
+pub single-fits : (count : ℕ) → count ≤ 1 → RingFits (single count) 1
+single-fits count h = record { place = λ z. omega arith; nowhere = λ z. refl; held = h }
+
+pub single-none : (store : List ℕ) (i slot : ℕ) → singleCells store i slot 0 ≡ []
+unfolding cells queue
+single-none store i slot = refl
+
+pub single-one : (store : List ℕ) (i slot : ℕ) → singleCells store i slot 1 ≡ cellAt store i slot ∷ []
+unfolding cells queue
+single-one store i slot = ap (λ s. cellAt store i s ∷ []) (add-zero slot)
+
+pub single-put : (store : List ℕ) (i slot : ℕ) (cell : Cell) → slot < 146 → Inside i (length store) → length cell ≡ 56 → singleCells (putAt store i slot cell) i slot 1 ≡ cell ∷ []
+single-put store i slot cell few inside whole = single-one (putAt store i slot cell) i slot ∙ ap (λ c. c ∷ []) (put-here store i slot few inside cell whole)

@@ -16,7 +16,7 @@ use Rattle.octets.proofs.Parts.{length-splice, part-same, part-before, part-aft
 use Rattle.outlet.specs.declared.Mode.{Mode}
 use Rattle.outlet.specs.declared.Mode.the-variants.{One, Four}
 use Rattle.outlet.specs.declared.Limits.{Limits}
-use Rattle.store.specs.Places.{partOf, slotAt, Inside, starts, start, Cell, cellAt, putAt}
+use Rattle.store.specs.Places.{partOf, slotAt, Inside, starts, start, outletSlot, Cell, cellAt, putAt}
 
 -- a queue's ring in each mode
 pub start-in : (limits : Limits) (q : ℕ) (mode : Mode) → limits .mode ≡ mode → start limits q ≡ getD (starts mode (limits .cbrlength)) q 123
@@ -86,6 +86,9 @@ start-four limits = go (limits .mode)
 
 pub start-inside : (limits : Limits) (q : ℕ) → Given limits → q < 4 → start limits q + capacity limits q ≤ 123
 start-inside limits q g h = let s = start-four limits in let a = start-below limits q 4 g h (omega arith) in omega arith
+
+pub slot-below : (limits : Limits) (q p : ℕ) → Given limits → q < 4 → p < capacity limits q → outletSlot limits q p < 123
+slot-below limits q p g h k = let s = start-inside limits q g h in omega arith
 
 -- 2. parts and slots
 pub parts-apart : (i j : ℕ) → i < j → partOf i + 8192 ≤ partOf j

@@ -38,6 +38,19 @@ outletSlot limits q p = start limits q + p
 abbrev pub inletSlot : ℕ → ℕ
 inletSlot p = 123 + p
 
+-- 02, W1: behind the inlet the control cell and the loopback cell that wait there, the four places of the control outlet, the loopback outlet
+abbrev pub controlInSlot : ℕ
+controlInSlot = 127
+
+abbrev pub loopbackInSlot : ℕ
+loopbackInSlot = 128
+
+abbrev pub controlOutSlot : ℕ → ℕ
+controlOutSlot p = 129 + p
+
+abbrev pub loopbackOutSlot : ℕ
+loopbackOutSlot = 133
+
 abbrev pub Cell : Type 0
 Cell = List ℕ
 
@@ -58,3 +71,13 @@ outletCells store place limits q ring = cells store place (start limits q) (capa
 
 abbrev pub inletCells : List ℕ → ℕ → Ring → List Cell
 inletCells store place ring = cells store place 123 4 ring
+
+-- those of its control outlet; and those of a single place, in this slot, of which there are so many, 0 or 1
+abbrev pub controlCells : List ℕ → ℕ → Ring → List Cell
+controlCells store place ring = cells store place 129 4 ring
+
+abbrev pub single : ℕ → Ring
+single count = record { head = 0; count = count }
+
+abbrev pub singleCells : List ℕ → ℕ → ℕ → ℕ → List Cell
+singleCells store place slot count = cells store place slot 1 (single count)

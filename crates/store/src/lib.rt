@@ -7,7 +7,7 @@ ghost use mathlib.Core.Path.{_≡_};
 ghost use Prim.Native.Nat.{_+_, _-_, _<_, _≤_, min};
 ghost use lib.ListN.{length};
 ghost use Rattle.octets.specs.Octets.{splice, part};
-ghost use Rattle.store.specs.Places.{partOf, slotAt, start as startOf, outletSlot, inletSlot};
+ghost use Rattle.store.specs.Places.{partOf, slotAt, start as startOf, outletSlot, inletSlot, controlOutSlot};
 ghost use Rattle.store.specs.Rings.{next as nextOf, tail as tailOf, pushed as pushedOf, popped as poppedOf};
 
 // The bytes of a slot: a cell before its parity.
@@ -22,6 +22,15 @@ const CBR_START: u16 = Outlet::CONTROL as u16;
 const ABR_START: u16 = (Outlet::CONTROL + Outlet::SHARED) as u16;
 
 const INLET_START: u16 = Outlet::ONE as u16;
+
+// The slots of the cells beside the data queues: the control cell and the loopback cell in the inlet, the first of the control outlet, the loopback outlet.
+pub const CONTROL_IN: u16 = 127;
+
+pub const LOOPBACK_IN: u16 = 128;
+
+const CONTROL_OUT: u16 = 129;
+
+pub const LOOPBACK_OUT: u16 = 133;
 
 // Where the part of the unit in a place starts.
 pub fn part_of(place: usize) -> usize
@@ -73,6 +82,14 @@ pub fn inlet_at(place: usize, p: u8) -> usize
     ensures { λ r. ⌜ r ≡ slotAt place (inletSlot p) ⌝ }
 {
     slot_at(place, INLET_START + (p as u16))
+}
+
+// Where a place of the control outlet's ring starts in the store.
+pub fn control_at(place: usize, p: u8) -> usize
+    requires { ⌜ place < 32 ⌝ }
+    ensures { λ r. ⌜ r ≡ slotAt place (controlOutSlot p) ⌝ }
+{
+    slot_at(place, CONTROL_OUT + (p as u16))
 }
 
 // Writes a cell into the store, by way of a local array: the compiler then knows that the two do not overlap, and copies

@@ -24,8 +24,9 @@ use Rattle.shelf.specs.declared.Found.{Found}
 use Rattle.shelf.specs.declared.Found.the-variants.{At, Nothing}
 use Rattle.state.specs.Bytes.{col, unitBy, shelfIn, withUnit}
 use Rattle.state.specs.Placing.{linkByte, modeByte, markByte, columnsOf, freshBytes, declaredBy, joined}
-use Rattle.state.proofs.Laws.{units-length, unit-at}
-use Rattle.state.proofs.Placed.{placed-long, placed-kept, placed-count, placed-here, placed-there, declared-shelf, part-at}
+use Rattle.state.proofs.Kept.{Column}
+use Rattle.state.proofs.Laws.{units-length, unit-at, part-at}
+use Rattle.state.proofs.Placed.{placed-long, placed-kept, placed-count, placed-here, placed-there, declared-shelf}
 use Rattle.state.proofs.Afresh.{fresh-long, fresh-zero, fresh-shelf}
 use Rattle.state.proofs.Joined.{session-long, session-kept, joined-shelf}
 use Rattle.soundness.specs.Lanes.{formed}
@@ -48,9 +49,18 @@ Roomy b (Page a v top) = Unit {0}
 Roomy b (Vc a v w target class outvpi outvci) = Unit {0}
 Roomy b (Mc a session) = Unit {0}
 
+-- a byte of a column: 0 to 767, and 832 to 991
+abbrev pub InColumn : ℕ → Type 0
+InColumn k = (k < 768) ⊎ ((832 ≤ k) × (k < 992))
+
 -- the bytes that say nothing: those for later requests, the columns and the sessions of the places that are not declared
 abbrev pub Spare : List ℕ → ℕ → Type 0
-Spare b k = ((808 ≤ k) × (k < 1024)) ⊎ (((k < 768) × (getD b 805 0 ≤ k % 32)) ⊎ ((1024 + 32 * getD b 805 0 ≤ k) × (k < 2048)))
+Spare b k =
+    (((808 ≤ k) × (k < 832)) ⊎ ((992 ≤ k) × (k < 1024))) ⊎ ((InColumn k × (getD b 805 0 ≤ k % 32)) ⊎ ((1024 + 32 * getD b 805 0 ≤ k) × (k < 2048)))
+
+in-column : (k : ℕ) → InColumn k → Column (k / 32)
+in-column k (inl h) = omega arith
+in-column k (inr h) = omega arith
 
 -- bytes as loading leaves them: as many as there are, well formed, and those that say nothing zero
 pub record Well (b : List ℕ) : Type 0 where
@@ -68,7 +78,7 @@ module _ (b : List ℕ) (a session : ℕ) (long : length b ≡ 2048) (small : se
   join-decodes Nothing e = refl
 
 -- B. well formed
-same-formed : (f g : ℕ → ℕ) → ((k : ℕ) → k < 24 → f k ≡ g k) → formed f ≡ formed g
+same-formed : (f g : ℕ → ℕ) → ((k : ℕ) → Column k → f k ≡ g k) → formed f ≡ formed g
 same-formed f g e t = leb (e 1 (omega arith) t) 1 && leb (e 5 (omega arith) t) 1 && leb (e 9 (omega arith) t) 1
 
 link-formed : (l : Link) → leb (linkByte l) 1 ≡ true
@@ -99,8 +109,10 @@ fresh-well bus =
     }
   where
     zero : (k : ℕ) → Spare (freshBytes bus) k → getD (freshBytes bus) k 0 ≡ 0
-    zero k (inl h) = fresh-zero bus k (let l = h .1 in omega arith) (λ a b. let l = h .0 in absurd (omega arith))
-    zero k (inr (inl h)) = fresh-zero bus k (let l = h .0 in omega arith) (λ a b. let l = h .0 in absurd (omega arith))
+    zero k (inl (inl h)) = fresh-zero bus k (omega arith) (λ a b. absurd (omega arith))
+    zero k (inl (inr h)) = fresh-zero bus k (omega arith) (λ a b. absurd (omega arith))
+    zero k (inr (inl (inl h, past))) = fresh-zero bus k (omega arith) (λ a b. absurd (omega arith))
+    zero k (inr (inl (inr h, past))) = fresh-zero bus k (omega arith) (λ a b. absurd (omega arith))
     zero k (inr (inr h)) = fresh-zero bus k (h .1) (λ a b. let l = h .0 in absurd (omega arith))
 
 module _ (b : List ℕ) (s : Settings) (l : Limits) (place : ℕ) (w : Well b) (h : getD b 805 0 < 32) where
@@ -130,17 +142,14 @@ module _ (b : List ℕ) (s : Settings) (l : Limits) (place : ℕ) (w : Well b) (
       ∙ getD-set-other (shelfIn b .units) n j (unit s l place) blank (λ e. absurd (omega arith)) ∙ unit-at b j blank hj)
 
   spare-kept : (k : ℕ) → Spare next k → getD next k 0 ≡ 0
-  spare-kept k (inl x) =
-      let lo = x .0 in
-      let hi = x .1 in
-      placed-kept b n vs h (w .long) refl k (omega arith) (omega arith) (λ q. absurd (omega arith)) ∙ w .spare k (inl x)
+  spare-kept k (inl (inl x)) = placed-kept b n vs h (w .long) refl k (λ c hc q. absurd (omega arith)) (omega arith) (λ q. absurd (omega arith)) ∙ w .spare k (inl (inl x))
+  spare-kept k (inl (inr x)) = placed-kept b n vs h (w .long) refl k (λ c hc q. absurd (omega arith)) (omega arith) (λ q. absurd (omega arith)) ∙ w .spare k (inl (inr x))
   spare-kept k (inr (inl x)) =
       let e = placed-count b n vs h (w .long) refl in
-      let k-below = x .0 in
       let past = x .1 in
       let split : k ≡ k / 32 * 32 + k % 32 = omega arith in
-      ap (λ i. getD next i 0) split ∙ placed-there b n vs h (w .long) refl (k % 32) (omega arith) (λ q. absurd (omega (arith, e, past, q))) (k / 32) (omega arith)
-      ∙ ap (λ i. getD b i 0) (sym split) ∙ w .spare k (inr (inl (k-below, omega (arith, e, past))))
+      ap (λ i. getD next i 0) split ∙ placed-there b n vs h (w .long) refl (k % 32) (omega arith) (λ q. absurd (omega (arith, e, past, q))) (k / 32) (in-column k (x .0))
+      ∙ ap (λ i. getD b i 0) (sym split) ∙ w .spare k (inr (inl (x .0, omega (arith, e, past))))
   spare-kept k (inr (inr x)) =
       let e = placed-count b n vs h (w .long) refl in
       let past = x .0 in
@@ -183,12 +192,13 @@ joined-well b i session w hi lo small =
     same = session-kept b i (session / 8) (bitOr (getD b (1024 + 32 * i + session / 8) 0) (2 ^ (session % 8))) hi hk (w .long)
 
     zero : (x : ℕ) → Spare (joined b i session) x → getD (joined b i session) x 0 ≡ 0
-    zero x (inl h) = same x (λ e. let l = h .1 in absurd (omega arith)) ∙ w .spare x (inl h)
+    zero x (inl (inl h)) = same x (λ e. absurd (omega arith)) ∙ w .spare x (inl (inl h))
+    zero x (inl (inr h)) = same x (λ e. absurd (omega arith)) ∙ w .spare x (inl (inr h))
     zero x (inr (inl h)) =
         let count = same 805 (λ e. absurd (omega arith)) in
-        let l = h .0 in
+        let column = in-column x (h .0) in
         let past = h .1 in
-        same x (λ e. absurd (omega arith)) ∙ w .spare x (inr (inl (l, omega (arith, count, past))))
+        same x (λ e. absurd (omega arith)) ∙ w .spare x (inr (inl (h .0, omega (arith, count, past))))
     zero x (inr (inr h)) =
         let count = same 805 (λ e. absurd (omega arith)) in
         let past = h .0 in

@@ -149,6 +149,7 @@ hearing u session =
       settings = u .settings;
       outlet = u .outlet;
       inlet = u .inlet;
+      side = u .side;
       place = u .place;
       sessions = withSession (u .sessions) session;
     }

@@ -44,17 +44,17 @@ use Rattle.promise.specs.Refusals.{Long, Accepts}
 use Rattle.promise.proofs.Faults.{good-iff}
 use Rattle.promise.specs.Starred.{path}
 use Rattle.promise.proofs.Refusals.{accepted, refused, either-way}
-use Rattle.document.specs.Events.{Event, Said, answers}
+use Rattle.document.specs.Events.{Event, Said, Back, answers}
 use Rattle.document.specs.Shelf.{opened}
 use Rattle.document.specs.Examples as X
 use Rattle.document.specs.Cases.{table}
 use Rattle.document.proofs.Examples.{listing as document-listing}
-use Rattle.document.proofs.Cases.{arrivals-hold, heard-holds, discards-hold, abr-holds, frames-hold, refusals-hold}
+use Rattle.document.proofs.Cases.{cases-hold, exchanges-hold, arrivals-hold, heard-holds, discards-hold, abr-holds, frames-hold, refusals-hold}
 use Rattle.refining.proofs.Refined.{refines}
 use Rattle.paper.specs.Answers.{IsRefused}
 use Rattle.running.proofs.Opened.{told-idle}
 use Rattle.running.proofs.Tables.{table-refused, table-refused-iff, table-loaded-iff}
-use Rattle.witness.specs.Witness.{listing, ListingPrints, text, saidTo, Runs, AllRun, Refusals, bytes, Spoiled, spoiled, columns, turn, running, BeyondLoaded, misformed, LinkByte, bus-text, BusAlone}
+use Rattle.witness.specs.Witness.{listing, ListingPrints, text, givenTo, saidTo, Runs, AllRun, Refusals, bytes, Spoiled, spoiled, columns, turn, running, BeyondLoaded, ControlAsks, misformed, LinkByte, bus-text, BusAlone}
 
 -- A. 01's listing
 -- its text is that of its lines, in their ranges
@@ -174,8 +174,11 @@ module _ (memory store : List ℕ) (rows : List C.Counters) (m : length memory �
   accepted-here : Accepts Wide text memory (length store) (length rows) table
   accepted-here = subst (λ n. Accepts Wide text memory (length store) n table) (sym r) (subst (λ n. Accepts Wide text memory n 3 table) (sym s) (accepts memory m))
 
+  gives : (es : List Event) (back : List Back) → Rattle.document.specs.Steps.gives (opened table) es ≡ back → givenTo memory store rows es ≡ back
+  gives es back e = refines Wide text memory store rows table accepted-here es ∙ e
+
   says : (es : List Event) (said : List Said) → map (λ b. b .said) (Rattle.document.specs.Steps.gives (opened table) es) ≡ said → saidTo memory store rows es ≡ said
-  says es said e = ap (map (λ b. b .said)) (refines Wide text memory store rows table accepted-here es) ∙ e
+  says es said e = ap (map (λ b. b .said)) (gives es (Rattle.document.specs.Steps.gives (opened table) es) refl) ∙ e
 
   records-are : recordsOf table ≡ 342
   unfolding table recordsOf
@@ -192,6 +195,13 @@ module _ (memory store : List ℕ) (rows : List C.Counters) (m : length memory �
         take = says _ _ abr-holds;
         send = says _ _ frames-hold;
         refuse = says _ _ refusals-hold;
+        exchange = gives _ _ (ap (λ l. getD l 0 []) exchanges-hold);
+        return = gives _ _ (ap (λ l. getD l 1 []) exchanges-hold);
+        in-turn = gives _ _ (ap (λ l. getD l 2 []) exchanges-hold);
+        find-busy = says _ _ (ap (λ l. getD l 19 []) cases-hold);
+        crowd = says _ _ (ap (λ l. getD l 20 []) cases-hold);
+        judge = says _ _ (ap (λ l. getD l 21 []) cases-hold);
+        stand = says _ _ (ap (λ l. getD l 22 []) cases-hold);
       }
 
 pub all-run : AllRun
@@ -283,3 +293,7 @@ beyond-loaded = (
       let y : shelfIn running .frame ≡ 0 = ap (λ b. shelfIn b .frame) (sym e) ∙ z in
       omega arith,
 )
+
+pub control-asks : ControlAsks
+unfolding bytes soundIn lanes soundOf roomy settingsGiven given capacity ringFits queueFits ringsFit card-holds narrowHolds every among noneRepeated asksKnown arbiterKnown linkOf modeOf unitBy unitsFrom
+control-asks = refl

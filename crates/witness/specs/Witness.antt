@@ -12,9 +12,9 @@ use Rattle.soundness.specs.Soundings.{soundIn}
 use Rattle.answer.specs.declared.Counters as C
 use Rattle.answer.specs.declared.Answer.the-variants.{Refused}
 use Rattle.promise.specs.Starred.{path}
-use Rattle.document.specs.Events.{Event, Said, answers}
+use Rattle.document.specs.Events.{Event, Said, Back, answers}
 use Rattle.document.specs.Examples.{events, printed}
-use Rattle.document.specs.Cases.{arrivals, arrivals-say, refusals, refusals-say, frames, frames-say, heard, heard-say, discards, discards-say, abr, abr-say}
+use Rattle.document.specs.Cases.{arrivals, arrivals-say, refusals, refusals-say, frames, frames-say, heard, heard-say, discards, discards-say, abr, abr-say, update, update-gives, test, test-gives, last-first, last-first-gives, busy, busy-says, crowded, crowded-says, kinds, kinds-say, standing, standing-says}
 use Rattle.running.specs.Lent.{Lent, does, loadedIn}
 use Rattle.paper.specs.Answers.{IsOk, IsRefused}
 use Rattle.running.specs.Tables.{answerTo}
@@ -58,12 +58,16 @@ text =
     109 ∷ 99 ∷ 9 ∷ 55 ∷ 9 ∷ 49 ∷ 55 ∷ 10 ∷
     []
 
--- what the wide card says to a script after loading it
-abbrev pub saidTo : List ℕ → List ℕ → List C.Counters → List Event → List Said
-saidTo memory store rows es = map (λ b. b .said) (gives Wide (loadedIn Wide text memory store rows) es)
+-- what the wide card gives to a script after loading it, and what of it is said
+abbrev pub givenTo : List ℕ → List ℕ → List C.Counters → List Event → List Back
+givenTo memory store rows es = gives Wide (loadedIn Wide text memory store rows) es
 
--- every fate of an arrival (`arrivals`), every fate of a copy (`heard`, `discards`), an ABR cell taken (`abr`), Unit and Length (`refusals`), sent, heard and unheard cells (`frames`): whatever a
--- memory for its 342 records, a store for its three units and three rows held before
+abbrev pub saidTo : List ℕ → List ℕ → List C.Counters → List Event → List Said
+saidTo memory store rows es = map (λ b. b .said) (givenTo memory store rows es)
+
+-- every fate of an arrival (`arrivals`), every fate of a copy (`heard`, `discards`), an ABR cell taken (`abr`), Unit and Length (`refusals`), sent, heard and unheard cells (`frames`); of 02's
+-- control and loopback cells, byte for byte, one handed in, sent, heard and collected (`update`), one on its way there and back (`test`), each in its turn (`last-first`), Busy (`busy`),
+-- `full` at both outlets (`crowded`), `damaged` (`kinds`) and one that waits for its place (`standing`): whatever a memory for its 342 records, a store for its three units and three rows held before
 pub record Runs (memory store : List ℕ) (rows : List C.Counters) : Type 0 where
   pub load : IsOk (answerTo Wide text memory (length store) (length rows)) 2736
   pub arrive : saidTo memory store rows arrivals ≡ arrivals-say
@@ -72,6 +76,13 @@ pub record Runs (memory store : List ℕ) (rows : List C.Counters) : Type 0 wher
   pub take : saidTo memory store rows abr ≡ abr-say
   pub send : saidTo memory store rows frames ≡ frames-say
   pub refuse : saidTo memory store rows refusals ≡ refusals-say
+  pub exchange : givenTo memory store rows update ≡ update-gives
+  pub return : givenTo memory store rows test ≡ test-gives
+  pub in-turn : givenTo memory store rows last-first ≡ last-first-gives
+  pub find-busy : saidTo memory store rows busy ≡ busy-says
+  pub crowd : saidTo memory store rows crowded ≡ crowded-says
+  pub judge : saidTo memory store rows kinds ≡ kinds-say
+  pub stand : saidTo memory store rows standing ≡ standing-says
 
 abbrev pub AllRun : Type 0
 AllRun = (memory store : List ℕ) (rows : List C.Counters) → length memory ≡ 2736 → length store ≡ 24576 → length rows ≡ 3 → Runs memory store rows
@@ -109,9 +120,10 @@ spoiled = record { state = bytes ((804, 17) ∷ []); memory = []; store = []; ro
 abbrev pub Spoiled : Type 0
 Spoiled = (card : Card) (e : Event) → does card spoiled e .said ≡ answers (Refused 8)
 
--- sound states are not only those that loading leaves: a unit with two cells from the last place of its inlet on, one of them granted and the other asking, three cells in its queue, frame 65,535
+-- sound states are not only those that loading leaves: a unit with two cells from the last place of its inlet on, one of them granted and the other asking, three cells in its queue, four
+-- in its control outlet from the last place on, one in its loopback outlet, frame 65,535
 abbrev pub columns : List (ℕ × ℕ)
-columns = (0, 4) ∷ (3 * 32, 5) ∷ (4 * 32, 2) ∷ (8 * 32, 100) ∷ (14 * 32, 3) ∷ (15 * 32, 2) ∷ (16 * 32, 122) ∷ (20 * 32, 3) ∷ []
+columns = (0, 4) ∷ (3 * 32, 5) ∷ (4 * 32, 2) ∷ (8 * 32, 100) ∷ (14 * 32, 3) ∷ (15 * 32, 2) ∷ (16 * 32, 122) ∷ (20 * 32, 3) ∷ (28 * 32, 3) ∷ (29 * 32, 4) ∷ (30 * 32, 1) ∷ []
 
 abbrev pub turn : List (ℕ × ℕ)
 turn = (772, 2) ∷ (800, 255) ∷ (801, 4) ∷ (802, 255) ∷ (803, 4) ∷ (804, 16) ∷ (805, 1) ∷ (806, 255) ∷ (807, 255) ∷ []
@@ -123,6 +135,10 @@ abbrev pub BeyondLoaded : Type 0
 BeyondLoaded =
     (soundIn Narrow running 8192 1 ≡ true)
     × ((card : Card) (text memory store : List ℕ) (rows : List C.Counters) → loadedIn card text memory store rows .state ≡ running → ⊥)
+
+-- a control cell asks too: with it the same unit has a cell besides its one data cell, which is granted
+abbrev pub ControlAsks : Type 0
+ControlAsks = soundIn Narrow (bytes ((26 * 32, 1) ∷ (15 * 32, 1) ∷ columns ++ turn)) 8192 1 ≡ true
 
 -- and the same with a link byte of 2 is none, though the shelf that it reads as, of an `nni` unit, is sound
 abbrev pub misformed : List ℕ

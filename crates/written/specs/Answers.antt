@@ -6,7 +6,7 @@ use Rattle.text.specs.Hex.{hexOf}
 use Rattle.text.specs.Decimals.{decimal}
 use Rattle.answer.specs.Answers.{arrivalWord, hearingWord}
 use Rattle.answer.specs.declared.Answer as An
-use Rattle.answer.specs.declared.Answer.the-variants.{Loaded, Unloaded, Refused, Arrived, Framed, Heard, Taken, Empty}
+use Rattle.answer.specs.declared.Answer.the-variants.{Loaded, Unloaded, Refused, Arrived, Framed, Heard, Taken, Empty, Handed}
 use Rattle.written.specs.Phrases.{who}
 
 abbrev pub wOk : List ℕ
@@ -36,3 +36,5 @@ answerFields unit (Framed number sender granted copies) cell = decimal number �
 answerFields unit (Heard fate) cell = decimal unit ∷ hearingWord fate ∷ []
 answerFields unit Taken cell = decimal unit ∷ hexOf (headerBytes cell) ∷ hexOf (byteAt cell 5 ∷ []) ∷ []
 answerFields unit Empty cell = decimal unit ∷ wEmpty ∷ []
+-- the bench has no event that answers this
+answerFields unit Handed cell = decimal unit ∷ wOk ∷ []

@@ -6,7 +6,7 @@ use Rattle.octets.specs.Octets.{be4, cat}
 use Rattle.text.specs.Decimals.{numberField, numberFields}
 use Rattle.text.specs.Hex.{hexOf}
 use Rattle.answer.specs.declared.Answer as A
-use Rattle.answer.specs.declared.Answer.the-variants.{Loaded, Unloaded, Refused, Arrived, Framed, Heard, Taken, Empty}
+use Rattle.answer.specs.declared.Answer.the-variants.{Loaded, Unloaded, Refused, Arrived, Framed, Heard, Taken, Empty, Handed}
 use Rattle.written.specs.Phrases.{tabbed, who}
 use Rattle.answer.specs.Answers.{arrivalWord, hearingWord}
 use Rattle.answer.specs.declared.Counters.{Counters}
@@ -37,9 +37,9 @@ tHear = 104 ∷ 101 ∷ 97 ∷ 114 ∷ []
 abbrev pub tFrame : List ℕ
 tFrame = 102 ∷ 114 ∷ 97 ∷ 109 ∷ 101 ∷ []
 
--- `take`
-abbrev pub tTake : List ℕ
-tTake = 116 ∷ 97 ∷ 107 ∷ 101 ∷ []
+-- `hand`
+abbrev pub tHand : List ℕ
+tHand = 104 ∷ 97 ∷ 110 ∷ 100 ∷ []
 
 -- ` cell`
 abbrev pub tCell : List ℕ
@@ -48,6 +48,10 @@ tCell = 9 ∷ 99 ∷ 101 ∷ 108 ∷ 108 ∷ []
 -- ` empty`
 abbrev pub tEmpty : List ℕ
 tEmpty = 9 ∷ 101 ∷ 109 ∷ 112 ∷ 116 ∷ 121 ∷ []
+
+-- ` ok`
+abbrev pub tOk : List ℕ
+tOk = 9 ∷ 111 ∷ 107 ∷ []
 
 -- `count`
 abbrev pub tCount : List ℕ
@@ -65,7 +69,7 @@ tShowState = 115 ∷ 104 ∷ 111 ∷ 119 ∷ 9 ∷ 115 ∷ 116 ∷ 97 ∷ 116 �
 abbrev pub frameText : ℕ → ℕ → ℕ → ℕ → List ℕ
 frameText number sender granted copies = (((tFrame ++ numberField number) ++ tabbed (who sender)) ++ tabbed (who granted)) ++ numberField copies
 
--- what an event answers, but for its buffer; the word is that of an event that is refused
+-- what an event answers, but for its buffer; the word is that of an event that is refused, or of one that took a cell or found none
 unfoldable pub saidText : List ℕ → ℕ → A.Answer → List ℕ
 saidText word unit (Loaded used) = tLoadOk ++ numberField used
 saidText word unit (Unloaded number line) = (tLoadRefused ++ numberField number) ++ numberField line
@@ -73,8 +77,9 @@ saidText word unit (Refused number) = word ++ (tRefused ++ numberField number)
 saidText word unit (Arrived fate) = (tArrive ++ numberField unit) ++ tabbed (arrivalWord fate)
 saidText word unit (Framed number sender granted copies) = frameText number sender granted copies
 saidText word unit (Heard fate) = (tHear ++ numberField unit) ++ tabbed (hearingWord fate)
-saidText word unit Taken = (tTake ++ numberField unit) ++ tCell
-saidText word unit Empty = (tTake ++ numberField unit) ++ tEmpty
+saidText word unit Taken = (word ++ numberField unit) ++ tCell
+saidText word unit Empty = (word ++ numberField unit) ++ tEmpty
+saidText word unit Handed = (tHand ++ numberField unit) ++ tOk
 
 -- `count UNIT` and the thirteen
 abbrev pub countText : ℕ → Counters → List ℕ

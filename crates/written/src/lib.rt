@@ -182,6 +182,15 @@ fn put_empty(out: &mut [u8], at: usize, unit: u8) -> usize
     put_field(out, next, b"empty")
 }
 
+// Writes that a cell was handed in at a unit.
+fn put_handed(out: &mut [u8], at: usize, unit: u8) -> usize
+    requires { ⌜ at + 24 ≤ length (now out) ⌝ }
+    ensures { λ r. ⌜ Wrote (now (out .entry)) at (fields (decimal unit ∷ wOk ∷ [])) r (now (out .exit)) × (r ≤ at + 24) ⌝ }
+{
+    let next = text::put_number(out, at, unit as u64);
+    put_field(out, next, b"ok")
+}
+
 // Writes that a table is loaded.
 fn put_loaded(out: &mut [u8], at: usize, used: u32) -> usize
     requires { ⌜ at + 24 ≤ length (now out) ⌝ }
@@ -219,6 +228,7 @@ pub fn put_answer(out: &mut [u8], at: usize, unit: u8, answer: Answer, cell: &[u
         Answer::Heard(fate) => put_heard(out, at, unit, fate),
         Answer::Taken => put_taken(out, at, unit, cell),
         Answer::Empty => put_empty(out, at, unit),
+        Answer::Handed => put_handed(out, at, unit),
     }
 }
 
@@ -333,7 +343,7 @@ fn put_frame(out: &mut [u8], at: usize, number: u16, sender: u8, granted: u8, co
     text::put_number(out, all, copies as u64)
 }
 
-// What an event answers, but for its buffer: the word is that of an event that is refused.
+// What an event answers, but for its buffer: the word is that of an event that is refused, or of one that took a cell or found none.
 pub fn said(out: &mut [u8], at: usize, word: &[u8], unit: u8, answer: Answer) -> usize
     requires { ⌜ (length (now word) ≤ 20) × (at + 100 ≤ length (now out)) ⌝ }
     ensures { λ r. ⌜ Wrote (now (out .entry)) at (saidText (now (word .entry)) unit answer) r (now (out .exit)) × (r ≤ at + 100) ⌝ }
@@ -363,12 +373,16 @@ pub fn said(out: &mut [u8], at: usize, word: &[u8], unit: u8, answer: Answer) ->
             put_hearing(out, next, fate)
         }
         Answer::Taken => {
-            let next = say(out, at, b"take", unit as u64);
+            let next = say(out, at, word, unit as u64);
             text::put(out, next, b"\tcell")
         }
         Answer::Empty => {
-            let next = say(out, at, b"take", unit as u64);
+            let next = say(out, at, word, unit as u64);
             text::put(out, next, b"\tempty")
+        }
+        Answer::Handed => {
+            let next = say(out, at, b"hand", unit as u64);
+            text::put(out, next, b"\tok")
         }
     }
 }

@@ -15,6 +15,9 @@ const USAGE: &str = "usage: compare [--seed N] [--rounds N] [--jobs N] (--self |
 /// Rounds of a full run; so many show every kind of answer.
 const FULL: u64 = 165;
 
+/// What a full run has at least: tables, events, hand-ins and collects together, heard frames of kind 3.
+const LEAST: [u64; 4] = [20_938, 367_256, 50_000, 50_000];
+
 /// What is done with the scripts.
 enum Task {
     /// This program is compared with itself.
@@ -100,9 +103,12 @@ fn print_tally(tally: &Tally, full: bool) -> bool {
     if !missing.is_empty() {
         println!("never occurred: {}", missing.join(", "));
     }
-    let large = tally.tables >= 20_000 && tally.events >= 300_000;
+    let (processors, heard) = (grouped(tally.processors), grouped(tally.heard));
+    println!("of processors: {processors} hand-ins and collects, {heard} heard frames of kind 3");
+    let counts = [tally.tables, tally.events, tally.processors, tally.heard];
+    let large = counts.iter().zip(LEAST).all(|(count, least)| *count >= least);
     if full && !large {
-        println!("too few tables or events for a full run");
+        println!("too few tables, events, hand-ins and collects, or heard frames of kind 3 for a full run");
     }
     !full || (missing.is_empty() && large)
 }

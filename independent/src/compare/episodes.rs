@@ -8,12 +8,17 @@ use super::spoil::{mend, no_command, spoil, spoil_alike};
 use super::tables::{first_wide_line, nearly_good, spoiled, Draft, Wish};
 use super::traffic::Traffic;
 
-/// Episodes of a round: ten of tables, three of traffic, two of spoiling, one on both cards.
-pub const ROUND: u64 = 16;
+/// Episodes of a round: ten of tables, three of traffic, two of spoiling, one on both cards, two of processors.
+pub const ROUND: u64 = 18;
 /// Tables in an episode of tables.
 const TABLES: usize = 11;
 /// Things spoiled in an episode of spoiling.
 const SPOILINGS: usize = 28;
+
+/// What a body finds on either card, also one that was cut short: nothing lent, a fresh 16 bus.
+const FRESH: [&[u8]; 4] = [b"lend\tmemory\t0\t00", b"lend\tstore\t0\t00", b"lend\trows\t0\t0", b"load\t"];
+/// Lines before the body on either card: the card, and what makes it fresh.
+pub const BEFORE: usize = 1 + FRESH.len();
 
 /// A script that stands alone.
 #[derive(Clone)]
@@ -29,9 +34,9 @@ impl Episode {
         if !self.twin {
             return self.body.clone();
         }
-        let wide = [b"card\twide".to_vec()];
-        let narrow = [b"card\tnarrow".to_vec()];
-        [&wide[..], &self.body, &narrow, &self.body].concat()
+        let fresh = FRESH.map(<[u8]>::to_vec);
+        let [wide, narrow] = [b"card\twide".to_vec(), b"card\tnarrow".to_vec()];
+        [&[wide], &fresh[..], &self.body, &[narrow], &fresh, &self.body].concat()
     }
 }
 
@@ -52,7 +57,8 @@ pub fn episode(seed: u64, number: u64) -> Episode {
         10..=11 => traffic(dice, &mut script),
         12 => busy(dice, &mut script),
         13..=14 => spoiling(dice, &mut script),
-        _ => twin(dice, &mut script),
+        15 => twin(dice, &mut script),
+        _ => processors(dice, &mut script),
     }
     Episode { body: script.lines, twin: random % ROUND == 15 }
 }
@@ -176,6 +182,30 @@ fn traffic(dice: &mut Dice, script: &mut Script) {
     script.show_all();
 }
 
+/// A few units, or all of a bus, whose processors have much to say.
+fn processors(dice: &mut Dice, script: &mut Script) {
+    let (bus, wide) = dice.pick(&[(16, false), (16, false), (16, true), (32, true), (32, true)]);
+    let units = dice.pick(&[1, 2, 2, 3, 3, 4, 6, bus.into()]);
+    script.say(if wide { "card wide" } else { "card narrow" });
+    let draft = Draft::new(dice, Wish { bus, units, wide, vpis: 3 });
+    stage(dice, script, &draft);
+    if dice.chance(25) {
+        set(script, &format!("frame 0 {}", dice.between(65_400, 65_535)));
+    }
+    let mut traffic = Traffic { dice, draft: &draft, script, faults: 2 };
+    for _ in 0..4 {
+        let events = traffic.dice.between(60, 120);
+        traffic.processor_phases(events);
+        if traffic.dice.chance(30) {
+            mend(&mut traffic);
+        }
+        traffic.trip();
+        traffic.look();
+    }
+    traffic.count_all();
+    script.show_all();
+}
+
 /// Every unit of the bus, for long.
 fn busy(dice: &mut Dice, script: &mut Script) {
     let (bus, wide) = dice.pick(&[(16, false), (16, true), (32, true), (32, true)]);
@@ -229,9 +259,12 @@ fn twin(dice: &mut Dice, script: &mut Script) {
     let events = if first_wide_line(&draft.text()).is_some() { 5 } else { dice.between(30, 150) };
     let mut traffic = Traffic { dice, draft: &draft, script, faults: 2 };
     traffic.phases(events);
+    let control = if events > 5 { 60 } else { 0 };
+    traffic.processor_phases(control);
     for _ in 0..4 {
         spoil_alike(&mut traffic);
         traffic.phases(6);
+        traffic.processor_phases(6);
     }
     for part in ["store", "rows", "state"] {
         script.say(&format!("show {part}"));

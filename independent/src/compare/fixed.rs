@@ -1,10 +1,11 @@
-//! Fixed scripts: document 01's values on each side of a line, figures 15 and 16 of document 004, and every byte of
-//! the state.
+//! Fixed scripts: document 01's values on each side of a line, figures 15 and 16 of document 004, every byte of the
+//! state, and in a file of their own those of request W1.
 
+use super::fixed_control;
 use super::script::{cell, frame, poke_of, to_unit, Script};
 use super::settings::{byte_of, set};
 use crate::codec::{Header, Link};
-use crate::state::{State, ASKS, STATE_BYTES};
+use crate::state::{State, ASKS, CONTROL_IN, LOOPBACK_OUT, STATE_BYTES};
 use crate::{load, Card, Counters};
 
 /// Tabs shown as blanks.
@@ -56,22 +57,36 @@ const STATES: &[&str] = &[
     "inletcount 0 1,inletcount 1 1,granted 0 9,asks 9 3", "last 0 4", "last 1 9", "last 2 5", "last 2 31",
     "last 0 254", "link 0 1", "link 0 2", "link 0 255", "link 2 1", "link 2 255", "mode 0 2", "mode 0 255",
     "mode 1 2", "mode 1 255", "mode 2 255", "mark 0 1", "mark 0 2", "mark 0 255", "mark 1 1", "mark 2 255",
-    "place 0 4294967295", "frame 0 65535", "byte 808 255", "byte 1023 1", "byte 1024 255", "byte 2047 255",
+    "place 0 4294967295", "frame 0 65535", "byte 808 255", "byte 831 255", "byte 992 255", "byte 1023 1",
+    "byte 1024 255", "byte 2047 255", "controlin 0 1", "controlin 0 2", "controlin 1 255", "controlin 2 255",
+    "loopbackin 0 1", "loopbackin 0 2", "loopbackin 1 255", "loopbackin 2 2", "controlhead 0 3", "controlhead 0 4",
+    "controlhead 1 255", "controlhead 2 4", "controlcount 0 4", "controlcount 0 5", "controlcount 1 255",
+    "controlcount 2 5", "loopbackout 0 1", "loopbackout 0 2", "loopbackout 1 255", "loopbackout 2 1",
+    "loopbackout 31 255", "controlin 0 1,granted 0 4", "controlin 0 1,granted 0 9", "loopbackin 0 1,granted 0 4",
+    "loopbackin 1 1,granted 0 4", "loopbackout 0 1,granted 0 4", "controlcount 0 1,granted 0 4",
+    "controlin 0 1,asks 4 2", "loopbackin 0 1,asks 4 2", "loopbackin 0 1,asks 4 1", "loopbackout 0 1,asks 4 2",
+    "controlin 0 1,granted 0 4,asks 4 2", "loopbackin 0 1,granted 0 4,asks 4 2",
+    "controlin 0 1,loopbackin 0 1,granted 0 4,asks 4 2", "inletcount 0 1,controlin 0 1,granted 0 4,asks 4 2",
+    "inletcount 0 1,loopbackin 0 1,granted 0 4,asks 4 2", "controlin 2 1,asks 5 2", "controlin 2 1,number 2 5,asks 5 2",
+    "inletcount 0 4,controlin 0 1,loopbackin 0 1,granted 0 4,asks 4 2,loopbackout 0 1,controlcount 0 4,controlhead 0 3",
+    "loopbackin 0 1,loopbackout 0 1,granted 0 4", "controlhead 0 3,controlcount 0 4", "loopbackin 0 128",
+    "controlin 0 129", "controlin 0 254,loopbackin 0 2,inletcount 0 1,granted 0 4",
 ];
 
 pub fn count() -> u64 {
-    SCRIPTS.len() as u64
+    (SCRIPTS.len() + fixed_control::SCRIPTS.len()) as u64
 }
 
 /// The fixed script of a number below the count.
 pub fn script(number: u64) -> Script {
     let mut script = Script::default();
-    SCRIPTS[number as usize](&mut script);
+    let mut all = SCRIPTS.iter().chain(&fixed_control::SCRIPTS);
+    all.nth(number as usize).expect("a number below the count")(&mut script);
     script
 }
 
 /// Lends plenty and loads a table with blanks for tabs.
-fn stage(script: &mut Script, table: &str) {
+pub fn stage(script: &mut Script, table: &str) {
     script.say("card wide");
     script.lend(16_384, 32_768, 5);
     script.load(table.replace(' ', "\t").as_bytes());
@@ -85,7 +100,7 @@ fn plain(vpi: u16, vci: u16, tail: u8) -> Header {
 fn fresh_start(script: &mut Script) {
     script.show_all();
     script.frames(2);
-    ["take 0 53", "count 0", "show state", "show unit 0"].iter().for_each(|line| script.say(line));
+    ["take 0 53", "collect 0 56", "count 0", "show state", "show unit 0"].iter().for_each(|line| script.say(line));
     script.load(b"");
     script.show_all();
 }
@@ -124,7 +139,7 @@ fn states(script: &mut Script) {
         settings.split(',').for_each(|setting| set(script, setting));
         script.arrive(4, &cell(plain(2, 7, 0).write(Link::Uni), &[9; 48]));
         script.frames(2);
-        ["take 9 53", "take 4 53", "count 4", "show state"].iter().for_each(|line| script.say(line));
+        ["take 9 53", "take 4 53", "collect 4 56", "count 4", "show state"].iter().for_each(|line| script.say(line));
     }
     script.show_all();
 }
@@ -133,7 +148,8 @@ fn states(script: &mut Script) {
 const BUSY: &str = "\
 inlethead 0 3,inletcount 0 2,inlethead 1 1,inletcount 1 1,queuehead 0 100,queuecount 0 50,queuehead 4 1,queuecount 4 1,\
 queuehead 5 7,queuecount 5 30,queuehead 6 20,queuecount 6 19,queuehead 7 31,queuecount 7 32,granted 0 4,asks 4 2,\
-asks 9 3,last 1 4,last 2 9,frame 0 258";
+asks 9 3,last 1 4,last 2 9,frame 0 258,controlin 0 1,loopbackin 1 1,controlhead 0 3,controlcount 0 2,\
+controlhead 1 1,controlcount 1 4,loopbackout 0 1,loopbackout 1 1";
 
 /// Loads the two units and makes them busy; gives the bytes of the state.
 fn stage_busy(script: &mut Script, card: &str) -> State {
@@ -169,7 +185,8 @@ fn every_byte(script: &mut Script) {
 /// Every value of each byte that is judged, by itself.
 fn every_value(script: &mut Script) {
     let state = stage_busy(script, "card wide");
-    let units = (0..ASKS).flat_map(|column| [0, 1].map(|place| byte_of(column, place)));
+    let columns = (0..ASKS).chain(CONTROL_IN..=LOOPBACK_OUT);
+    let units = columns.flat_map(|column| [0, 1].map(|place| byte_of(column, place)));
     let asks = [4, 9, 10].map(|number| byte_of(ASKS, number));
     for at in units.chain(asks).chain(800..808) {
         for value in 0..=255 {
@@ -233,6 +250,7 @@ fn units_shown(script: &mut Script) {
         "cbrlimit 0 253", "vbrlimit 0 252", "inlethead 0 251", "inletcount 0 250", "queuehead 0 249",
         "queuehead 1 248", "queuehead 2 247", "queuehead 3 246", "queuecount 0 245", "queuecount 1 244",
         "queuecount 2 243", "queuecount 3 242", "byte 1024 129", "byte 1025 1", "byte 1055 128", "byte 1056 2",
+        "controlin 0 241", "loopbackin 0 240", "controlhead 0 239", "controlcount 0 238", "loopbackout 0 237",
         "number 1 4", "number 0 255", "number 1 255", "count 0 1", "count 0 0", "count 0 3", "count 0 32",
         "number 31 9", "count 0 33", "count 0 255", "number 2 16", "bus 0 0",
     ];
@@ -311,6 +329,8 @@ fn long_texts(script: &mut Script) {
     script.load(&b"\n".repeat(65_536));
     script.arrive(0, &[0; 70_000]);
     script.hear(0, &[0; 70_001]);
+    script.hand(0, &[0; 70_000]);
+    script.hand(0, &[0; 70_001]);
 }
 
 /// Outgoing VPI 255 is good on the narrow card, 256 is Wide.

@@ -3,6 +3,7 @@
 pub mod dice;
 pub mod episodes;
 pub mod fixed;
+mod fixed_control;
 pub mod program;
 pub mod script;
 pub mod settings;
@@ -18,7 +19,7 @@ use std::ops::Range;
 use std::sync::atomic::{AtomicBool, AtomicU64, Ordering};
 use std::sync::Mutex;
 
-use episodes::{episode, Episode};
+use episodes::{episode, Episode, BEFORE};
 use program::{Feed, Program};
 use script::{table_of, Line};
 use tables::first_wide_line;
@@ -189,7 +190,8 @@ impl Runs {
             return None;
         }
         let middle = answers.len() / 2;
-        cards_fault(&episode.body, &answers[1..middle], &answers[middle + 1..], tally)
+        let (wide, narrow) = answers.split_at(middle);
+        cards_fault(&episode.body, &wide[BEFORE..], &narrow[BEFORE..], tally)
     }
 }
 

@@ -2,7 +2,7 @@
 
 use crate::codec::{header_check, parity, Header, Link, Routing, Target};
 use crate::text::{hex_bytes, number, push_hex};
-use crate::{CELL_BYTES, FRAME_BYTES};
+use crate::{CELL_BYTES, CONTROL_BYTES, FRAME_BYTES};
 
 /// A line without its newline.
 pub type Line = Vec<u8>;
@@ -44,6 +44,14 @@ impl Script {
 
     pub fn hear(&mut self, unit: u64, frame: &[u8]) {
         self.say_bytes(&format!("hear {unit}"), frame);
+    }
+
+    pub fn hand(&mut self, unit: u64, cell: &[u8]) {
+        self.say_bytes(&format!("hand {unit}"), cell);
+    }
+
+    pub fn collect(&mut self, unit: u64) {
+        self.say(&format!("collect {unit} 56"));
     }
 
     /// Writes bytes of the state.
@@ -103,6 +111,21 @@ pub fn frame(routing: u16, tandem: [u8; 2], header: Header, payload: &[u8; 48]) 
     frame[4..8].copy_from_slice(&header.write(Link::Nni));
     frame[8..56].copy_from_slice(payload);
     frame[56] = parity(&frame[..56]);
+    frame
+}
+
+/// A processor's cell of these tandem bytes, told apart by its payload; its header is of no account.
+pub fn processor_cell(routing: u16, tandem: [u8; 2], payload: u8) -> [u8; CONTROL_BYTES] {
+    let mut cell = [payload; CONTROL_BYTES];
+    cell[..2].copy_from_slice(&routing.to_be_bytes());
+    cell[2..4].copy_from_slice(&tandem);
+    cell
+}
+
+/// The frame that such a cell is sent in.
+pub fn framed(cell: &[u8; CONTROL_BYTES]) -> [u8; FRAME_BYTES] {
+    let mut frame = [parity(cell); FRAME_BYTES];
+    frame[..CONTROL_BYTES].copy_from_slice(cell);
     frame
 }
 

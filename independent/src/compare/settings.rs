@@ -2,13 +2,14 @@
 
 use super::script::Script;
 use crate::state::{
-    ASKS, BUS, CBR_LENGTH, CBR_LIMIT, COUNT, FRAME, GRANTED, INLET_COUNT, INLET_HEAD, LAST, LINK, MARK, MODE, NUMBER,
-    PRIORITY, QUEUE_COUNT, QUEUE_HEAD, RECORDS, SESSIONS, SHELF, STATE_BYTES, TOP_HIGH, TOP_LOW, VBR_LIMIT,
+    ASKS, BUS, CBR_LENGTH, CBR_LIMIT, CONTROL_COUNT, CONTROL_HEAD, CONTROL_IN, COUNT, FRAME, GRANTED, INLET_COUNT,
+    INLET_HEAD, LAST, LINK, LOOPBACK_IN, LOOPBACK_OUT, MARK, MODE, NUMBER, PRIORITY, QUEUE_COUNT, QUEUE_HEAD, RECORDS,
+    SESSIONS, SHELF, STATE_BYTES, TOP_HIGH, TOP_LOW, VBR_LIMIT,
 };
 use crate::UNITS_MAX;
 
 /// Every name that stands for one byte of each place.
-const COLUMNS: [(&str, usize); 11] = [
+const COLUMNS: [(&str, usize); 16] = [
     ("number", NUMBER),
     ("link", LINK),
     ("priority", PRIORITY),
@@ -20,6 +21,11 @@ const COLUMNS: [(&str, usize); 11] = [
     ("inlethead", INLET_HEAD),
     ("inletcount", INLET_COUNT),
     ("asks", ASKS),
+    ("controlin", CONTROL_IN),
+    ("loopbackin", LOOPBACK_IN),
+    ("controlhead", CONTROL_HEAD),
+    ("controlcount", CONTROL_COUNT),
+    ("loopbackout", LOOPBACK_OUT),
 ];
 
 /// The byte of a place in a column.
@@ -71,10 +77,12 @@ pub fn name_of(at: usize) -> &'static str {
         "queuehead 2", "queuehead 3", "queuecount 0", "queuecount 1", "queuecount 2", "queuecount 3", "asks",
     ];
     const SHELF_NAMES: [&str; 8] = ["last 1", "last 2", "last 3", "granted", "bus", "count", "frame high", "frame low"];
+    const CONTROL_NAMES: [&str; 5] = ["controlin", "loopbackin", "controlhead", "controlcount", "loopbackout"];
     let column = at / UNITS_MAX;
     match (NAMES.get(column), at.checked_sub(byte_of(SHELF, 0))) {
         (Some(name), _) => name,
         (_, Some(place)) if place < SHELF_NAMES.len() => SHELF_NAMES[place],
+        _ if (CONTROL_IN..=LOOPBACK_OUT).contains(&column) => CONTROL_NAMES[column - CONTROL_IN],
         _ if column < SESSIONS => "free",
         _ if at < STATE_BYTES => "sessions",
         _ => "nothing",
@@ -83,10 +91,11 @@ pub fn name_of(at: usize) -> &'static str {
 
 /// Names of bytes that State judges, by themselves or with others.
 #[rustfmt::skip]
-pub const JUDGED: [&str; 26] = [
+pub const JUDGED: [&str; 31] = [
     "number", "link", "top high", "priority", "mode", "cbrlength", "cbrlimit", "vbrlimit", "mark", "inlethead",
     "inletcount", "queuehead 0", "queuehead 1", "queuehead 2", "queuehead 3", "queuecount 0", "queuecount 1",
-    "queuecount 2", "queuecount 3", "asks", "last 1", "last 2", "last 3", "granted", "bus", "count",
+    "queuecount 2", "queuecount 3", "asks", "last 1", "last 2", "last 3", "granted", "bus", "count", "controlin",
+    "loopbackin", "controlhead", "controlcount", "loopbackout",
 ];
 
 /// Names of bytes that State leaves alone.

@@ -1,34 +1,41 @@
 //! Random spoiling: of the state, of memory, store and rows, and lines that are no commands.
 
 use super::dice::Dice;
-use super::script::Script;
+use super::script::{cell, Script};
 use super::settings::{byte_of, set};
 use super::states::{loaded, made};
 use super::tables::{Draft, DraftUnit, SESSIONS};
 use super::traffic::{Traffic, Weights};
-use crate::codec::Link;
-use crate::state::{self, ASKS, SHELF, STATE_BYTES};
+use crate::codec::{control_routing, loopback_routing, Header, Link};
+use crate::state::{self, ASKS, CONTROL_IN, LOOPBACK_OUT, SHELF, STATE_BYTES};
 use crate::UNITS_MAX;
 
 /// A few events after each spoiling.
-const AFTER: Weights = Weights { arrive: 30, frame: 30, take: 30, hear: 15 };
+const AFTER: Weights = Weights { arrive: 30, frame: 34, take: 28, hear: 14, hand: 8, collect: 8, control: 8 };
+/// The same where control and loopback cells are what was spoiled.
+const AFTER_CONTROL: Weights = Weights { arrive: 4, frame: 50, take: 3, hear: 1, hand: 12, collect: 20, control: 10 };
 
 /// Bytes on either side of what some field may hold.
 const EDGES: [u8; 20] = [0, 1, 2, 3, 4, 5, 15, 16, 17, 31, 32, 33, 40, 88, 89, 90, 123, 124, 254, 255];
 
 #[rustfmt::skip]
-const NO_COMMANDS: [&str; 44] = [
+const NO_COMMANDS: [&str; 54] = [
     "", " ", "bad", "card", "card both", "card wide ", "Card wide", "lend memory 300001 00", "lend memory 5 0",
     "lend store 5 000", "lend rows 41 0", "lend rows 1 4294967296", "lend rows 01 0", "load", "load 0", "load GG",
     "arrive 0", "arrive 0 0", "arrive 00 00", "arrive x 00", "hear 0 ZZ", "frame", "frame 1001", "frame 057",
     "take 0 1001", "take 0", "count", "count -1", "show", "show all", "lend state 5 00", "poke state 2048 00",
     "poke state 2047 0000", "poke state 0 0", "poke state 00 00", "poke state 0", "poke shelf 0 00",
     "state bus 0 16", "show shelf", "show state 0", "show unit", "show unit x", "show unit 00", "show unit 0 0",
+    "hand", "hand 0", "hand 0 0", "hand 00 00", "hand x 00", "hand 0 ZZ", "collect 0", "collect 0 1001",
+    "collect 0 056", "collect x 56",
 ];
+
+/// Slots of the control and loopback places of a unit.
+const CONTROL_SLOTS: [usize; 7] = [127, 128, 129, 130, 131, 132, 133];
 
 /// Spoils one thing, lets some events see it, and at times mends it.
 pub fn spoil(traffic: &mut Traffic) {
-    match traffic.dice.roll(28) {
+    match traffic.dice.roll(33) {
         0..=6 => setting_and_back(traffic),
         7..=8 => grants(traffic),
         9..=10 => any_byte(traffic),
@@ -44,6 +51,9 @@ pub fn spoil(traffic: &mut Traffic) {
             traffic.script.say(card);
         }
         25 => no_command(traffic.dice, traffic.script),
+        26..=28 => control_and_back(traffic),
+        29..=30 => held_cells(traffic),
+        31 => poke_route(traffic),
         _ => change_a_line(traffic),
     }
     events(traffic, 5);
@@ -58,7 +68,7 @@ fn events(traffic: &mut Traffic, most: u64) {
 /// Spoils only what both cards have alike.
 pub fn spoil_alike(traffic: &mut Traffic) {
     let place = traffic.dice.index(traffic.draft.units.len().max(1));
-    match (traffic.draft.units.get(place), traffic.dice.roll(8)) {
+    match (traffic.draft.units.get(place), traffic.dice.roll(12)) {
         (Some(unit), 0..=2) => {
             let (field, edges, _) = queue_setting(traffic.dice, unit, place);
             let value = traffic.dice.pick(&edges);
@@ -67,6 +77,12 @@ pub fn spoil_alike(traffic: &mut Traffic) {
         (_, 3) => mend(traffic),
         (_, 4) => sessions(traffic),
         (_, 5) => not_judged(traffic),
+        (Some(_), 8) => {
+            let (field, edges, _) = control_setting(traffic.dice, place);
+            let value = traffic.dice.pick(&edges);
+            set(traffic.script, &format!("{field} {value}"));
+        }
+        (Some(_), 9..=10) => held_cells(traffic),
         _ => poke_store(traffic),
     }
 }
@@ -86,7 +102,9 @@ fn grants(traffic: &mut Traffic) {
     };
     let (number, priority) = (u64::from(unit.number), u64::from(unit.priority));
     let settings = [
-        (format!("inletcount {place}"), dice.roll(4)),
+        (format!("inletcount {place}"), dice.pick(&[0, 0, 0, 1, 2, 3])),
+        (format!("controlin {place}"), dice.roll(2)),
+        (format!("loopbackin {place}"), dice.roll(2)),
         ("granted 0".to_string(), dice.pick(&[number, number, 255])),
         (format!("asks {number}"), dice.pick(&[0, priority, priority, 1, 2, 3])),
         (format!("last {}", priority.clamp(1, 3) - 1), dice.pick(&[number, 255])),
@@ -163,13 +181,103 @@ fn queue_setting(dice: &mut Dice, unit: &DraftUnit, place: usize) -> (String, Ve
     }
 }
 
+/// One of the control and loopback columns around its edges, and a value of a sound shelf.
+fn control_setting(dice: &mut Dice, place: usize) -> (String, Vec<u64>, u64) {
+    let (name, edges, highest) = match dice.roll(5) {
+        0 => ("controlin", vec![0, 1, 1, 2, 255], 1),
+        1 => ("loopbackin", vec![0, 1, 1, 2, 255], 1),
+        2 => ("controlhead", vec![0, 1, 2, 3, 4, 255], 3),
+        3 => ("controlcount", vec![0, 1, 3, 4, 5, 255], 4),
+        _ => ("loopbackout", vec![0, 1, 1, 2, 255], 1),
+    };
+    (format!("{name} {place}"), edges, dice.roll(highest + 1))
+}
+
+fn control_events(traffic: &mut Traffic, most: u64) {
+    let events = traffic.dice.between(1, most);
+    (0..events).for_each(|_| traffic.event(AFTER_CONTROL));
+}
+
+/// A control or loopback column on either side of what is sound, then a sound value.
+fn control_and_back(traffic: &mut Traffic) {
+    let place = traffic.dice.index(traffic.draft.units.len().max(1));
+    let (field, edges, back) = control_setting(traffic.dice, place);
+    let value = traffic.dice.pick(&edges);
+    set(traffic.script, &format!("{field} {value}"));
+    control_events(traffic, 6);
+    set(traffic.script, &format!("{field} {back}"));
+    control_events(traffic, 3);
+}
+
+/// Cells put into the store and the state at once, so that they are moved, sent and collected whatever they say.
+fn held_cells(traffic: &mut Traffic) {
+    let place = traffic.dice.index(traffic.draft.units.len().max(1));
+    for _ in 0..traffic.dice.between(1, 3) {
+        let slot = traffic.dice.pick(&[127, 128, 133, 133, 129, 132]);
+        let bytes = control_bytes(traffic, place);
+        traffic.script.say_bytes(&format!("poke store {}", 8_192 * place + 56 * slot), &bytes);
+        let held = match slot {
+            127 => format!("controlin {place} 1"),
+            128 => format!("loopbackin {place} 1"),
+            133 => format!("loopbackout {place} 1"),
+            _ => {
+                set(traffic.script, &format!("controlhead {place} {}", slot - 129));
+                format!("controlcount {place} {}", traffic.dice.between(1, 4))
+            }
+        };
+        set(traffic.script, &held);
+    }
+    control_events(traffic, 10);
+}
+
+/// A processor's cell, often with any tandem byte, or any bytes at all.
+fn control_bytes(traffic: &mut Traffic, place: usize) -> Vec<u8> {
+    let unit = traffic.draft.units.get(place).map_or(0, |unit| unit.number);
+    let mut bytes = traffic.processor_cell(unit).to_vec();
+    match traffic.dice.roll(4) {
+        0 => bytes = traffic.dice.bytes(56),
+        1 => bytes[2] = traffic.dice.byte(),
+        _ => {}
+    }
+    bytes
+}
+
+/// A route of the memory gets a routing header of kind 3, which no table gives; some cells find it.
+fn poke_route(traffic: &mut Traffic) {
+    let place = traffic.dice.index(traffic.draft.units.len().max(1));
+    let whole_vpi = |unit: &DraftUnit| unit.routes.iter().find(|(_, vci)| vci.is_none()).map(|(vpi, _)| *vpi);
+    let Some((unit, vpi)) = traffic.draft.units.get(place).and_then(|unit| Some((unit, whole_vpi(unit)?))) else {
+        return;
+    };
+    let at = loaded(traffic.draft).records(place) as usize + 8 * usize::from(vpi) + 1;
+    let to = traffic.draft.units[traffic.dice.index(traffic.draft.units.len())].number;
+    let routing = traffic.dice.pick(&[control_routing(to), loopback_routing(to)]);
+    traffic.script.say_bytes(&format!("poke memory {at}"), &routing.to_be_bytes());
+    for _ in 0..traffic.dice.between(1, 3) {
+        let header = Header { vpi, vci: 7, tail: 0 }.write(unit.link);
+        let payload = [traffic.dice.byte(); 48];
+        traffic.script.arrive(unit.number.into(), &cell(header, &payload));
+        let frames = traffic.dice.index(4);
+        traffic.script.frames(frames);
+    }
+    traffic.script.collect(to.into());
+}
+
+/// A column with a byte for each place.
+fn any_column(dice: &mut Dice) -> usize {
+    match dice.chance(75) {
+        true => dice.index(ASKS),
+        false => dice.between(CONTROL_IN as u64, LOOPBACK_OUT as u64) as usize,
+    }
+}
+
 /// Any byte of the state, mostly one that can matter.
 fn any_byte(traffic: &mut Traffic) {
     let dice = &mut *traffic.dice;
     let place = dice.index(traffic.draft.units.len().clamp(1, UNITS_MAX));
     let number = traffic.draft.units.get(place).map_or(0, |unit| unit.number);
     let at = match dice.roll(8) {
-        0..=3 => byte_of(dice.index(ASKS), place),
+        0..=3 => byte_of(any_column(dice), place),
         4 => byte_of(ASKS, number.into()),
         5 => byte_of(SHELF, dice.index(8)),
         6 => byte_of(state::SESSIONS + place, usize::from(dice.pick(&SESSIONS) / 8)),
@@ -182,7 +290,7 @@ fn any_byte(traffic: &mut Traffic) {
 /// A whole column, then the one that the table gives.
 fn column_and_back(traffic: &mut Traffic) {
     let dice = &mut *traffic.dice;
-    let column = dice.index(ASKS + 1);
+    let column = if dice.chance(5) { ASKS } else { any_column(dice) };
     let back = loaded(traffic.draft).columns[column];
     let mut bytes = back;
     let declared = traffic.draft.units.len();
@@ -208,7 +316,7 @@ fn whole_state(traffic: &mut Traffic) {
     let mut state = made(dice, traffic.draft);
     if dice.chance(40) {
         let place = dice.index(traffic.draft.units.len().clamp(1, UNITS_MAX));
-        let (column, edge) = (dice.index(ASKS), dice.pick(&EDGES));
+        let (column, edge) = (any_column(dice), dice.pick(&EDGES));
         state.columns[column][place] = edge;
     }
     let middle = if dice.chance(20) { dice.index(STATE_BYTES + 1) } else { 0 };
@@ -238,12 +346,12 @@ fn sessions(traffic: &mut Traffic) {
 fn not_judged(traffic: &mut Traffic) {
     let dice = &mut *traffic.dice;
     let declared = traffic.draft.units.len();
-    let free = 808 + dice.index(1_024 - 808);
+    let free = if dice.chance(50) { 808 + dice.index(24) } else { 992 + dice.index(32) };
     let place = declared + dice.index((UNITS_MAX - declared).max(1));
     let at = match dice.roll(3) {
         _ if place >= UNITS_MAX => free,
         0 => free,
-        1 => byte_of(dice.index(ASKS), place),
+        1 => byte_of(any_column(dice), place),
         _ => byte_of(state::SESSIONS + place, dice.index(UNITS_MAX)),
     };
     let edge = dice.pick(&EDGES);
@@ -275,6 +383,11 @@ fn poke_memory(traffic: &mut Traffic) {
 /// Puts a sound or any cell into a slot, or a byte anywhere.
 fn poke_store(traffic: &mut Traffic) {
     let place = traffic.dice.index(traffic.draft.units.len().max(1));
+    if traffic.dice.chance(40) {
+        let slot = traffic.dice.pick(&CONTROL_SLOTS);
+        let bytes = control_bytes(traffic, place);
+        return traffic.script.say_bytes(&format!("poke store {}", 8_192 * place + 56 * slot), &bytes);
+    }
     let slot = traffic.dice.pick(&[0, 1, 2, 3, 42, 91, 92, 122, 123, 124, 125, 126]);
     let unit = traffic.draft.units.get(place).map_or(0, |unit| u64::from(unit.number));
     let mut bytes = traffic.bus_frame(unit)[..56].to_vec();

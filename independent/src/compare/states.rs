@@ -3,8 +3,8 @@
 use super::dice::Dice;
 use super::tables::{Draft, SESSIONS};
 use crate::ring::Ring;
-use crate::state::{self, State, ASKS, GRANTED, INLET_COUNT, LAST, NOBODY, PRIORITY, SHELF};
-use crate::{load, Card, Counters, STORE_PER_UNIT, UNITS_MAX};
+use crate::state::{self, State, ASKS, CONTROL_IN, GRANTED, LAST, LOOPBACK_IN, LOOPBACK_OUT, NOBODY, PRIORITY, SHELF};
+use crate::{load, Card, Counters, CONTROL_CELLS, INLET_CELLS, STORE_PER_UNIT, UNITS_MAX};
 
 /// The state that the draft's table leaves on the wide card.
 pub fn loaded(draft: &Draft) -> State {
@@ -18,8 +18,12 @@ pub fn made(dice: &mut Dice, draft: &Draft) -> State {
     let mut state = loaded(draft);
     let places = state.numbers().len();
     for place in 0..places {
-        let inlet = ring(dice, 4);
+        let (inlet, outlet) = (ring(dice, INLET_CELLS), ring(dice, CONTROL_CELLS));
         state.set_inlet(place, inlet);
+        state.set_control_outlet(place, outlet);
+        for column in [CONTROL_IN, LOOPBACK_IN, LOOPBACK_OUT] {
+            state.columns[column][place] = u8::from(dice.chance(35));
+        }
         for (queue, capacity) in state.settings(place).capacities().into_iter().enumerate() {
             let ring = ring(dice, capacity);
             state.set_queue(place, queue, ring);
@@ -58,8 +62,8 @@ fn grants(dice: &mut Dice, state: &mut State) {
     if numbers.is_empty() {
         return;
     }
-    let place = dice.index(numbers.len());
-    if dice.chance(60) && state.columns[INLET_COUNT][place] > 0 {
+    let (place, waiting) = (dice.index(numbers.len()), state.waiting());
+    if dice.chance(60) && waiting[place] > 0 {
         state.columns[SHELF][GRANTED] = numbers[place];
     }
     for priority in 0..3 {
@@ -68,7 +72,7 @@ fn grants(dice: &mut Dice, state: &mut State) {
     }
     for (place, number) in numbers.iter().enumerate() {
         let granted = u8::from(state.granted() == *number);
-        if dice.chance(60) && state.columns[INLET_COUNT][place] > granted {
+        if dice.chance(60) && waiting[place] > granted {
             state.columns[ASKS][usize::from(*number)] = state.columns[PRIORITY][place];
         }
     }
@@ -80,11 +84,12 @@ fn spoil_the_rest(dice: &mut Dice, state: &mut State) {
     let byte = dice.pick(&[1, 2, 255]);
     let any = dice.chance(50);
     let mut fill = |bytes: &mut [u8]| bytes.fill_with(|| if any { dice.byte() } else { byte });
-    for column in 0..ASKS {
+    for column in (0..ASKS).chain(CONTROL_IN..=LOOPBACK_OUT) {
         fill(&mut state.columns[column][places..]);
     }
     for place in places..UNITS_MAX {
         fill(&mut state.columns[state::SESSIONS + place]);
     }
-    fill(&mut state.bytes_mut()[808..1_024]);
+    fill(&mut state.bytes_mut()[808..832]);
+    fill(&mut state.bytes_mut()[992..1_024]);
 }

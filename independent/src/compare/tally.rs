@@ -33,17 +33,43 @@ const WANTED: &[&str] = &[
     "arrive refused 10",
     "bad",
     "card ok",
+    "collect cell",
+    "collect empty",
+    "collect refused 8",
+    "collect refused 9",
+    "collect refused 10",
     "count read",
     "count refused 8",
     "count refused 9",
+    "frame control queued",
+    "frame control not queued",
     "frame idle",
+    "frame kind 3 of class 2 not queued",
+    "frame kind 3 of class 3 not queued",
+    "frame loopback queued",
+    "frame loopback not queued",
     "frame sent",
     "frame granting",
     "frame to many",
     "frame 65535",
     "frame refused 8",
     "frame refused 10",
+    "hand ok",
+    "hand refused 8",
+    "hand refused 9",
+    "hand refused 10",
+    "hand refused 11",
+    "hear control damaged",
+    "hear control full",
+    "hear control other",
+    "hear control queued",
     "hear damaged",
+    "hear kind 3 of class 2 damaged",
+    "hear kind 3 of class 3 damaged",
+    "hear loopback damaged",
+    "hear loopback full",
+    "hear loopback other",
+    "hear loopback queued",
     "hear other",
     "hear wide",
     "hear full",
@@ -82,7 +108,12 @@ pub struct Tally {
     kinds: BTreeMap<String, u64>,
     pub lines: u64,
     pub tables: u64,
+    /// But for hand-ins and collects.
     pub events: u64,
+    /// Hand-ins and collects, refused ones too.
+    pub processors: u64,
+    /// Frames of kind 3 that were sent, or handed in by `hear` and not refused.
+    pub heard: u64,
     /// Whether the counters have counted since a good load and nothing else.
     counting: bool,
     /// Names of the bytes that each poke since the last event wrote.
@@ -98,8 +129,10 @@ impl Tally {
         let word = fields[0];
         self.tables += u64::from(word == "load");
         let is_event = ["arrive", "hear", "frame", "take", "count"].contains(&word);
+        let is_processors = ["hand", "collect"].contains(&word);
         self.events += u64::from(is_event);
-        if is_event {
+        self.processors += u64::from(is_processors);
+        if is_event || is_processors {
             self.add_poked(fields[1..].starts_with(&["refused", "8"]));
         } else if word == "poke" {
             self.poked.push(poked_name(line));
@@ -107,9 +140,19 @@ impl Tally {
         match fields[..] {
             ["show", "unit", "refused", _] => self.bump("show unit refused 9"),
             [word, "refused", number, ..] => self.bump(&format!("{word} refused {number}")),
-            ["frame", number, sender, granted, copies, _] => self.add_frame(number, sender, granted, copies),
+            ["frame", number, sender, granted, copies, bytes] => {
+                self.add_frame(number, sender, granted, copies);
+                if sender != "-" {
+                    self.add_kind_3("frame", bytes, if copies == "0" { "not queued" } else { "queued" });
+                }
+            }
             ["count", _, ref counters @ ..] => self.add_counters(counters),
-            ["arrive" | "hear" | "take", _, fate, ..] => self.bump(&format!("{word} {fate}")),
+            ["hear", _, fate] => {
+                self.bump(&format!("hear {fate}"));
+                let bytes = line.rsplit(|byte| *byte == b'\t').next().unwrap_or_default();
+                self.add_kind_3("hear", &String::from_utf8_lossy(bytes), fate);
+            }
+            ["arrive" | "take" | "hand" | "collect", _, fate, ..] => self.bump(&format!("{word} {fate}")),
             ["bad"] => self.bump("bad"),
             [_, kind, ..] => self.bump(&format!("{word} {kind}")),
             _ => self.bump("something else"),
@@ -147,6 +190,19 @@ impl Tally {
         }
     }
 
+    /// A heard frame of kind 3, by its class and what became of it; its bytes are in hex.
+    fn add_kind_3(&mut self, word: &str, bytes: &str, fate: &str) {
+        let name = match bytes.chars().next().map(|digit| digit.to_ascii_uppercase()) {
+            Some('C') => "control",
+            Some('D') => "loopback",
+            Some('E') => "kind 3 of class 2",
+            Some('F') => "kind 3 of class 3",
+            _ => return,
+        };
+        self.heard += 1;
+        self.bump(&format!("{word} {name} {fate}"));
+    }
+
     /// The first event after a single poke shows whether State bears it.
     fn add_poked(&mut self, refused: bool) {
         if let [Some(name)] = self.poked[..] {
@@ -169,6 +225,8 @@ impl Tally {
         self.lines += other.lines;
         self.tables += other.tables;
         self.events += other.events;
+        self.processors += other.processors;
+        self.heard += other.heard;
         other.kinds.iter().for_each(|(kind, count)| self.bump_by(kind, *count));
     }
 

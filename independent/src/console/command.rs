@@ -9,7 +9,7 @@ const LENT_MAX: u64 = 300_000;
 const ROWS_MAX: u64 = 40;
 /// Most bytes of a table, cell or frame.
 const BYTES_MAX: usize = 70_000;
-/// Longest buffer of a frame or a take.
+/// Longest buffer of a frame, a take or a collect.
 const BUFFER_MAX: u64 = 1_000;
 
 /// What is lent byte by byte, in a length of one's choice.
@@ -44,6 +44,8 @@ pub enum Command {
     Hear { unit: u32, frame: Vec<u8> },
     Frame { length: usize },
     Take { unit: u32, length: usize },
+    Hand { unit: u32, cell: Vec<u8> },
+    Collect { unit: u32, length: usize },
     Count { unit: u32 },
     Poke { poked: Poked, at: usize, bytes: Vec<u8> },
     Show(Part),
@@ -75,6 +77,10 @@ pub fn parse(line: &[u8]) -> Option<Command> {
         [b"frame", length] => Some(Command::Frame { length: up_to(length, BUFFER_MAX)? as usize }),
         [b"take", unit, length] => {
             Some(Command::Take { unit: unit_number(unit)?, length: up_to(length, BUFFER_MAX)? as usize })
+        }
+        [b"hand", unit, cell] => Some(Command::Hand { unit: unit_number(unit)?, cell: some_bytes(cell)? }),
+        [b"collect", unit, length] => {
+            Some(Command::Collect { unit: unit_number(unit)?, length: up_to(length, BUFFER_MAX)? as usize })
         }
         [b"count", unit] => Some(Command::Count { unit: unit_number(unit)? }),
         [b"poke", poked, at, bytes] => {

@@ -54,6 +54,8 @@ impl Console {
             Command::Hear { unit, frame } => self.hear(unit, &frame, out),
             Command::Frame { length } => self.frame(length, out),
             Command::Take { unit, length } => self.take(unit, length, out),
+            Command::Hand { unit, cell } => self.hand(unit, &cell, out),
+            Command::Collect { unit, length } => self.collect(unit, length, out),
             Command::Count { unit } => self.count(unit, out),
             Command::Poke { poked, at, bytes } => self.poke(poked, at, &bytes, out),
             Command::Show(part) => self.show(part, out),
@@ -134,6 +136,23 @@ impl Console {
             Ok(Taking::Taken) => say!(out, "take\t{unit}\tcell"),
             Ok(Taking::Empty) => say!(out, "take\t{unit}\tempty"),
             Err(refused) => say_refused("take", refused, out),
+        }
+        say_buffer(&buffer, out);
+    }
+
+    fn hand(&mut self, unit: u32, cell: &[u8], out: &mut Vec<u8>) {
+        match self.shelf.hand(unit, cell, &mut self.store, self.rows.len()) {
+            Ok(()) => say!(out, "hand\t{unit}\tok"),
+            Err(refused) => say_refused("hand", refused, out),
+        }
+    }
+
+    fn collect(&mut self, unit: u32, length: usize, out: &mut Vec<u8>) {
+        let mut buffer = vec![BUFFER_BYTE; length];
+        match self.shelf.collect(unit, &mut buffer, &self.store, &mut self.rows) {
+            Ok(Taking::Taken) => say!(out, "collect\t{unit}\tcell"),
+            Ok(Taking::Empty) => say!(out, "collect\t{unit}\tempty"),
+            Err(refused) => say_refused("collect", refused, out),
         }
         say_buffer(&buffer, out);
     }

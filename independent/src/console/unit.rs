@@ -3,8 +3,8 @@
 use std::io::{self, Write};
 
 use crate::state::{
-    CBR_LENGTH, CBR_LIMIT, INLET_COUNT, INLET_HEAD, LINK, MARK, MODE, NUMBER, PRIORITY, QUEUE_COUNT, QUEUE_HEAD,
-    VBR_LIMIT,
+    CBR_LENGTH, CBR_LIMIT, CONTROL_COUNT, CONTROL_HEAD, CONTROL_IN, INLET_COUNT, INLET_HEAD, LINK, LOOPBACK_IN,
+    LOOPBACK_OUT, MARK, MODE, NUMBER, PRIORITY, QUEUE_COUNT, QUEUE_HEAD, VBR_LIMIT,
 };
 use crate::{State, UNITS_MAX};
 
@@ -30,6 +30,14 @@ pub fn write(state: &State, place: usize, out: &mut Vec<u8>) -> io::Result<()> {
         write!(out, "\t{name}")?;
         (0..4).try_for_each(|queue| write!(out, "\t{}", byte(first + queue)))?;
     }
+    let cells = [
+        ("controlin", CONTROL_IN),
+        ("loopbackin", LOOPBACK_IN),
+        ("controlhead", CONTROL_HEAD),
+        ("controlcount", CONTROL_COUNT),
+        ("loopbackout", LOOPBACK_OUT),
+    ];
+    cells.iter().try_for_each(|(name, column)| write!(out, "\t{name}\t{}", byte(*column)))?;
     write!(out, "\tsessions")?;
     let mut heard = (0..=255).filter(|session| state.hears_session(place, *session));
     heard.try_for_each(|session| write!(out, "\t{session}"))

@@ -93,6 +93,23 @@ impl Rig {
         }
     }
 
+    pub fn hand(&mut self, unit: u32, cell: &[u8]) -> Result<(), Refused> {
+        self.shelf.hand(unit, cell, &mut self.store, self.rows.len())
+    }
+
+    /// The cell collected, if any; an empty collect must leave the buffer unchanged.
+    pub fn collect(&mut self, unit: u32) -> Option<[u8; 56]> {
+        let mut buffer = [0xEE; 56];
+        let taking = self.shelf.collect(unit, &mut buffer, &self.store, &mut self.rows);
+        match taking.expect("not refused") {
+            Taking::Taken => Some(buffer),
+            Taking::Empty => {
+                assert_eq!(buffer, [0xEE; 56]);
+                None
+            }
+        }
+    }
+
     pub fn count(&self, unit: u32) -> Counters {
         self.shelf.count(unit, self.store.len(), &self.rows).expect("not refused")
     }
@@ -130,6 +147,22 @@ pub fn frame(routing: u16, header: [u8; 4], payload: u8) -> [u8; 57] {
     frame[2..4].fill(0);
     frame[4..8].copy_from_slice(&header);
     frame[56] = parity(&frame[..56]);
+    frame
+}
+
+/// The 56 bytes of a cell as a processor has it.
+pub fn bus_cell(routing: u16, tandem: [u8; 2], header: [u8; 4], payload: u8) -> [u8; 56] {
+    let mut cell = [payload; 56];
+    cell[..2].copy_from_slice(&routing.to_be_bytes());
+    cell[2..4].copy_from_slice(&tandem);
+    cell[4..8].copy_from_slice(&header);
+    cell
+}
+
+/// The frame of such a cell, with right parity.
+pub fn framed(cell: &[u8; 56]) -> [u8; 57] {
+    let mut frame = [parity(cell); 57];
+    frame[..56].copy_from_slice(cell);
     frame
 }
 
@@ -239,6 +272,11 @@ pub fn bytes_of(name: &str, place: usize) -> Vec<usize> {
         "inletcount" => vec![480 + place],
         "queuehead" => vec![[512, 544, 576, 608][place % 4] + place / 4],
         "queuecount" => vec![[640, 672, 704, 736][place % 4] + place / 4],
+        "controlin" => vec![832 + place],
+        "loopbackin" => vec![864 + place],
+        "controlhead" => vec![896 + place],
+        "controlcount" => vec![928 + place],
+        "loopbackout" => vec![960 + place],
         "asks" => vec![768 + place],
         "last" => vec![[800, 801, 802][place]],
         "granted" => vec![803],

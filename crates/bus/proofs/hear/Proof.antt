@@ -1,11 +1,7 @@
 -- `bus::hear` meets its contract. Assumes nothing.
-use mathlib.Core.Path.{_≡_, sym, ap, ap₂, _∙_}
+use mathlib.Core.Path.{sym, _∙_}
 use lib.Seq.{length-take-le}
-use Rattle.octets.specs.Octets.{two, four}
-use Rattle.bus.specs.Routing.{address}
-use Rattle.bus.specs.Frame.{delivered}
-use Rattle.bus.specs.declared.Address.the-variants.{Bad, To}
-use Rattle.bus.proofs.Laws.{heard-length, heard-parity, heard-address}
+use Rattle.bus.proofs.Laws.{heard-length, heard-parity, heard-carried}
 use native.Mathlib.Omega.{arith}
 use borrow.Author.Needs.{needs}
 use Rattle.bus.proofs.hear.Statement.{statement}
@@ -22,16 +18,8 @@ returns-2 c = sym (heard-parity (c .before .before .before .before .before .befo
 
 returns-3 : tie.Need-returns-3
 returns-3 c =
-    let f = c .before .before .before .before .before .before .before .before .before .before .args .frame .now in
-    let a : address (two f 0) ≡ Bad = sym (c .before .before .read .ensures ∙ ap address (c .before .before .before .two .ensures)) ∙ c .enum-told .given .1 in
-    sym (heard-address f (c .before .before .before .before .before .before .before .before .if1 .left) (sym (c .before .before .before .before .before .before .parity .ensures) ∙ c .before .before .before .before .if2 .left) ∙ ap (λ a. delivered a (four f 4)) a)
-
-returns-4 : tie.Need-returns-4
-returns-4 c =
-    let f = c .before .before .before .before .before .before .before .before .before .before .before .before .args .frame .now in
-    let t = c .before .before .target .given in
-    let a : address (two f 0) ≡ To (t .0 .0) (t .0 .1 .0) = sym (c .before .before .before .before .read .ensures ∙ ap address (c .before .before .before .before .before .two .ensures)) ∙ t .1 in
-    sym (heard-address f (c .before .before .before .before .before .before .before .before .before .before .if1 .left) (sym (c .before .before .before .before .before .before .before .before .parity .ensures) ∙ c .before .before .before .before .before .before .if2 .left) ∙ ap₂ delivered a (sym (c .four .ensures)))
+    let f = c .before .before .before .before .before .before .before .args .frame .now in
+    c .carried .ensures ∙ sym (heard-carried f (c .before .before .before .before .before .if1 .left) (sym (c .before .before .before .parity .ensures) ∙ c .before .if2 .left))
 
 pub hear-spec : {M : Type 1} → statement M
 hear-spec =
@@ -43,9 +31,4 @@ hear-spec =
     (λ c. search needs)
     returns-2
     (λ c κs. search needs)
-    (λ c κs. search needs)
-    (λ c. search needs)
-    (λ c. search needs)
-    returns-3
-    (λ c κs. search needs)
-    returns-4)
+    returns-3)

@@ -1,5 +1,5 @@
 -- `command::line_of` meets its contract. Assumes nothing.
-use Rattle.command.proofs.Laws.{past-lines, from-6, from-9}
+use Rattle.command.proofs.Laws.{past-lines, from-6, from-11}
 use borrow.Author.Needs.{needs}
 use Rattle.command.proofs.line_of.Statement.{statement}
 use Rattle.command.proofs.line_of.Tie as tie
@@ -26,18 +26,26 @@ returns-7 : tie.Need-returns-7
 returns-7 c = rw (c .before .match .keys7) (c .take-line .ensures)
 
 returns-8 : tie.Need-returns-8
-returns-8 c = rw (c .before .match .keys8) (c .count-line .ensures)
+returns-8 c = rw (c .before .match .keys8) (c .hand-line .ensures)
 
 returns-9 : tie.Need-returns-9
-returns-9 c = rw (c .before .match .keys9) (c .poke-line .ensures)
+returns-9 c = rw (c .before .match .keys9) (c .collect-line .ensures)
 
 returns-10 : tie.Need-returns-10
-returns-10 c = past-lines _ _ (from-9 _ (from-6 _ (c .match .rest .0 .0 .0 .0 .0 .0 .0 .0 .1) (c .match .rest .0 .0 .0 .0 .0 .0 .0 .1) (c .match .rest .0 .0 .0 .0 .0 .0 .1) (c .match .rest .0 .0 .0 .0 .0 .1) (c .match .rest .0 .0 .0 .0 .1) (c .match .rest .0 .0 .0 .1)) (c .match .rest .0 .0 .1) (c .match .rest .0 .1) (c .match .rest .1))
+returns-10 c = rw (c .before .match .keys10) (c .count-line .ensures)
+
+returns-11 : tie.Need-returns-11
+returns-11 c = rw (c .before .match .keys11) (c .poke-line .ensures)
+
+returns-12 : tie.Need-returns-12
+returns-12 c = past-lines _ _ (from-11 _ (from-6 _ (c .match .rest .0 .0 .0 .0 .0 .0 .0 .0 .0 .0 .1) (c .match .rest .0 .0 .0 .0 .0 .0 .0 .0 .0 .1) (c .match .rest .0 .0 .0 .0 .0 .0 .0 .0 .1) (c .match .rest .0 .0 .0 .0 .0 .0 .0 .1) (c .match .rest .0 .0 .0 .0 .0 .0 .1) (c .match .rest .0 .0 .0 .0 .0 .1)) (c .match .rest .0 .0 .0 .0 .1) (c .match .rest .0 .0 .0 .1) (c .match .rest .0 .0 .1) (c .match .rest .0 .1) (c .match .rest .1))
 
 pub line-of-spec : {M : Type 1} → statement M
 line-of-spec =
     tie.close
     (tie.spec
+    (λ c κs. search needs)
+    (λ c κs. search needs)
     (λ c κs. search needs)
     (λ c κs. search needs)
     (λ c κs. search needs)
@@ -56,4 +64,6 @@ line-of-spec =
     returns-7
     returns-8
     returns-9
-    returns-10)
+    returns-10
+    returns-11
+    returns-12)

@@ -7,8 +7,8 @@ use lib.Dec.{eqb}
 use lib.ListN.{length, length-set, set, drop}
 use lib.Seq.{set-out}
 use Rattle.arbiter.specs.Arbitration.{asking, asksNow}
-use Rattle.shelf.specs.Shelves.{declared}
-use Rattle.state.specs.Bytes.{col, shelfIn}
+use Rattle.shelf.specs.Shelves.{declared, waiting}
+use Rattle.state.specs.Bytes.{col, unitIn, shelfIn}
 use Rattle.framing.specs.Requests.{askingOf, askingNow}
 use Rattle.framing.proofs.Turns.{none-left, asked, asks-none}
 use borrow.Author.Needs.{needs}
@@ -31,14 +31,14 @@ at-requires c κs = let e = c .before .before .before .declared-count .ensures i
 at-requires-2 : tie.Need-at-requires-2 Inv-loop μ-loop
 at-requires-2 c κs = let e = c .before .before .before .before .before .declared-count .ensures in (c .before .before .before .before .before .before .before .before .pre, omega arith, omega arith)
 
-at-requires-3 : tie.Need-at-requires-3 Inv-loop μ-loop
-at-requires-3 c κs = let e = c .before .before .before .before .before .before .declared-count .ensures in (c .before .before .before .before .before .before .before .before .before .pre, omega arith, omega arith)
+waiting-at-requires : tie.Need-waiting-at-requires Inv-loop μ-loop
+waiting-at-requires c κs = let e = c .before .before .before .before .before .before .declared-count .ensures in (c .before .before .before .before .before .before .before .before .before .pre, omega arith)
 
 -- where the arms meet: the unit's request stands in its place; a number that no unit has changes nothing
 met : (c : tie.Joined1 Inv-loop μ-loop) →
     let l = c .before .before .before .loop in
     let b = c .before .before .before .before .before .before .before .before .args .s .now in
-    c .if1 .now ≡ set (l .now) (col b (l .i) 0) (asksNow (shelfIn b .granted) (col b (l .i) 0) (col b (l .i) 4) (col b (l .i) 15))
+    c .if1 .now ≡ set (l .now) (col b (l .i) 0) (asksNow (shelfIn b .granted) (col b (l .i) 0) (col b (l .i) 4) (waiting (unitIn b (l .i))))
 met c =
     let l = c .before .before .before .loop in
     let b = c .before .before .before .before .before .before .before .before .args .s .now in
@@ -48,7 +48,7 @@ met c =
     (λ w.
     let m = l .inv .1 .0 in
     let h = w .0 .left in
-    w .1 ∙ sym (set-out (l .now) (col b (l .i) 0) (asksNow (shelfIn b .granted) (col b (l .i) 0) (col b (l .i) 4) (col b (l .i) 15)) (omega (arith, n))))
+    w .1 ∙ sym (set-out (l .now) (col b (l .i) 0) (asksNow (shelfIn b .granted) (col b (l .i) 0) (col b (l .i) 4) (waiting (unitIn b (l .i)))) (omega (arith, n))))
     (c .if1 .came)
 
 add-i : tie.Need-add-i Inv-loop μ-loop
@@ -85,7 +85,7 @@ asking-now-spec =
     loop-holds
     at-requires
     at-requires-2
-    at-requires-3
+    waiting-at-requires
     (λ c κs. search needs)
     (λ c. search needs)
     (λ c. search needs)

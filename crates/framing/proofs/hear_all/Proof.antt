@@ -3,6 +3,7 @@ use Prim.Native.Nat.{ℕ, _+_, _-_, _≤_, _<_, min}
 use native.Mathlib.Omega.{arith}
 use mathlib.Core.Path.{_≡_, refl, sym, ap, subst, _∙_}
 use mathlib.Core.Bool.{false, _||_}
+use lib.Bits.{bitOr}
 use lib.ListN.{length, set, getD, length-set}
 use Rattle.state.specs.Bytes.{unitIn}
 use Rattle.answer.specs.Answers.{hearingRises, queuedOne, isAddressed}
@@ -25,7 +26,7 @@ Inv-loop s₀ heard cell store₀ each₀ end copies₀ addressed₀ i₀ s stor
     × (length store ≡ length store₀)
     × (length each ≡ 32)
     × ((j : ℕ) → i ≤ j → j < end → Housed j (unitIn s j) (length store₀))
-    × (heededBy heard cell s₀ store₀ ≡ turns heard cell i (end - i) (scene s store each copies addressed))
+    × (heededBy heard cell s₀ store₀ each₀ ≡ turns heard cell i (end - i) (scene s store each copies addressed))
 
 abbrev μ-loop : tie.MeasureT-loop
 μ-loop s₀ heard cell store₀ each₀ end copies₀ addressed₀ i₀ s store each copies addressed i = end - i
@@ -41,9 +42,9 @@ loop-holds c =
       omega arith,
       s .pre .0,
       refl,
-      ap length (s .pre .3),
+      s .pre .3,
       λ j h l. s .pre .2 j (omega arith),
-      (λ t. turns (a .heard) (a .cell .now) 0 (n t) (scene (a .s .now) (a .store .now) (sym (s .pre .3) t) 0 false)),
+      ap (λ k. turns (a .heard) (a .cell .now) 0 k (scene (a .s .now) (a .store .now) (a .each .now) 0 false)) n,
     )
 
 heed-requires : tie.Need-heed-requires Inv-loop μ-loop
@@ -52,14 +53,15 @@ heed-requires c κs =
     (l .inv .3, c .before .before .before .before .before .before .before .before .before .before .pre .1, subst (λ n. Housed (l .i) (unitIn (l .s) (l .i)) n) (sym (l .inv .4)) (l .inv .6 (l .i) (omega arith) (omega arith)))
 
 add-copies : tie.Need-add-copies Inv-loop μ-loop
-add-copies c = let w = c .before .before .before .before .before .before .before .before .before .before .loop .inv in let q = c .queued-one .ensures .1 in omega (arith, w .0, w .1, w .2, q)
+add-copies c = let w = c .before .before .before .before .before .before .before .before .before .before .before .loop .inv in let q = c .queued-one .ensures .1 in omega (arith, w .0, w .1, w .2, q)
 
 loop-again : tie.Need-loop-again Inv-loop μ-loop
 loop-again c =
-    let l = c .before .before .before .before .before .before .before .before .before .before .before .loop in
-    let a = c .before .before .before .before .before .before .before .before .before .before .before .before .before .before .before .before .before .before .args in
-    let w = c .before .before .before .before .before .before .before .heed in
-    let n = c .before .before .before .before .before .before .before .before .before .before .before .before .declared-count .result in
+    let l = c .before .before .before .before .before .before .before .before .before .before .before .before .loop in
+    let a = c .before .before .before .before .before .before .before .before .before .before .before .before .before .before .before .before .before .before .before .args in
+    let w = c .before .before .before .before .before .before .before .before .heed in
+    let n = c .before .before .before .before .before .before .before .before .before .before .before .before .before .declared-count .result in
+    let r = c .before .before .hearing-rises in
     let u = unitIn (l .s) (l .i) in
     let p = planOf u (a .heard) in
     let f = w .ensures .0 in
@@ -72,10 +74,10 @@ loop-again c =
       omega (arith, l .inv .2, c .before .queued-one .ensures .1),
       ap length es ∙ state-long p (l .s) (l .i) ∙ l .inv .3,
       long ∙ l .inv .4,
-      length-set (l .each) (l .i) (c .before .before .hearing-rises .result) ∙ l .inv .5,
+      length-set (l .each) (l .i) (bitOr (getD (l .each) (l .i) 0) (r .result)) ∙ l .inv .5,
       λ j hj lj. subst (λ x. Housed j x (length (a .store .now))) (sym (ap (λ b. unitIn b j) es ∙ state-there p (l .s) (l .i) (plan-queue u (a .heard)) (omega (arith, l .inv .1, less)) (l .inv .3) j (omega (arith, l .inv .1, lj)) (λ e. absurd (omega arith)))) (l .inv .6 j (omega arith) lj),
       l .inv .7 ∙ turns-step (a .heard) (a .cell .now) (l .i) n _ _ less (λ t.
-          scene (sym es t) (sym et t) (set (l .each) (l .i) (sym (c .before .before .hearing-rises .ensures ∙ ap hearingRises f) t)) (l .copies + sym (c .before .queued-one .ensures .0 ∙ ap queuedOne f) t) (l .addressed || sym (c .is-addressed .ensures ∙ ap isAddressed f) t)),
+          scene (sym es t) (sym et t) (set (l .each) (l .i) (bitOr (getD (l .each) (l .i) 0) (sym (r .ensures ∙ ap hearingRises f) t))) (l .copies + sym (c .before .queued-one .ensures .0 ∙ ap queuedOne f) t) (l .addressed || sym (c .is-addressed .ensures ∙ ap isAddressed f) t)),
     )
 
 same-length : tie.Need-same-length Inv-loop μ-loop
@@ -85,7 +87,7 @@ same-length-2 : tie.Need-same-length-2 Inv-loop μ-loop
 same-length-2 c = c .before .loop .inv .4
 
 same-length-3 : tie.Need-same-length-3 Inv-loop μ-loop
-same-length-3 c = c .before .loop .inv .5 ∙ sym (ap length (c .before .before .before .before .before .before .before .before .pre .3))
+same-length-3 c = c .before .loop .inv .5 ∙ sym (c .before .before .before .before .before .before .before .before .pre .3)
 
 returns : tie.Need-returns Inv-loop μ-loop
 returns c =
@@ -104,6 +106,8 @@ hear-all-spec =
     (λ c κs. search needs)
     loop-holds
     heed-requires
+    (λ c. search needs)
+    (λ c. search needs)
     (λ c κs. search needs)
     (λ c. search needs)
     (λ c. search needs)

@@ -8,16 +8,8 @@ use Rattle.framing.proofs.renew_all.Tie as tie
 
 returns : tie.Need-returns
 returns c =
-    let b = c .before .before .before .before .before .before .args .s .now in
-    c .renew .ensures ∙ (λ i. renewed (c .before .before .before .before .arbiter-at .ensures i) (getD b 804 0) (c .before .before .frame-at .ensures i) (c .before .asking-now .ensures i))
+    let s = c .before .before .before .before .before in
+    c .renew .ensures ∙ (λ i. renewed (c .before .before .before .arbiter-at .ensures i) (getD (s .args .s .now) 804 0) (c .before .frame-at .ensures i) (s .pre .1 i))
 
 pub renew-all-spec : {M : Type 1} → statement M
-renew-all-spec =
-    tie.close
-    (tie.spec
-    (λ c κs. search needs)
-    (λ c. search needs)
-    (λ c κs. search needs)
-    (λ c κs. search needs)
-    (λ c κs. search needs)
-    returns)
+renew-all-spec = tie.close (tie.spec (λ c κs. search needs) (λ c. search needs) (λ c κs. search needs) (λ c κs. search needs) returns)

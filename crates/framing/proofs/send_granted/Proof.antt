@@ -7,7 +7,7 @@ use Rattle.shelf.proofs.Finding.{find-at, declared-length}
 use Rattle.state.specs.Bytes.{shelfIn}
 use Rattle.state.proofs.Laws.{units-length}
 use Rattle.framing.specs.Frames.{listenedBy, storeBy, bufferBy}
-use Rattle.framing.specs.Scenes.{talliedBy, heededOf}
+use Rattle.framing.specs.Scenes.{heededOf}
 use Rattle.framing.specs.InPlace.{stateBy}
 use borrow.Author.Needs.{needs}
 use Rattle.framing.proofs.send_granted.Statement.{statement}
@@ -28,7 +28,7 @@ returns c =
     let b = a .s .now in
     let e = sym (sym (c .before .before .before .before .before .before .before .before .before .before .before .before .before .before .before .before .find .ensures) ∙ c .before .before .before .before .before .before .before .before .before .before .before .before .before .before .place .given .1) in
     let w = c .before .before .before .before .before .before .before .before .send .ensures in (
-      w .0 ∙ ap (λ x. heededOf (listenedBy x (shelfIn b) (a .store .now))) e,
+      w .0 ∙ ap (λ x. heededOf (listenedBy x (shelfIn b) (a .store .now) (a .each .now))) e,
       (
         w .1 .0 ∙ ap (λ x. stateBy x b (a .store .now)) e,
         (w .1 .1 .0 ∙ ap (λ x. storeBy x (shelfIn b) (a .store .now)) e, w .1 .1 .1 ∙ ap (λ x. bufferBy x (shelfIn b) (a .store .now) (a .buffer .now)) e),
@@ -42,7 +42,7 @@ returns-2 c =
     let a = s .args in
     let b = a .s .now in
     let e = sym (sym (c .before .before .before .find .ensures) ∙ c .before .enum-told .given .1) in (
-      ap (talliedBy (c .silence .result)) (s .pre .3) ∙ c .silence .ensures ∙ ap (λ x. heededOf (listenedBy x (shelfIn b) (a .store .now))) e,
+      c .silence .ensures (a .each .now) ∙ ap (λ x. heededOf (listenedBy x (shelfIn b) (a .store .now) (a .each .now))) e,
       (
         ap (λ x. stateBy x b (a .store .now)) e,
         (ap (λ x. storeBy x (shelfIn b) (a .store .now)) e, ap (λ x. bufferBy x (shelfIn b) (a .store .now) (a .buffer .now)) e),

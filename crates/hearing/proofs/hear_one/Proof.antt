@@ -45,6 +45,22 @@ returns-4 c =
     let w = c .before .before .before .before .accept .ensures in
     (w .0 ∙ ap fateBy (sym p), (w .1 .0 ∙ ap (λ x. stateBy x (a .s .now) (a .place)) (sym p), w .1 .1 ∙ ap (λ x. storeBy x u (a .place) (a .store .now) (a .cell .now)) (sym p)))
 
+returns-5 : tie.Need-returns-5
+returns-5 c =
+    let a = c .before .before .before .before .before .before .before .before .before .before .before .before .before .args in
+    let u = unitIn (a .s .now) (a .place) in
+    let e = ap (planOf u) (sym (c .before .before .before .before .before .before .before .before .heard2 .given .1)) in
+    let w = c .before .before .before .before .hear-control .ensures in
+    (w .0 ∙ ap fateBy e, (w .1 .0 ∙ ap (λ x. stateBy x (a .s .now) (a .place)) e, w .1 .1 ∙ ap (λ x. storeBy x u (a .place) (a .store .now) (a .cell .now)) e))
+
+returns-6 : tie.Need-returns-6
+returns-6 c =
+    let a = c .before .before .before .before .before .before .before .before .before .before .before .before .before .args in
+    let u = unitIn (a .s .now) (a .place) in
+    let e = ap (planOf u) (sym (c .before .before .before .before .before .before .before .before .heard3 .given .1)) in
+    let w = c .before .before .before .before .hear-loopback .ensures in
+    (w .0 ∙ ap fateBy e, (w .1 .0 ∙ ap (λ x. stateBy x (a .s .now) (a .place)) e, w .1 .1 ∙ ap (λ x. storeBy x u (a .place) (a .store .now) (a .cell .now)) e))
+
 pub hear-one-spec : {M : Type 1} → statement M
 hear-one-spec =
     tie.close
@@ -56,8 +72,18 @@ hear-one-spec =
     (λ c. search needs)
     returns
     (λ c κs. search needs)
+    (λ c. search needs)
+    (λ c κs. search needs)
+    (λ c. search needs)
+    (λ c κs. search needs)
     returns-2
     returns-3
     (λ c. search needs)
     (λ c. search needs)
-    returns-4)
+    returns-4
+    (λ c. search needs)
+    (λ c. search needs)
+    returns-5
+    (λ c. search needs)
+    (λ c. search needs)
+    returns-6)

@@ -8,7 +8,7 @@ use Rattle.named.proofs.put_unit.Tie as tie
 
 returns : tie.Need-returns
 unfolding placeText
-returns c = (then _ _ _ _ _ _ _ _ (then _ _ _ _ _ _ _ _ (c .before .before .before .before .before .before .before .before .before .before .before .put-front .ensures .0) (c .before .before .before .before .before .before .before .put-rings .ensures .0) (omega arith)) (rw (c .before .before .before .sessions-at .ensures) at (c .before .before .put-sessions .ensures .0)) (omega arith), omega arith)
+returns c = (then _ _ _ _ _ _ _ _ (then _ _ _ _ _ _ _ _ (c .before .before .before .before .before .before .before .before .before .before .before .put-front .ensures .0) (c .before .before .before .before .before .before .before .put-cells .ensures .0) (omega arith)) (rw (c .before .before .before .sessions-at .ensures) at (c .before .before .put-sessions .ensures .0)) (omega arith), omega arith)
 
 pub put-unit-spec : {M : Type 1} → statement M
 put-unit-spec =

@@ -12,7 +12,7 @@ returns : tie.Need-returns
 returns c =
     let p = c .before in
     let a = p .before .before .before .args in
-    ap (λ n. marks (a .t2) (a .granted) && leb 1 n) (c .at .ensures ∙ ap (cellsIn (a .s .now)) (p .place-of .ensures .0))
+    ap (λ t. marks (a .t2) (a .granted) && t) (ap (leb 1) (c .cells .ensures) ∙ ap (λ i. leb 1 (cellsIn (a .s .now) i)) (p .place-of .ensures .0))
     ∙ grant-in (cellsIn (a .s .now)) (a .t2) (a .granted) (p .before .if1 .taken)
 
 returns-2 : tie.Need-returns-2

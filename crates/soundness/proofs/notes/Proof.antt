@@ -30,7 +30,7 @@ add-each : tie.Need-add-each Inv-loop μ-loop
 add-each c =
     let read = c .before in
     let s = c .standing .ensures in
-    let most = stands-most (read .before .before .at .result) (read .before .at2 .result) (read .at3 .result) (read .before .before .before .before .before .before .args .granted) in
+    let most = stands-most (read .before .before .at .result) (read .before .cells .result) (read .at2 .result) (read .before .before .before .before .before .before .args .granted) in
     omega arith
 
 array-write-each : tie.Need-array-write-each Inv-loop μ-loop
@@ -51,8 +51,8 @@ loop-again c =
     let e = l .inv .1 in (
       omega arith,
       length-set (l .each) _ _ ∙ e,
-      one-more (a .s .now) (a .granted) (l .each) (l .i) _ (omega arith) (l .inv .2)
-          (ap (λ n. 8 * l .i + n) (c .standing .ensures ∙ (λ t. standing (read .before .before .at .ensures t) (read .before .at2 .ensures t) (read .at3 .ensures t) (a .granted)))),
+      one-more (λ j. 8 * j + standingIn (a .granted) (col (a .s .now) j)) (l .each) (l .i) _ (omega arith) (l .inv .2)
+          (ap (λ n. 8 * l .i + n) (c .standing .ensures ∙ (λ t. standing (read .before .before .at .ensures t) (read .before .cells .ensures t) (read .at2 .ensures t) (a .granted)))),
     )
 
 returns : tie.Need-returns Inv-loop μ-loop

@@ -37,10 +37,16 @@ returns-8 : tie.Need-returns-8
 unfolding answerFields
 returns-8 c = rw (c .before .before .before .before .enum-told2 .given .1) (c .before .before .put-empty .ensures .0, omega arith)
 
+returns-9 : tie.Need-returns-9
+unfolding answerFields
+returns-9 c = rw (c .before .before .before .before .enum-told3 .given .1) (c .before .before .put-handed .ensures .0, omega arith)
+
 pub put-answer-spec : {M : Type 1} → statement M
 put-answer-spec =
     tie.close
     (tie.spec
+    (λ c. search needs)
+    (λ c κs. search needs)
     (λ c. search needs)
     (λ c κs. search needs)
     (λ c. search needs)
@@ -72,4 +78,6 @@ put-answer-spec =
     (λ c. search needs)
     returns-7
     (λ c. search needs)
-    returns-8)
+    returns-8
+    (λ c. search needs)
+    returns-9)

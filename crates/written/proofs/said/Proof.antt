@@ -32,11 +32,15 @@ returns-6 c = (rw (c .before .before .before .before .before .before .before .be
 
 returns-7 : tie.Need-returns-7
 unfolding saidText
-returns-7 c = (rw (c .before .before .before .before .before .before .before .before .before .before .enum-told .given .1) (then _ _ _ _ _ _ _ _ (c .before .before .before .before .before .before .before .say6 .ensures .0) (c .before .before .put2 .ensures) (omega arith)), omega arith)
+returns-7 c = (rw (c .before .before .before .before .before .before .before .before .before .enum-told .given .1) (then _ _ _ _ _ _ _ _ (c .before .before .before .before .before .before .before .say6 .ensures .0) (c .before .before .put2 .ensures) (omega arith)), omega arith)
 
 returns-8 : tie.Need-returns-8
 unfolding saidText
-returns-8 c = (rw (c .before .before .before .before .before .before .before .before .before .before .enum-told2 .given .1) (then _ _ _ _ _ _ _ _ (c .before .before .before .before .before .before .before .say7 .ensures .0) (c .before .before .put3 .ensures) (omega arith)), omega arith)
+returns-8 c = (rw (c .before .before .before .before .before .before .before .before .before .enum-told2 .given .1) (then _ _ _ _ _ _ _ _ (c .before .before .before .before .before .before .before .say7 .ensures .0) (c .before .before .put3 .ensures) (omega arith)), omega arith)
+
+returns-9 : tie.Need-returns-9
+unfolding saidText
+returns-9 c = (rw (c .before .before .before .before .before .before .before .before .before .before .enum-told3 .given .1) (then _ _ _ _ _ _ _ _ (c .before .before .before .before .before .before .before .say8 .ensures .0) (c .before .before .put4 .ensures) (omega arith)), omega arith)
 
 pub said-spec : {M : Type 1} → statement M
 said-spec =
@@ -68,6 +72,9 @@ said-spec =
     (λ c κs. search needs)
     (λ c κs. search needs)
     (λ c. search needs)
+    (λ c κs. search needs)
+    (λ c. search needs)
+    (λ c κs. search needs)
     (λ c. search needs)
     (λ c κs. search needs)
     (λ c. search needs)
@@ -92,4 +99,6 @@ said-spec =
     (λ c. search needs)
     returns-7
     (λ c. search needs)
-    returns-8)
+    returns-8
+    (λ c. search needs)
+    returns-9)
