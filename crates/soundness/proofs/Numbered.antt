@@ -19,9 +19,9 @@ use Rattle.shelf.specs.declared.Found.{Found}
 use Rattle.shelf.specs.declared.Found.the-variants.{At, Nothing}
 use Rattle.shelf.proofs.Finding.{find-at, find-nothing}
 use Rattle.soundness.specs.State.{every, among, noneRepeated, askHeld, grantHasCell, requestHasCell, nobodyOr, lastsKnown, asksKnown, arbiterKnown, DeclaredIn}
-use Rattle.soundness.specs.Numbered.{standing, stands, noteOf, marks, askIn, asksHeld, celled, grantIn, arbiterHeld, noted, howMany, none}
+use Rattle.soundness.specs.Numbered.{standing, stands, noteOf, placeIn, marks, askIn, asksHeld, celled, grantIn, arbiterHeld, noted, howMany}
 use Rattle.soundness.proofs.Facts.{imp-iff, every-iff, among-iff, quiet-iff}
-use Rattle.soundness.proofs.Pass.{priorityOf, cellsOf, Placed, noted-none, noted-at, counted, marks-from-none}
+use Rattle.soundness.proofs.Pass.{priorityOf, cellsOf, Placed, noted-none, noted-at, counted, marks-noted}
 
 -- the code's tests, of 32 numbers
 pub nobody-in : (held : List ℕ) (number : ℕ) → number < 32 → marks held number ≡ nobodyOr (marks held) number
@@ -64,39 +64,31 @@ held-iff held n (a ∷ asks) =
       ),
     )
 
--- what a unit's standing says of its cells, beside 8 times its place
-pub stands-most : (p c n granted : ℕ) → standing p c n granted ≤ 4
+-- what a unit's standing says of its cells, beside 4 times its place
+pub stands-most : (p c n granted : ℕ) → standing p c n granted ≤ 3
 stands-most p c n granted = at (leb 1 (besides c (eqb n granted)))
   where
-    at : (x : Bool) → cond x (p % 4) 4 ≤ 4
+    at : (x : Bool) → cond x (p % 4) 0 ≤ 3
     at true = omega arith
     at false = omega arith
 
-module _ (p c n granted : ℕ) (least : 1 ≤ p) (most : p ≤ 3) where
-  pub stands-some : 1 ≤ standing p c n granted
-  stands-some = at (leb 1 (besides c (eqb n granted)))
-    where
-      at : (x : Bool) → 1 ≤ cond x (p % 4) 4
-      at true = omega arith
-      at false = omega arith
+pub stands-ask : (p c n granted : ℕ) → 1 ≤ p → p ≤ 3 → (i ask : ℕ) → askIn ask (128 + 4 * i + standing p c n granted) ≡ askHeld granted ask n p c
+stands-ask p c n granted least most i ask = at (leb 1 (besides c (eqb n granted)))
+  where
+    twice : (z w : Bool) → (z || z) ≡ (z || (w && false))
+    twice true w = refl
+    twice false w = sym (and-false w)
 
-  pub stands-ask : (i ask : ℕ) → askIn ask (8 * i + standing p c n granted) ≡ askHeld granted ask n p c
-  stands-ask i ask = at (leb 1 (besides c (eqb n granted)))
-    where
-      twice : (z w : Bool) → (z || z) ≡ (z || (w && false))
-      twice true w = refl
-      twice false w = sym (and-false w)
-
-      at : (x : Bool) → (eqb ask 0 || eqb ask ((8 * i + cond x (p % 4) 4) % 4)) ≡ (eqb ask 0 || (eqb ask p && x))
-      at true = let m : (8 * i + p % 4) % 4 ≡ p = omega arith in (λ t. eqb ask 0 || eqb ask (m t)) ∙ ap (λ x. eqb ask 0 || x) (sym (and-true (eqb ask p)))
-      at false = let m : (8 * i + 4) % 4 ≡ 0 = omega arith in (λ t. eqb ask 0 || eqb ask (m t)) ∙ twice (eqb ask 0) (eqb ask p)
+    at : (x : Bool) → (eqb ask 0 || eqb ask ((128 + 4 * i + cond x (p % 4) 0) % 4)) ≡ (eqb ask 0 || (eqb ask p && x))
+    at true = let m : (128 + 4 * i + p % 4) % 4 ≡ p = omega arith in (λ t. eqb ask 0 || eqb ask (m t)) ∙ ap (λ x. eqb ask 0 || x) (sym (and-true (eqb ask p)))
+    at false = let m : (128 + 4 * i + 0) % 4 ≡ 0 = omega arith in (λ t. eqb ask 0 || eqb ask (m t)) ∙ twice (eqb ask 0) (eqb ask p)
 
 -- the code's test, of the cells beside those taken
 pub stands-left : (p c n granted t : ℕ) → t ≡ cond (eqb n granted) 1 0 → t < c → p % 4 ≡ standing p c n granted
-stands-left p c n granted t e h = ap (λ x. cond x (p % 4) 4) (sym (le-leb 1 (besides c (eqb n granted)) (omega arith)))
+stands-left p c n granted t e h = ap (λ x. cond x (p % 4) 0) (sym (le-leb 1 (besides c (eqb n granted)) (omega arith)))
 
-pub stands-without : (p c n granted t : ℕ) → t ≡ cond (eqb n granted) 1 0 → c ≤ t → 4 ≡ standing p c n granted
-stands-without p c n granted t e h = ap (λ x. cond x (p % 4) 4) (sym (lt-leb 1 (besides c (eqb n granted)) (omega arith)))
+pub stands-without : (p c n granted t : ℕ) → t ≡ cond (eqb n granted) 1 0 → c ≤ t → 0 ≡ standing p c n granted
+stands-without p c n granted t e h = ap (λ x. cond x (p % 4) 0) (sym (lt-leb 1 (besides c (eqb n granted)) (omega arith)))
 
 abbrev pub Ranged : List U.Unit → Type 0
 Ranged us = (i : ℕ) → i < length us → (numberOf (getD us i blank) < 32) × (1 ≤ priorityOf (getD us i blank)) × (priorityOf (getD us i blank) ≤ 3)
@@ -106,17 +98,17 @@ undeclared : (us : List U.Unit) (n : ℕ) → (DeclaredIn us n → ⊥) → (b :
 undeclared us n d true e = absurd (d (among-iff us n .0 e))
 undeclared us n d false e = e
 
-pub noted-found : (granted : ℕ) (us : List U.Unit) (n : ℕ) → Placed granted 32 us → noneRepeated (numbers us) ≡ true → getD (noted granted none 0 us) n 0 ≡ noteOf granted us (findIn us n)
+pub noted-found : (granted : ℕ) (us : List U.Unit) (n : ℕ) → Placed us → noneRepeated (numbers us) ≡ true → getD (noted granted 0 us) n 0 ≡ noteOf granted us (findIn us n)
 unfolding noteOf
 noted-found granted us n placed once = pick (findIn us n) refl
   where
-    pick : (f : Found) → findIn us n ≡ f → getD (noted granted none 0 us) n 0 ≡ noteOf granted us f
-    pick (At i) e = let f = find-at n us i .0 e in ap (λ m. getD (noted granted none 0 us) m 0) (sym (f .named)) ∙ noted-at granted us i placed once (f .inside)
-    pick Nothing e = noted-none granted us n (undeclared us n (λ d. find-nothing n us .0 e (d .0) (d .1) (d .2)) (among (numbers us) n) refl)
+    pick : (f : Found) → findIn us n ≡ f → getD (noted granted 0 us) n 0 ≡ noteOf granted us f
+    pick (At i) e = let f = find-at n us i .0 e in ap (λ m. getD (noted granted 0 us) m 0) (sym (f .named)) ∙ noted-at granted us i placed once (f .inside)
+    pick Nothing e = noted-none granted 0 us n (undeclared us n (λ d. find-nothing n us .0 e (d .0) (d .1) (d .2)) (among (numbers us) n) refl)
 
-module _ (granted : ℕ) (last asks : List ℕ) (us : List U.Unit) (placed : Placed granted 32 us) (ranged : Ranged us) (cells : ℕ → ℕ) (inlets : (i : ℕ) → i < length us → cells i ≡ cellsOf (getD us i blank)) where
+module _ (granted : ℕ) (last asks : List ℕ) (us : List U.Unit) (placed : Placed us) (ranged : Ranged us) (few : length us ≤ 32) (cells : ℕ → ℕ) (inlets : (i : ℕ) → i < length us → cells i ≡ cellsOf (getD us i blank)) where
   abbrev hs : List ℕ
-  hs = noted granted none 0 us
+  hs = noted granted 0 us
 
   abbrev known : ℕ → Bool
   known = among (numbers us)
@@ -131,13 +123,11 @@ module _ (granted : ℕ) (last asks : List ℕ) (us : List U.Unit) (placed : Pla
     -- an open grant
     grant-at : (i : ℕ) → i < length us → celled cells hs (number i) ≡ leb 1 (cellsOf (unit i))
     grant-at i h =
-        let r = ranged i h in
         let s = stands granted (unit i) in
-        let some = stands-some (priorityOf (unit i)) (cellsOf (unit i)) (number i) granted (r .1) (r .2) in
         let most = stands-most (priorityOf (unit i)) (cellsOf (unit i)) (number i) granted in
-        let there : eqb (8 * i + s) 0 ≡ false = ne-eqb (8 * i + s) 0 (λ z. omega arith) in
-        let place : (8 * i + s) / 8 ≡ i = omega arith in
-        ap (λ n. not (eqb n 0) && leb 1 (cells (n / 8))) (noted-at granted us i placed once h) ∙ (λ t. not (there t) && leb 1 (cells (place t))) ∙ ap (leb 1) (inlets i h)
+        let there : leb 128 (128 + 4 * i + s) ≡ true = le-leb 128 (128 + 4 * i + s) (omega arith) in
+        let place : (128 + 4 * i + s) / 4 % 32 ≡ i = omega arith in
+        ap (λ n. leb 128 n && leb 1 (cells (placeIn n))) (noted-at granted us i placed once h) ∙ (λ t. there t && leb 1 (cells (place t))) ∙ ap (leb 1) (inlets i h)
 
     abbrev Celled : Type 0
     Celled = ((i : ℕ) → i < length us → number i ≡ granted → 1 ≤ cellsOf (unit i)) × ((granted ≡ nobody) ⊎ DeclaredIn us granted)
@@ -156,7 +146,7 @@ module _ (granted : ℕ) (last asks : List ℕ) (us : List U.Unit) (placed : Pla
 
         there : (b : Bool) → known granted ≡ b → celled cells hs granted ≡ true → DeclaredIn us granted
         there true e h = among-iff us granted .0 e
-        there false e h = absurd (false≢true (ap (λ n. not (eqb n 0) && leb 1 (cells (n / 8))) (sym (noted-none granted us granted e)) ∙ h))
+        there false e h = absurd (false≢true (ap (λ n. leb 128 n && leb 1 (cells (placeIn n))) (sym (noted-none granted 0 us granted e)) ∙ h))
 
         somebody : celled cells hs granted ≡ true → Celled
         somebody h = (λ i l e. le-iff 1 (cellsOf (unit i)) .0 (sym (grant-at i l) ∙ ap (λ n. celled cells hs n) e ∙ h), inr (there (known granted) refl h))
@@ -173,7 +163,7 @@ module _ (granted : ℕ) (last asks : List ℕ) (us : List U.Unit) (placed : Pla
 
     silent : (k : ℕ) → known k ≡ false → held k → getD asks k 0 ≡ 0
     silent k e t =
-        let z = noted-none granted us k e in
+        let z = noted-none granted 0 us k e in
         ⊎-elim (λ x. x) (λ w. w ∙ ap (λ n. n % 4) z) (or-iff (eq-iff (getD asks k 0) 0) (eq-iff (getD asks k 0) (getD hs k 0 % 4)) .0 t)
 
     requests : (every (requestHasCell granted asks) us && asksKnown known 0 asks) ≡ asksHeld hs 0 asks
@@ -210,5 +200,5 @@ module _ (granted : ℕ) (last asks : List ℕ) (us : List U.Unit) (placed : Pla
       ∙ guarded n
       (((every (grantHasCell granted) us && nobodyOr known granted) && lastsKnown known last) && (every (requestHasCell granted asks) us && asksKnown known 0 asks))
       (arbiterHeld cells hs granted last asks)
-      (λ t. λ z. (grants t z && lastsKnown (λ k. sym (marks-from-none granted us k placed) z) last) && requests t z)
+      (λ t. λ z. (grants t z && lastsKnown (λ k. sym (marks-noted granted 0 us k placed) z) last) && requests t z)
       ∙ (λ z. sym (counted granted us placed) z && arbiterHeld cells hs granted last asks)

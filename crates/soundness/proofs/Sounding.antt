@@ -1,7 +1,6 @@
 -- The test of the bytes, turn by turn. Assumes nothing.
 use Prim.Native.Nat.{ℕ, zero, suc, _+_, _*_, _-_, _%_, _<_, _≤_}
-use native.Mathlib.Nat.{zero-add, mod-eq-of-lt}
-use native.Mathlib.Numerals.{add-one}
+use native.Mathlib.Nat.{zero-add, add-zero, mod-eq-of-lt}
 use native.Mathlib.Omega.{arith}
 use mathlib.Core.Path.{_≡_, refl, sym, ap, subst, _∙_}
 use mathlib.Core.Bool.{Bool, true, false, not, cond, _&&_, and-true, false≢true}
@@ -10,7 +9,7 @@ use mathlib.Core.List.{List, _∷_}
 use lib.Dec.{eqb, leb}
 use lib.ListN.{length, getD, set, drop, length-set, drop-of-length-le}
 use lib.Seq.{drop-cons, getD-set-same, getD-set-other}
-use borrow.Author.Tests.{not-true, not-false}
+use borrow.Author.Tests.{not-true, not-false, le-leb, lt-leb}
 use Rattle.header.specs.Fields.{highest}
 use Rattle.card.specs.declared.Card.{Card}
 use Rattle.card.specs.declared.Ask.the-variants.{On}
@@ -24,11 +23,11 @@ use Rattle.state.specs.Bytes.{col, unitBy, unitIn, shelfIn}
 use Rattle.state.proofs.Laws.{units-length, unit-at}
 use Rattle.soundness.specs.State.{every, among, noneRepeated, roomy, belowBus, settingsGiven, couldBeGiven, withinCapacity, grantHasCell, requestHasCell, arbiterKnown, unitFits, soundOf}
 use Rattle.soundness.specs.Lanes.{formed, laneGood, lanes}
-use Rattle.soundness.specs.Numbered.{standing, standingIn, arbiterHeld, noted, notedFrom, howMany, none, cellsIn, heldIn, numbersHeld, Places, noteOf}
+use Rattle.soundness.specs.Numbered.{standing, noteIn, Notes, noteOf, arbiterHeld, none, noted, notedBy, noteFrom, notedIn, howMany, cellsIn, heldIn, numbersHeld, Places}
 use Rattle.soundness.specs.Soundings.{formedAll, soundIn, looked}
-use Rattle.soundness.proofs.Pass.{priorityOf, cellsOf, Placed, all-placed, counted, roomy-iff, bus-most}
+use Rattle.soundness.proofs.Pass.{priorityOf, cellsOf, Placed, all-placed, none-set, counted, roomy-iff, bus-most}
 use Rattle.soundness.proofs.Facts.{every-iff, side-iff}
-use Rattle.soundness.proofs.Numbered.{Ranged, stands-some, noted-found, numbers-document}
+use Rattle.soundness.proofs.Numbered.{Ranged, noted-found, numbers-document}
 
 split : (k i : ℕ) → k ≤ i → (k ≡ i) ⊎ (suc k ≤ i)
 split zero zero h = inl refl
@@ -85,11 +84,11 @@ both-true true false c f e = refl
 both-true false b c f e = refl
 
 -- what comes of all tests by number
-pub unheld : (good all : Bool) (x : ℕ) → good ≡ all → not good ≡ true → 255 ≡ cond all x 255
-unheld good all x e h = sym (ap (λ a. cond a x 255) (sym e ∙ not-true good h))
+pub unheld : (good all : Bool) (x : ℕ) → good ≡ all → not good ≡ true → 1 ≡ cond all x 1
+unheld good all x e h = sym (ap (λ a. cond a x 1) (sym e ∙ not-true good h))
 
-pub all-held : (good all : Bool) (x y : ℕ) → good ≡ all → not good ≡ false → y ≡ x → y ≡ cond all x 255
-all-held good all x y e h f = f ∙ sym (ap (λ a. cond a x 255) (sym e ∙ not-false good h))
+pub all-held : (good all : Bool) (x y : ℕ) → good ≡ all → not good ≡ false → y ≡ x → y ≡ cond all x 1
+all-held good all x y e h f = f ∙ sym (ap (λ a. cond a x 1) (sym e ∙ not-false good h))
 
 -- the document's items: those of a unit by itself, and what is left where they hold
 own : (a n b c w g r k : Bool) → (a && n && b && c && w && g && r && k) ≡ true → (b ≡ true) × (c ≡ true) × (w ≡ true)
@@ -123,32 +122,53 @@ module _ (b : List ℕ) where
     next : (i : ℕ) → i < count → drop i us ≡ unitIn b i ∷ drop (suc i) us
     next i h = let l = long in drop-cons us i blank (omega arith) ∙ ap (λ u. u ∷ drop (suc i) us) (there i h)
 
-  -- one place more
-  pub from-next : (held : List ℕ) (i end : ℕ) → i < end → notedFrom b held i (end - i) ≡ notedFrom b (set held (col b i 0 % 32) (8 * i + standingIn (getD b 803 0) (col b i))) (i + 1) (end - (i + 1))
-  unfolding notedFrom
-  from-next held i end h = ap (notedFrom b held i) less ∙ ap (λ k. notedFrom b (set held (col b i 0 % 32) (8 * i + standingIn (getD b 803 0) (col b i))) k (end - (i + 1))) (sym (add-one i))
-    where
-      less : end - i ≡ suc (end - (i + 1))
-      less = omega arith
+  pub by-length : (notes : ℕ → ℕ) (held : List ℕ) (i n : ℕ) → length (notedBy notes b held i n) ≡ length held
+  unfolding notedBy
+  by-length notes held i zero = refl
+  by-length notes held i (suc n) = length-set (notedBy notes b held (suc i) n) (col b i 0 % 32) (notes i) ∙ by-length notes held (suc i) n
 
-  pub from-length : (held : List ℕ) (i n : ℕ) → length (notedFrom b held i n) ≡ length held
-  unfolding notedFrom
-  from-length held i zero = refl
-  from-length held i (suc n) = from-length (set held (col b i 0 % 32) (8 * i + standingIn (getD b 803 0) (col b i))) (suc i) n ∙ length-set held _ _
+  -- so many places and so many before them; the same notes; no notes
+  pub by-before : (notes : ℕ → ℕ) (held : List ℕ) (i n m : ℕ) → notedBy notes b (notedBy notes b held (i + n) m) i n ≡ notedBy notes b held i (n + m)
+  unfolding notedBy
+  by-before notes held i zero m = (λ t. notedBy notes b held (add-zero i t) (sym (zero-add m) t))
+  by-before notes held i (suc n) m =
+      let there : i + suc n ≡ suc i + n = omega arith in
+      let more : suc (n + m) ≡ suc n + m = omega arith in
+      ap (λ h. set h (col b i 0 % 32) (notes i)) (ap (λ k. notedBy notes b (notedBy notes b held k m) (suc i) n) there ∙ by-before notes held (suc i) n m)
+      ∙ ap (notedBy notes b held i) more
+
+  by-same : (f g : ℕ → ℕ) (held : List ℕ) (i n : ℕ) → ((j : ℕ) → i ≤ j → j < i + n → f j ≡ g j) → notedBy f b held i n ≡ notedBy g b held i n
+  unfolding notedBy
+  by-same f g held i zero e = refl
+  by-same f g held i (suc n) e = (λ t. set (by-same f g held (suc i) n (λ j l h. e j (omega arith) (omega arith)) t) (col b i 0 % 32) (e i (omega arith) (omega arith) t))
+
+  by-nothing : (f : ℕ → ℕ) (i n : ℕ) → ((j : ℕ) → i ≤ j → j < i + n → f j ≡ 0) → notedBy f b none i n ≡ none
+  unfolding notedBy
+  by-nothing f i zero e = refl
+  by-nothing f i (suc n) e = (λ t. set (by-nothing f (suc i) n (λ j l h. e j (omega arith) (omega arith)) t) (col b i 0 % 32) (e i (omega arith) (omega arith) t)) ∙ none-set 32 (col b i 0 % 32)
+
+  -- places past the declared units leave nothing
+  pub past-nothing : (each : List ℕ) (end : ℕ) → Notes (getD b 803 0) count b each → count ≤ end → end ≤ 32 → notedBy (noteFrom each) b none 0 end ≡ notedIn b
+  past-nothing each end notes h l =
+      let all : end ≡ count + (end - count) = omega arith in
+      let past = by-nothing (noteFrom each) (0 + count) (end - count) (λ j m k. notes j (omega arith) ∙ ap (λ t. cond t 0 (noteIn (getD b 803 0) b j)) (le-leb count j (omega arith))) in
+      ap (notedBy (noteFrom each) b none 0) all
+      ∙ sym (by-before (noteFrom each) none 0 count (end - count))
+      ∙ ap (λ h. notedBy (noteFrom each) b h 0 count) past
+      ∙ by-same (noteFrom each) (noteIn (getD b 803 0) b) none 0 count (λ j m k. notes j (omega arith) ∙ ap (λ t. cond t 0 (noteIn (getD b 803 0) b j)) (lt-leb count j (omega arith)))
 
   -- where each number has a place, what is noted by 32 is what is noted
-  left : Places b → (held : List ℕ) (i n : ℕ) → i + n ≡ count → notedFrom b held i n ≡ noted (getD b 803 0) held i (drop i us)
-  unfolding notedFrom noted unitBy
-  left p held i zero e = let l = long (p .0) in sym (ap (noted (getD b 803 0) held i) (drop-of-length-le us {i = i} (omega arith)))
-  left p held i (suc n) e =
+  left : Places b → (i n : ℕ) → i + n ≡ count → notedBy (noteIn (getD b 803 0) b) b none i n ≡ noted (getD b 803 0) i (drop i us)
+  unfolding notedBy noted unitBy
+  left p i zero e = let l = long (p .0) in sym (ap (noted (getD b 803 0) i) (drop-of-length-le us {i = i} (omega arith)))
+  left p i (suc n) e =
       let w = p .1 i (omega arith) in
       let f = col b i in
-      (λ t. notedFrom b (set held (mod-eq-of-lt (w .0) t) (8 * i + standing (f 4) (mod-eq-of-lt (w .1) t) (f 0) (getD b 803 0))) (suc i) n)
-      ∙ left p (set held (f 0) (8 * i + standing (f 4) (f 15 + f 26 + f 27) (f 0) (getD b 803 0))) (suc i) n (omega arith)
-      ∙ sym (ap (noted (getD b 803 0) held i) (next (p .0) i (omega arith)))
+      (λ t. set (left p (suc i) n (omega arith) t) (mod-eq-of-lt (w .0) t) (128 + 4 * i + standing (f 4) (mod-eq-of-lt (w .1) t) (f 0) (getD b 803 0)))
+      ∙ sym (ap (noted (getD b 803 0) i) (next (p .0) i (omega arith)))
 
-  pub all-noted : Places b → notedFrom b none 0 count ≡ heldIn b
-  all-noted p = left p none 0 count (zero-add count)
+  pub all-noted : Places b → notedIn b ≡ heldIn b
+  all-noted p = left p 0 count (zero-add count)
 
 module _ (card : Card) (b : List ℕ) (store rows : ℕ) where
   abbrev bus : ℕ
@@ -157,11 +177,11 @@ module _ (card : Card) (b : List ℕ) (store rows : ℕ) where
   abbrev good : ℕ → Bool
   good = laneGood card bus b
 
-  unseen : (unit : ℕ) → soundIn card b store rows ≡ false → 255 ≡ looked card b store rows unit
+  unseen : (unit : ℕ) → soundIn card b store rows ≡ false → 1 ≡ looked card b store rows unit
   unfolding looked
   unseen unit e = rw e
 
-  pub small : (unit : ℕ) → roomy bus (count b) store rows ≡ false → 255 ≡ looked card b store rows unit
+  pub small : (unit : ℕ) → roomy bus (count b) store rows ≡ false → 1 ≡ looked card b store rows unit
   unfolding soundIn soundOf
   small unit e = unseen unit (both-true (formedAll b) (soundOf card (shelfIn b) store rows) (soundOf card (shelfIn b) store rows) (λ p q. q) (rw e))
 
@@ -184,7 +204,7 @@ module _ (card : Card) (b : List ℕ) (store rows : ℕ) where
         (and-iff (and-iff (Iff·rfl {A = belowBus bus (getD (us b) i blank) ≡ true}) (Iff·rfl {A = couldBeGiven card (getD (us b) i blank) ≡ true})) (Iff·rfl {A = withinCapacity (getD (us b) i blank) ≡ true}) .1
         ((each (belowBus bus) (us b) .0 (w .0) i (omega arith), each (couldBeGiven card) (us b) .0 (w .1) i (omega arith)), each withinCapacity (us b) .0 (w .2) i (omega arith)))
 
-    pub unfit : (unit : ℕ) → lanes good (count b) 0 32 ≡ false → 255 ≡ looked card b store rows unit
+    pub unfit : (unit : ℕ) → lanes good (count b) 0 32 ≡ false → 1 ≡ looked card b store rows unit
     unfolding soundIn
     unfit unit e =
         unseen unit (both-true (formedAll b) (soundOf card (shelfIn b) store rows) (lanes good (count b) 0 32)
@@ -214,12 +234,8 @@ module _ (card : Card) (b : List ℕ) (store rows : ℕ) where
           let q = and-iff (le-iff 1 (priorityOf u)) (le-iff (priorityOf u) 3) .0 s in
           (omega (arith, n, m), q .0, q .1)
 
-      placed : Placed (getD b 803 0) 32 (us b)
-      placed =
-          all-placed (getD b 803 0) (us b) 32 (λ i h.
-          let u = getD (us b) i blank in
-          let r = ranged i h in
-          (r .0, stands-some (priorityOf u) (cellsOf u) (numberOf u) (getD b 803 0) (r .1) (r .2)))
+      placed : Placed (us b)
+      placed = all-placed (us b) (λ i h. ranged i h .0)
 
       pub places : Places b
       unfolding unitBy unitFits
@@ -245,15 +261,15 @@ module _ (card : Card) (b : List ℕ) (store rows : ℕ) where
           ∙ others (roomy bus (count b) store rows) (noneRepeated (numbers (us b))) (every (belowBus bus) (us b)) (every (couldBeGiven card) (us b)) (every withinCapacity (us b))
           (every (grantHasCell (getD b 803 0)) (us b)) (every (requestHasCell (getD b 803 0) (a .asks)) (us b)) (arbiterKnown (among (numbers (us b))) (getD b 803 0) (a .last) (a .asks))
           t (each (belowBus bus) (us b) .1 (λ i h. fits i h .0 .0)) (each (couldBeGiven card) (us b) .1 (λ i h. fits i h .0 .1)) (each withinCapacity (us b) .1 (λ i h. fits i h .1))
-          ∙ numbers-document (getD b 803 0) (a .last) (a .asks) (us b) placed ranged (cellsIn b) cells
+          ∙ numbers-document (getD b 803 0) (a .last) (a .asks) (us b) placed ranged (let l = long b few in omega (arith, l, few)) (cellsIn b) cells
           ∙ ap (λ n. eqb (howMany (heldIn b)) n && arbiterHeld (cellsIn b) (heldIn b) (getD b 803 0) (a .last) (a .asks)) (long b few)
 
-      pub begins : (unit : ℕ) → looked card b store rows unit ≡ cond (numbersHeld b) (getD (heldIn b) unit 0) 255
+      pub begins : (unit : ℕ) → looked card b store rows unit ≡ cond (numbersHeld b) (getD (heldIn b) unit 0) 1
       unfolding looked
       begins unit =
-          ap (λ s. cond s (noteOf (getD b 803 0) (us b) (findIn (us b) unit)) 255) by-number
+          ap (λ s. cond s (noteOf (getD b 803 0) (us b) (findIn (us b) unit)) 1) by-number
           ∙ chosen (numbersHeld b) (λ t. sym (noted-found (getD b 803 0) (us b) unit placed (sym (counted (getD b 803 0) (us b) placed) ∙ ap (eqb (howMany (heldIn b))) (long b few) ∙ first (eqb (howMany (heldIn b)) (count b)) _ t)))
         where
-          chosen : (s : Bool) {x y : ℕ} → (s ≡ true → x ≡ y) → cond s x 255 ≡ cond s y 255
+          chosen : (s : Bool) {x y : ℕ} → (s ≡ true → x ≡ y) → cond s x 1 ≡ cond s y 1
           chosen true e = e refl
           chosen false e = refl

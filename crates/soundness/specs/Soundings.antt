@@ -19,4 +19,4 @@ soundIn card b store rows = formedAll b && soundOf card (shelfIn b) store rows
 -- and, of a sound state, what is noted of the unit with this number
 unfoldable pub looked : Card → List ℕ → ℕ → ℕ → ℕ → ℕ
 looked card b store rows unit =
-    cond (soundIn card b store rows) (noteOf (getD b 803 0) (declared (shelfIn b)) (findIn (declared (shelfIn b)) unit)) 255
+    cond (soundIn card b store rows) (noteOf (getD b 803 0) (declared (shelfIn b)) (findIn (declared (shelfIn b)) unit)) 1

@@ -13,7 +13,7 @@ ghost use Rattle.outlet.specs.Outlets.{between, ringFits};
 ghost use Rattle.state.specs.Bytes.{col, ringBy};
 ghost use Rattle.soundness.specs.State.{roomy as roomyIn, nobodyOr};
 ghost use Rattle.soundness.specs.Lanes.{highestLink, lesser, settingsAt, limitsAt, ringsAt, fixedAt, laneAt, laneGood, lanes};
-ghost use Rattle.soundness.specs.Numbered.{marks, standing as standingOf, Notes, asksHeld, grantIn, cellsIn, howMany, notedFrom, none, heldIn};
+ghost use Rattle.soundness.specs.Numbered.{standing as standingOf, noteAt, Notes, placeIn, marks, askIn, asksHeld, grantIn, cellsIn, howMany, noteFrom, notedBy, notedIn, none, heldIn, numbersGood};
 ghost use Rattle.soundness.specs.Soundings.{soundIn, looked};
 ghost use Rattle.soundness.specs.Admission.{admittedIn, toldApart, countedIn};
 
@@ -180,6 +180,7 @@ fn lane(s: &[u8], i: usize, links: u8, last: u8) -> u8
 // Up to where places are judged, 16 of them at a time: no unit is declared behind.
 fn reach(count: u8) -> usize
     ensures { λ r. ⌜ (r ≤ 32) × ((count ≤ r) ⊎ (r ≡ 32)) ⌝ }
+    ensures even { λ r. ⌜ (r ≡ 16) ⊎ (r ≡ 32) ⌝ }
 {
     if count <= 16 { 16 } else { 32 }
 }
@@ -210,14 +211,14 @@ fn taken(number: u8, granted: u8) -> u8
     if number == granted { 1 } else { 0 }
 }
 
-// How a unit stands: its priority, or 4 without a cell besides a granted one. By 4, as past the declared units any byte may stand.
+// How a unit stands: its priority, or 0 without a cell besides a granted one. By 4, as any byte may stand there until the places are judged.
 fn standing(priority: u8, cells: u8, number: u8, granted: u8) -> u8
     ensures { λ r. ⌜ r ≡ standingOf priority cells number granted ⌝ }
 {
     if taken(number, granted) < cells {
         priority % 4
     } else {
-        4
+        0
     }
 }
 
@@ -232,16 +233,25 @@ fn cells(s: &[u8], i: usize) -> u8
     )
 }
 
-// What is noted of each place: 8 times the place, and how its unit stands.
-fn notes(s: &[u8], granted: u8) -> [u8; 32]
+// What is noted of the unit in a place: 128, 4 times the place, and how it stands; 0 past the declared units.
+fn note(s: &[u8], i: usize, granted: u8, count: u8) -> u8
+    requires { ⌜ (length (now s) ≡ 2048) × (i < 32) ⌝ }
+    ensures { λ r. ⌜ r ≡ noteAt granted count (now (s .entry)) i ⌝ }
+{
+    let place = i as u8;
+    let stands = standing(state::at(s, 4, i), cells(s, i), state::at(s, 0, i), granted);
+    by(over(count, place), 0, 128 + 4 * place + stands)
+}
+
+// The same of each place.
+fn notes(s: &[u8], granted: u8, count: u8) -> [u8; 32]
     requires { ⌜ length (now s) ≡ 2048 ⌝ }
-    ensures { λ r. ⌜ Notes granted (now (s .entry)) r ⌝ }
+    ensures { λ r. ⌜ Notes granted count (now (s .entry)) r ⌝ }
 {
     let mut each = [0; 32];
     let mut i: usize = 0;
     while i < 32 {
-        let stands = standing(state::at(s, 4, i), cells(s, i), state::at(s, 0, i), granted);
-        each[i] = 8 * (i as u8) + stands;
+        each[i] = note(s, i, granted, count);
         i += 1;
     }
     each
@@ -249,99 +259,134 @@ fn notes(s: &[u8], granted: u8) -> [u8; 32]
 
 // The place that was noted.
 fn place_of(note: u8) -> usize
-    ensures { λ r. ⌜ (r ≡ note / 8) × (r < 32) ⌝ }
+    ensures { λ r. ⌜ (r ≡ placeIn note) × (r < 32) ⌝ }
 {
-    (note / 8) as usize
+    (note / 4 % 32) as usize
 }
 
 // Whether it is nobody or one that is declared.
-fn nobody_or(held: [u8; 32], number: u8) -> bool
-    ensures { λ r. ⌜ r ≡ nobodyOr (marks held) number ⌝ }
+fn nobody_or(held: &[u8], number: u8) -> bool
+    requires { ⌜ length (now held) ≡ 32 ⌝ }
+    ensures { λ r. ⌜ r ≡ nobodyOr (marks (now (held .entry))) number ⌝ }
 {
     if number < 32 {
-        held[number as usize] != 0
+        128 <= held[number as usize]
     } else {
         number == NOBODY
     }
 }
 
 // Whether nobody is granted, or one with a cell.
-fn grant_held(s: &[u8], held: [u8; 32], granted: u8) -> bool
-    requires { ⌜ length (now s) ≡ 2048 ⌝ }
-    ensures { λ r. ⌜ r ≡ grantIn (cellsIn (now (s .entry))) held granted ⌝ }
+fn grant_held(s: &[u8], held: &[u8], granted: u8) -> bool
+    requires { ⌜ (length (now s) ≡ 2048) × (length (now held) ≡ 32) ⌝ }
+    ensures { λ r. ⌜ r ≡ grantIn (cellsIn (now (s .entry))) (now (held .entry)) granted ⌝ }
 {
     if granted < 32 {
         let note = held[granted as usize];
-        (note != 0) & (1 <= cells(s, place_of(note)))
+        (128 <= note) & (1 <= cells(s, place_of(note)))
     } else {
         granted == NOBODY
     }
 }
 
-// Whether each number that asks does so at its priority, with a cell besides a granted one: a standing of 4 is 0 by 4, and 0 is no request.
-fn asks_held(held: [u8; 32], asks: [u8; 32]) -> bool
-    ensures { λ r. ⌜ r ≡ asksHeld held 0 asks ⌝ }
+// 0 where the two are the same.
+fn unlike(a: u8, b: u8) -> u8
+    ensures { λ r. ⌜ eqb r 0 ≡ eqb a b ⌝ }
 {
-    let mut good = true;
+    if a == b { 0 } else { 1 }
+}
+
+// 0 where a number asks for nothing, or at its priority and with a cell besides a granted one: a standing of 0 is no request.
+fn unheld(ask: u8, note: u8) -> u8
+    ensures { λ r. ⌜ eqb r 0 ≡ askIn ask note ⌝ }
+{
+    by(ask, 0, unlike(ask, note % 4))
+}
+
+// Whether each request is held by a unit.
+fn asks_held(held: &[u8], asks: [u8; 32]) -> bool
+    requires { ⌜ length (now held) ≡ 32 ⌝ }
+    ensures { λ r. ⌜ r ≡ asksHeld (now (held .entry)) 0 asks ⌝ }
+{
+    let mut worst: u8 = 0;
     let mut i: usize = 0;
     while i < 32 {
-        good = good & ((asks[i] == 0) | (asks[i] == held[i] % 4));
+        worst = worse(worst, unheld(asks[i], held[i]));
         i += 1;
     }
-    good
+    worst == 0
 }
 
 // How many numbers have a note.
-fn how_many(held: [u8; 32]) -> u8
-    ensures { λ r. ⌜ r ≡ howMany held ⌝ }
+fn how_many(held: &[u8]) -> u8
+    requires { ⌜ length (now held) ≡ 32 ⌝ }
+    ensures { λ r. ⌜ r ≡ howMany (now (held .entry)) ⌝ }
 {
     let mut n: u8 = 0;
     let mut i: usize = 0;
     while i < 32 {
-        n += least(held[i], 1);
+        n += held[i] / 128;
         i += 1;
     }
     n
 }
 
-// Notes each declared unit in its number's place. By 32, as the numbers are judged after it: until then the notes have reached memory, and can be
-// read in words.
-fn note_all(s: &[u8], held: &mut [u8; 32])
-    requires { ⌜ (length (now s) ≡ 2048) × (getD (now s) 805 0 ≤ 32) ⌝ }
-    ensures { λ _. ⌜ now (held .exit) ≡ notedFrom (now (s .entry)) (now (held .entry)) 0 (getD (now (s .entry)) 805 0) ⌝ }
+// Notes 16 places, each in its number's place, the last of them first. By 32, as the numbers are judged after it: until then the notes have reached
+// memory, and can be read in words.
+fn note_16(s: &[u8], each: &[u8; 32], from: usize, held: &mut [u8; 32])
+    requires { ⌜ (length (now s) ≡ 2048) × (from ≤ 16) ⌝ }
+    ensures { λ _. ⌜ now (held .exit) ≡ notedBy (noteFrom (now (each .entry))) (now (s .entry)) (now (held .entry)) from 16 ⌝ }
 {
-    let each = notes(s, s[803]);
-    let end = s[805] as usize;
-    let mut i: usize = 0;
-    while i < end {
-        held[(state::at(s, 0, i) % 32) as usize] = each[i];
-        i += 1;
+    let mut k: usize = 16;
+    while 0 < k {
+        k -= 1;
+        held[(state::at(s, 0, from + k) % 32) as usize] = each[from + k];
     }
 }
 
-// What is noted of the unit with this number, 0 where none has it; 255 of a state that is not sound. The notes of all numbers stand where the caller
-// lends room for them, which holds zeros. Each unit by itself, all places at once; then
-// by number: as many notes as units, so no number twice, and the open grant, the last grants and the requests are such as the units could have.
+// Notes each declared unit in its number's place. Places past them are noted too, with nothing and before all others, so that no loop ends by the count.
+fn note_all(s: &[u8], held: &mut [u8; 32])
+    requires { ⌜ (length (now s) ≡ 2048) × (getD (now s) 805 0 ≤ 32) × (now held ≡ none) ⌝ }
+    ensures { λ _. ⌜ now (held .exit) ≡ notedIn (now (s .entry)) ⌝ }
+{
+    let each = notes(s, s[803], s[805]);
+    let mut from = reach(s[805]);
+    while 0 < from {
+        from -= 16;
+        note_16(s, &each, from, held);
+    }
+}
+
+// Whether as many numbers have a note as there are units, so none twice; and the open grant, the last grants and the requests are such as the units
+// could have.
+fn numbers_good(s: &[u8], held: &[u8]) -> bool
+    requires { ⌜ (length (now s) ≡ 2048) × (length (now held) ≡ 32) ⌝ }
+    ensures { λ r. ⌜ r ≡ numbersGood (now (s .entry)) (now (held .entry)) ⌝ }
+{
+    (how_many(held) == s[805])
+        & (grant_held(s, held, s[803])
+            & (nobody_or(held, s[800]) & nobody_or(held, s[801]) & nobody_or(held, s[802]))
+            & asks_held(held, state::asks_at(s)))
+}
+
+// What is noted of the unit with this number, 0 where none has it; 1 of a state that is not sound. The notes of all numbers stand where the caller
+// lends room for them, which holds zeros. Each unit by itself, all places at once; then by number.
 fn look(card: Card, s: &[u8], store: usize, rows: usize, unit: u8, held: &mut [u8; 32]) -> u8
     requires { ⌜ (length (now s) ≡ 2048) × (now held ≡ none) ⌝ }
     ensures { λ r. ⌜ r ≡ looked card (now (s .entry)) store rows unit ⌝ }
-    ensures noted { λ r. ⌜ ((r ≡ 255 → ⊥) → now (held .exit) ≡ heldIn (now (s .entry))) ⌝ }
+    ensures noted { λ r. ⌜ ((r ≡ 1 → ⊥) → now (held .exit) ≡ heldIn (now (s .entry))) ⌝ }
 {
     let bus = s[804];
     let count = s[805];
     if !roomy(bus, count, store, rows) {
-        return 255;
+        return 1;
     }
     note_all(s, held);
     if !units_good(s, card, bus, count) {
-        return 255;
+        return 1;
     }
-    let good = (how_many(*held) == count)
-        & (grant_held(s, *held, s[803])
-            & (nobody_or(*held, s[800]) & nobody_or(*held, s[801]) & nobody_or(*held, s[802]))
-            & asks_held(*held, state::asks_at(s)));
-    if !good {
-        return 255;
+    if !numbers_good(s, held) {
+        return 1;
     }
     if unit < 32 { held[unit as usize] } else { 0 }
 }
@@ -352,7 +397,7 @@ pub fn sound(card: Card, s: &[u8], store: usize, rows: usize, held: &mut [u8; 32
     ensures { λ r. ⌜ r ≡ soundIn card (now (s .entry)) store rows ⌝ }
     ensures noted { λ r. ⌜ (r ≡ true → now (held .exit) ≡ heldIn (now (s .entry))) ⌝ }
 {
-    look(card, s, store, rows, 0, held) != 255
+    look(card, s, store, rows, 0, held) != 1
 }
 
 // The unit stands in this place, or the event is refused with this number.
@@ -374,7 +419,7 @@ pub fn admit(card: Card, s: &[u8], store: usize, rows: usize, unit: u8, right: b
 {
     let mut held = [0; 32];
     let note = look(card, s, store, rows, unit, &mut held);
-    if note == 255 {
+    if note == 1 {
         return Admitted::Refused(8);
     }
     if note == 0 {

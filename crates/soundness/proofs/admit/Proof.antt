@@ -1,5 +1,4 @@
 -- `soundness::admit` meets its contract. Assumes nothing.
-use Prim.Native.Nat.{_/_}
 use mathlib.Core.Path.{_≡_, sym, ap, _∙_}
 use mathlib.Core.Bool.{true}
 use borrow.Author.Needs.{needs}
@@ -7,6 +6,7 @@ use borrow.Author.Tests.{not-true, not-false}
 use Rattle.shelf.specs.Shelves.{declared, findIn}
 use Rattle.shelf.specs.declared.Found.the-variants as found
 use Rattle.state.specs.Bytes.{shelfIn}
+use Rattle.soundness.specs.Numbered.{placeIn}
 use Rattle.soundness.specs.Soundings.{soundIn}
 use Rattle.soundness.specs.declared.Admitted.the-variants.{At}
 use Rattle.soundness.proofs.InPlace.{unsound-in, stranger-in, misfit-in, comes-in}
@@ -23,7 +23,7 @@ returns c =
 good : (c : tie.Else1) → let a = c .before .before .before .before .args in soundIn (a .card) (a .s .now) (a .store) (a .rows) ≡ true
 good c = let a = c .before .before .before .before .args in note-good (a .card) (a .s .now) (a .store) (a .rows) (a .unit) _ (c .before .look .ensures .0) (c .if1 .left)
 
-there : (c : tie.Else2) → let look = c .before .before in let a = look .before .before .before .args in findIn (declared (shelfIn (a .s .now))) (a .unit) ≡ found.At (look .look .result / 8)
+there : (c : tie.Else2) → let look = c .before .before in let a = look .before .before .before .args in findIn (declared (shelfIn (a .s .now))) (a .unit) ≡ found.At (placeIn (look .look .result))
 there c =
     let look = c .before .before in
     let a = look .before .before .before .args in

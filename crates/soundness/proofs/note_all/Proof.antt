@@ -1,57 +1,68 @@
 -- `soundness::note_all` meets its contract. Assumes nothing.
-use mathlib.Core.Path.{_≡_, sym, ap, _∙_}
+use mathlib.Core.Path.{_≡_, refl, sym, ap, _∙_}
+use mathlib.Core.Logic.{⊎-elim}
 use Prim.Native.Nat.{_+_, _%_, _≤_, _-_}
-use native.Mathlib.Nat.{mod-lt}
 use native.Mathlib.Omega.{arith}
-use lib.ListN.{getD, set}
+use lib.ListN.{getD}
 use borrow.Author.Needs.{needs}
-use Rattle.soundness.specs.Numbered.{notedFrom}
-use Rattle.soundness.proofs.Sounding.{from-next}
+use Rattle.soundness.specs.Numbered.{noteFrom, notedBy}
+use Rattle.soundness.proofs.Sounding.{by-before, past-nothing}
 use Rattle.soundness.proofs.note_all.Statement.{statement}
 use Rattle.soundness.proofs.note_all.Tie as tie
 
 abbrev Inv-loop : tie.InvT-loop
-Inv-loop s held₀ each end i₀ held i = (i ≤ end) × (notedFrom s held₀ 0 end ≡ notedFrom s held i (end - i))
+Inv-loop s held₀ each from₀ held from = (from ≤ from₀) × (from₀ ≤ 32) × (from % 16 ≡ 0) × (held ≡ notedBy (noteFrom each) s held₀ from (from₀ - from))
 
 abbrev μ-loop : tie.MeasureT-loop
-μ-loop s held₀ each end i₀ held i = end - i
+μ-loop s held₀ each from₀ held from = from
 
 loop-holds : tie.Need-loop-holds Inv-loop μ-loop
+unfolding notedBy
 loop-holds c =
-    let a = c .before .before .before .before .args in
-    let z : getD (a .s .now) 805 0 ≡ getD (a .s .now) 805 0 - 0 = omega arith in
-    (omega arith, ap (notedFrom (a .s .now) (a .held .now) 0) z)
+    let a = c .before .before .before .before .before .before .args in
+    let end = c .reach .result in
+    let z : 0 ≡ end - end = omega arith in
+    (omega arith, c .reach .ensures .0 .0, ⊎-elim (λ e. omega arith) (λ e. omega arith) (c .reach .ensures .1), ap (notedBy (noteFrom (c .before .before .notes .result)) (a .s .now) (a .held .now) end) z)
 
-array-read-held : tie.Need-array-read-held Inv-loop μ-loop
-array-read-held c = let most = c .before .before .before .before .before .before .pre .1 in omega (arith, most)
-
-at-requires : tie.Need-at-requires Inv-loop μ-loop
-at-requires c κs = let p = c .before .before .before .before .before .before .pre in (p .0, omega arith, omega (arith, p .1))
-
-element-write-held : tie.Need-element-write-held Inv-loop μ-loop
-element-write-held c = mod-lt (c .at .result) (omega arith)
-
-add-i : tie.Need-add-i Inv-loop μ-loop
-add-i c = omega arith
-
-loop-less : tie.Need-loop-less Inv-loop μ-loop
-loop-less c = omega arith
+note-16-requires : tie.Need-note-16-requires Inv-loop μ-loop
+note-16-requires c κs =
+    let l = c .before .before .before .loop in
+    let most = l .inv .1 in
+    (c .before .before .before .before .before .before .before .before .before .before .pre .0, omega (arith, most))
 
 loop-again : tie.Need-loop-again Inv-loop μ-loop
 loop-again c =
-    let p = c .before .before .before .before .before .before .before in
-    let b = p .args .s .now in
-    let l = c .before .before .loop in
-    let note = sym (c .before .before .before .before .notes .ensures (l .i) (omega (arith, p .pre .1))) in
-    (omega arith, l .inv .1 ∙ from-next b (l .held) (l .i) (getD b 805 0) (omega arith) ∙ (λ t. notedFrom b (set (l .held) (sym (c .at .ensures) t % 32) (note t)) (l .i + 1) (getD b 805 0 - (l .i + 1))))
+    let start = c .before .before .before .before in
+    let l = start .loop in
+    let end = start .before .reach .result in
+    let a = start .before .before .before .before .before .before .before .args in
+    let notes = noteFrom (start .before .before .before .notes .result) in
+    let w = l .inv in
+    let there : l .from ≡ l .from - 16 + 16 = omega arith in
+    let many : 16 + (end - l .from) ≡ end - (l .from - 16) = omega arith in (
+      omega arith,
+      w .1,
+      omega arith,
+      c .note-16 .ensures
+          ∙ ap (λ h. notedBy notes (a .s .now) h (l .from - 16) 16) (w .3 ∙ ap (λ k. notedBy notes (a .s .now) (a .held .now) k (end - l .from)) there)
+          ∙ by-before (a .s .now) notes (a .held .now) (l .from - 16) 16 (end - l .from)
+          ∙ ap (notedBy notes (a .s .now) (a .held .now) (l .from - 16)) many,
+    )
 
 returns : tie.Need-returns Inv-loop μ-loop
-unfolding notedFrom
 returns c =
-    let b = c .before .before .before .before .before .before .args .s .now in
     let l = c .before .loop in
-    let z : getD b 805 0 - l .i ≡ 0 = omega arith in
-    sym (l .inv .1 ∙ ap (notedFrom b (l .held) (l .i)) z)
+    let reach = c .before .before .reach in
+    let end = reach .result in
+    let p = c .before .before .before .before .before .before .before .before in
+    let b = p .args .s .now in
+    let notes = c .before .before .before .before .notes in
+    let from : l .from ≡ 0 = omega arith in
+    let many : end - l .from ≡ end = omega arith in
+    let most = p .pre .1 in
+    l .inv .3
+    ∙ (λ t. notedBy (noteFrom (notes .result)) b (p .pre .2 t) (from t) (many t))
+    ∙ past-nothing b (notes .result) end (notes .ensures) (⊎-elim (λ h. h) (λ e. omega (arith, most)) (reach .ensures .0 .1)) (reach .ensures .0 .0)
 
 pub note-all-spec : {M : Type 1} → statement M
 note-all-spec =
@@ -60,15 +71,13 @@ note-all-spec =
     Inv-loop
     μ-loop
     (λ c. search needs)
+    (λ c. search needs)
     (λ c κs. search needs)
     (λ c. search needs)
-    (λ c. search needs)
+    (λ c κs. search needs)
     loop-holds
-    array-read-held
-    at-requires
     (λ c. search needs)
-    element-write-held
-    add-i
-    loop-less
+    note-16-requires
+    (λ c. search needs)
     loop-again
     returns)

@@ -11,7 +11,7 @@ returns : tie.Need-returns
 returns c =
     let a = c .before .before .before .args in
     let w = c .look .ensures in
-    (ap (λ n. not (eqb n 255)) (w .0) ∙ note-sound (a .card) (a .s .now) (a .store) (a .rows) 0, λ t. w .1 (λ z. true≢false (sym t ∙ ap (λ n. not (eqb n 255)) z)))
+    (ap (λ n. not (eqb n 1)) (w .0) ∙ note-sound (a .card) (a .s .now) (a .store) (a .rows) 0, λ t. w .1 (λ z. true≢false (sym t ∙ ap (λ n. not (eqb n 1)) z)))
 
 pub sound-spec : {M : Type 1} → statement M
 sound-spec = tie.close (tie.spec (λ c κs. search needs) returns)
