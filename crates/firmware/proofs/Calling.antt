@@ -6,7 +6,7 @@ pub use Rattle.owned.proofs.Lending.{refl, none, ℕ, List, [], _∷_, _++_, le
 unfoldable pub use contract.Running.{tablesOf}
 pub use Rattle.entry.proofs.Arguments.{the-rows}
 use mathlib.Core.Path.{_≡_, subst}
-use mir.Syntax.{w64, Name, Place, Opd as Operand, Body, seq, call}
+use mir.Syntax.{w64, Ty, Name, Place, Opd as Operand, Body, seq, call}
 use base.Logic.{sep}
 use prog.Model.{Model}
 use prog.Routine.{Env as Names}
@@ -42,6 +42,10 @@ use Rattle.firmware.proofs.code as coded
 use Rattle.firmware.proofs.code.Symbol as coded-def
 use Rattle.firmware.proofs.code.Symbol.{name as #coded}
 use Rattle.firmware.proofs.code.Met as coded-thm
+
+-- the type of rows that are only read
+abbrev pub rows-shared : ℕ → Ty
+rows-shared j = sliceTy (tyRef (named j) imm row)
 
 abbrev tokened : {M : Type 1} (𝓤 : URA M) (A : Atoms 𝓤) → List (Lft × Share) → SProp 𝓤
 tokened 𝓤 A ts = toks 𝓤 A (length ts) (lifetimes ts) (shares ts)
