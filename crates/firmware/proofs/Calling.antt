@@ -15,7 +15,7 @@ use ghost.Atoms.{sem}
 use contract.Lifetimes.{toks}
 use contract.Monad.{fact}
 use contract.Running.{GhostRules, Running}
-use types.Kit.{mean, Post, lands, Seq, Step, step, use1, join, fsplit, fjoin, drop, frame, done}
+use types.Kit.{Goal, mean, Post, lands, Seq, Step, step, use1, join, fsplit, fjoin, drop, frame, done}
 use types.Run.{Opds}
 use denote.Laws.{shows}
 use denote.Plain.{uint-makes, uint-lawful}
@@ -89,6 +89,10 @@ module _ {M : Type 1} {𝓤 : URA M} {H : Heap 𝓤} {A : Atoms 𝓤} {K : Type 
       calls-plain t (fmOf 𝓤 H (W .laws) 𝓣) coded.ended (coded.clauses 𝓤 H A mem run) known (to-code 𝓤 H A mem run a av) (goes-code 𝓤 H A mem run W a av a-ok) (λ r. r ≡ code a) (λ r _. id⊢ 𝓤 _) os
       (λ v r e ok. k v (subst (λ (h : ℕ). Is u64 h (v ∷ [])) e ok))
 
+module _ {M : Type 1} {𝓤 : URA M} {H : Heap 𝓤} {A : Atoms 𝓤} {K : Type 0} {W : Given 𝓤 H A} {Γ : List (Item 𝓤)} {G : Goal 𝓤 H} where
+  pub card-owned : K → (which : GotCard) → Step K W (‵ (C.the-row .own (which .x) (which .v ∷ [])) ∷ Γ) G Γ G
+  card-owned t which = owned t C.the-row (Is C.the-row) (EL.makes C.the-type C′.the-plain 𝓤 H A) (which .x) (which .v ∷ []) (which .ok)
+
 -- ---- the call of an entry point with the card in place of its number, and with all the other arguments
 module _ (number : Got u8) (which : GotCard) (others : List Arg) where
   abbrev ts : List (Lft × Share)
@@ -104,7 +108,7 @@ module _ (number : Got u8) (which : GotCard) (others : List Arg) where
         → Seq K W (tokens ts ∷ ‵ (lasts G (y .0 .0) (y .0 .3) ws) ∷ Γ) (lands (𝓣 .C) (𝓣 .Λ) E d v on q))
         → Seq K W (tokens ts ∷ ‵ (all (owning (the-unit number ∷ others))) ∷ Γ) (runs (𝓣 .C) (𝓣 .Λ) E (seq (call f ops d) on) q)
     asks t 𝓣 G c known y goes back φ said os k =
-        move t (1 ∷ []) $ fsplit t $ drop t $ owned t C.the-row (Is C.the-row) (EL.makes C.the-type C′.the-plain 𝓤 H A) (which .x) (which .v ∷ []) (which .ok) $ fjoin t $
+        move t (1 ∷ []) $ fsplit t $ drop t $ card-owned t which $ fjoin t $
         move t (1 ∷ []) $ use1 W (raw (tokened 𝓤 A ts)) (living 𝓤 H A ts) $ join t $ calls-of t (fmOf 𝓤 H (W .laws) 𝓣) G c known y goes os (λ v r ws.
         -- [the tokens; the result; what is said of the last values; the `ensures`]
         use1 W (tokens ts) back $ move t (3 ∷ []) $ use1 W (raw (fact 𝓤 (φ r ws))) (said r ws) $ heard t (φ r ws) (λ told. move t (1 ∷ []) $
