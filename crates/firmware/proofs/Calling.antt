@@ -2,9 +2,12 @@
 --     cards, codes     the calls of `card_of` and of `code`
 --     asks             the call of an entry point: the tokens and what it says of the last values come back as they are
 -- Assumes `Given`, and that the table of calls is monotone under a frame.
-pub use Rattle.owned.proofs.Lending.{refl, none, ℕ, List, [], _∷_, _++_, length, URA, named, imm, mut, w8, tyRef, Val, vptr, SProp, ent, emp, id⊢, via, fst∗, Lft, Share, Memory, Routine, Heap, Env, WpFn, Tables, Atoms, Fun, givenOf, tables, Given, Item, ‵, raw, runs, atRet, Sq, _$_, _∵_, !, qed, by, move, look, init, stop, hop, fld, from, load, addr, and-then, no-more, assigns, land, returns, enter, alloc1, alloc0, params1, pass1, pass0, agg, whole, sub, look-in, fmOf, owns, Is, u8, sliceTy, slice-vals, mut-slice-tells, shr-slice-tells, ptr-vals, mut-tells, shr-tells, uint-vals, uint-tells, onEntry, Meets, tripleOf, Contract, Triple, entered, cited, Got, Lent, taken, val, byte, word, row, shared, lent, again, Arg, the-card, the-state, state-read, rows-read, the-unit, State, Whole, all-of, bytes, is-read, is-written, kinds, args, valss, machine, tokens-of, lifetimes, shares, cells, passed, card-typed, byte-typed, answer-typed, all, tokens, held, living, lived, freed, unasked, places, Of, GotCard, card-mir, answer-mir, owning, binding, exits, meets}
+pub use Rattle.entry.proofs.Walking.{refl, none, ℕ, List, [], _∷_, _++_, length, URA, named, imm, mut, w8, tyRef, Val, vptr, SProp, ent, emp, id⊢, via, fst∗, Lft, Share, Memory, Routine, Heap, Env, WpFn, Tables, Atoms, Fun, givenOf, tables, Given, Item, ‵, raw, runs, atRet, Sq, _$_, _∵_, !, qed, by, move, look, init, stop, hop, fld, from, load, addr, and-then, no-more, assigns, land, returns, enter, alloc1, alloc0, params1, pass1, pass0, agg, whole, sub, look-in, fmOf, owns, Is, u8, sliceTy, slice-vals, mut-slice-tells, shr-slice-tells, ptr-vals, mut-tells, shr-tells, uint-vals, uint-tells, onEntry, Meets, tripleOf, Contract, Triple, entered, cited}
+pub use Rattle.entry.proofs.Arguments.{Got, Lent, taken, val, byte, word, row, shared, lent, again, Arg, the-card, the-state, state-read, rows-read, the-unit, State, Whole, all-of, bytes, is-read, is-written, kinds, args, valss, machine, tokens-of, lifetimes, shares, cells, passed, card-typed, byte-typed, answer-typed, the-rows}
+pub use Rattle.entry.proofs.Entering.{all, tokens, held, living, lived, freed, unasked, places}
+pub use Rattle.entry.proofs.Ending.{GotCard, card-mir, answer-mir, owning, binding, exits, meets}
 unfoldable pub use contract.Running.{tablesOf}
-pub use Rattle.entry.proofs.Arguments.{the-rows}
+pub use Rattle.answer.proofs.Calls.{Of}
 use mathlib.Core.Path.{_≡_, subst}
 use mir.Syntax.{w64, Ty, Name, Place, Opd as Operand, Body, seq, call}
 use base.Logic.{sep}
@@ -12,7 +15,6 @@ use prog.Model.{Model}
 use prog.Routine.{Env as Names}
 use prog.Wp.{Calls}
 use ghost.Atoms.{sem}
-use contract.Lifetimes.{toks}
 use contract.Monad.{fact}
 use contract.Running.{GhostRules, Running}
 use types.Kit.{Goal, mean, Post, lands, Seq, Step, step, use1, join, fsplit, fjoin, drop, frame, done}
@@ -33,6 +35,7 @@ use Rattle.answer.proofs.Answer as N
 use Rattle.answer.proofs.Calls.{calls-of, calls-plain}
 use Rattle.entry.proofs.Arguments.{Typed}
 use Rattle.entry.proofs.Entering.{answer-owned}
+use Rattle.entry.proofs.Ending.{tokened}
 use Rattle.firmware.specs.Codes.{cardOf, code}
 use Rattle.firmware.proofs.card_of as card-of
 use Rattle.firmware.proofs.card_of.Symbol as card-of-def
@@ -46,9 +49,6 @@ use Rattle.firmware.proofs.code.Met as coded-thm
 -- the type of rows that are only read
 abbrev pub rows-shared : ℕ → Ty
 rows-shared j = sliceTy (tyRef (named j) imm row)
-
-abbrev tokened : {M : Type 1} (𝓤 : URA M) (A : Atoms 𝓤) → List (Lft × Share) → SProp 𝓤
-tokened 𝓤 A ts = toks 𝓤 A (length ts) (lifetimes ts) (shares ts)
 
 module _ {M : Type 1} (𝓤 : URA M) (H : Heap 𝓤) (A : Atoms 𝓤) (mem : Memory → SProp 𝓤) (run : Routine → Fun 𝓤) where
   abbrev pub CardOf : Contract 𝓤
