@@ -47,6 +47,7 @@ fn hearing_code(fate: Hearing) -> u8
     }
 }
 
+// Each field in its bits.
 fn pack(kind: u8, low: u8, sender: u8, granted: u8, high: u32) -> u64
     ensures { λ r. ⌜ r ≡ packed kind low sender granted high ⌝ }
 {
