@@ -1,12 +1,12 @@
 -- What the walks of `owned` share: the first so many of 40 rows in a local array are lent to an entry point, and the array is whole again afterwards.
 --     to-write, to-read     how they are lent and come back, as a `&mut` slice and as a `&` one.        lends-to     the call of an entry point with them
 --     withins, joins     the other two calls
---     meets, exits     from a walk whose parameters' machine values are written out to `Meets`; and how it ends, with what the callee says of the last values
 -- Assumes `Given`, and that the table of calls is monotone under a frame.
 pub use Rattle.entry.proofs.Walking.{_≡_, refl, none, ℕ, List, [], _∷_, _++_, length, URA, fullShare, named, imm, mut, w8, w64, tyRef, Val, vint, vptr, SProp, ent, emp, id⊢, via, fst∗, Lft, Share, Memory, Routine, Heap, Env, WpFn, Tables, Atoms, Fun, givenOf, tables, Given, Item, ‵, raw, runs, atRet, Sq, _$_, _∵_, !, qed, by, move, look, init, stop, hop, fld, from, load, addr, of-opd, and-then, no-more, assigns, land, returns, enter, alloc1, alloc0, params1, pass1, pass0, agg, whole, sub, look-in, fmOf, owns, Is, u8, usize, sliceTy, slice-vals, mut-slice-tells, shr-slice-tells, ptr-vals, mut-tells, shr-tells, uint-vals, uint-tells, onEntry, Meets, tripleOf, Contract, Triple, entered, cited}
 unfoldable pub use contract.Running.{tablesOf}
 pub use Rattle.entry.proofs.Arguments.{Got, Lent, taken, val, byte, word, row, shared, lent, again, Arg, the-card, the-state, state-read, rows-read, the-unit, State, Whole, all-of, finally-state, bytes, is-read, is-written, kinds, args, valss, machine, tokens-of, lifetimes, shares, cells, passed, card-vals, card-tells, card-typed, byte-typed, answer-typed}
 pub use Rattle.entry.proofs.Entering.{all, tokens, held, living, lived, freed, unasked, places}
+pub use Rattle.entry.proofs.Ending.{GotCard, card-mir, answer-mir, binding, exits, meets}
 pub use base.Fml.{Fml, GName, ftrue}
 pub use denote.Slice.{sliceVal}
 pub use Rattle.answer.specs.declared.Counters.{Counters}
@@ -16,46 +16,41 @@ use mathlib.Core.Path.{sym, _∙_, ap, subst}
 use Prim.Native.Nat.{min, _<_, _^_}
 use lib.Dec.{lit<}
 use mir.Syntax.{Ty, Name, Place, Opd as Operand, Body, tyArray, erased, seq, call}
-use base.Logic.{sep, wand, comm∗, monoL, wandI, apply∗}
+use base.Logic.{sep}
 use base.Fml.{fat, feq, fsep, flft, flent, fdead}
 use prog.Model.{Model}
 use prog.Routine.{Env as Names}
 use prog.Wp.{Calls}
 use ghost.Atoms.{sem}
-use contract.Lifetimes.{Lfts, Shares, AllOutlive, toks}
-use contract.Monad.{fact, factI}
+use contract.Monad.{fact}
 use contract.Running.{GhostRules, Running}
-use types.Kit.{Goal, Soaks, mean, _⊛_, some, later, Post, lands, Seq, Step, step, use0, use1, use3, await, pick, split, join, fsplit, fjoin, feqL, feqI, drop, show, frame, updating, now as at-once, done, ⋆}
+use types.Kit.{Goal, Soaks, mean, _⊛_, some, later, Post, lands, Seq, Step, step, use1, use3, await, pick, split, join, fsplit, fjoin, feqL, feqI, drop, frame, done}
 use types.Run.{Opds}
 use types.Tokens.{lft-new, lft-end, lent-back}
 use types.SemTy.{cells as elements, Arr}
 use types.Share.{arr-parts}
-use denote.RattleType.{Denots, Valss, flat}
-use denote.Laws.{Are, Ises, Spells, Tellss, shows, valss as spelled}
+use denote.Laws.{shows}
 use denote.Plain.{uint-makes, uint-lawful}
 use denote.Struct.Laws as LL
 use denote.Memory.{mem as lies, shares as parts, pointee}
 use denote.Slice.{MutSlice, ShrSlice, finally}
 use denote.Lend.{Held, lends-slice, slice-back, lends-shr-slice}
 use denote.Index.{row as cells-of, whole-in, whole-out}
-use denote.Signature.{Signature, typeAt, typesAt}
+use denote.Signature.{typeAt}
 use denote.Steps.{only, owned, facts, heard, nothing, said}
-use denote.Triple.Entry.{Args, Vals, Res, alive}
-use denote.Triple.Spec.{Back}
-use denote.Triple.Clauses.{Ended, Clauses, Lasts, atExit, lasts, ensured, closing}
+use denote.Triple.Entry.{Res, alive}
+use denote.Triple.Clauses.{Ended, Clauses, Lasts, atExit, lasts}
 use borrow.Rule.Array.Share.{room-take}
 use Rattle.answer.specs.declared.Answer.{Answer}
 use Rattle.answer.proofs.Answer as N
-use Rattle.answer.proofs.Answer.Laws as N′
 use Rattle.answer.proofs.Counters as T
 use Rattle.answer.proofs.Counters.Laws as T′
 use Rattle.answer.proofs.Row.{makes40}
 use Rattle.answer.proofs.Arrays.{behind, cuts-array, joins-array}
 use Rattle.answer.proofs.Calls.{calls-of, calls-plain}
-use Rattle.card.proofs.Card as C
-use Rattle.card.proofs.Card.Laws as C′
 use Rattle.entry.proofs.Arguments.{the-array, the-number, the-rows, ref, Typed}
-use Rattle.entry.proofs.Entering.{each, answer-owned}
+use Rattle.entry.proofs.Entering.{answer-owned}
+use Rattle.entry.proofs.Ending.{owning, tokened}
 use Rattle.owned.specs.declared.After.{After}
 use Rattle.owned.proofs.After as F
 use Rattle.owned.proofs.After.Laws as F′
@@ -87,41 +82,22 @@ module _ {M : Type 1} {𝓤 : URA M} {H : Heap 𝓤} {A : Atoms 𝓤} {K : Type 
   token-out t [] us u = split t
   token-out t (v ∷ ts) us u = step (λ s. split t $ move t (1 ∷ []) $ token-out t ts us u $ move t (2 ∷ 1 ∷ []) $ join t $ move t (1 ∷ 0 ∷ []) $ s)
 
--- what arguments own, each by itself
-abbrev pub owning : List Arg → List Fml
-owning xs = each (kinds 0 xs) (args 0 xs) (valss 0 xs)
-
 -- the types of locals
 abbrev pub array : Ty
 array = tyArray T′.mir 40
 
-abbrev pub GotCard : Type 0
-GotCard = Got C.the-row
-
 abbrev pub array-again : Ty
 array-again = again (pointee (Row40 .written))
-
-abbrev pub card-mir : Ty
-card-mir = C′.mir
-
-abbrev pub answer-mir : Ty
-answer-mir = N′.mir
 
 abbrev pub after-mir : Ty
 after-mir = F′.mir
 
--- the arguments of `owned`: those before the rows, the rows and how many are lent, those after; and what its contract binds of arguments
+-- the arguments of `owned`: those before the rows, the rows and how many are lent, those after
 abbrev pub had : List Arg → Got Row40 → Got usize → List Arg → List Arg
 had before rows lent after = before ++ the-array rows ∷ the-number lent ∷ after
 
-abbrev pub binding : (xs : List Arg) → (Lfts (length (tokens-of xs)) × Shares (length (tokens-of xs)) × Unit {0} × Denots (kinds 0 xs) × Valss (kinds 0 xs)) × Unit {0}
-binding xs = ((lifetimes (tokens-of xs), shares (tokens-of xs), tt, args 0 xs, valss 0 xs), tt)
-
 abbrev pub after-with : Got Row40 → Got usize → Answer → List Counters → After
 after-with rows lent r zs = record { answer = r; rows = zs ++ rest (rows .x) (lent .x) }
-
-abbrev tokened : {M : Type 1} (𝓤 : URA M) (A : Atoms 𝓤) → List (Lft × Share) → SProp 𝓤
-tokened 𝓤 A ts = toks 𝓤 A (length ts) (lifetimes ts) (shares ts)
 
 -- ---- the rows that are lent, of an array of rows at l: the first so many
 module _ (rows : Got Row40) (lent : Got usize) (l : ℕ) where
@@ -282,32 +258,3 @@ module _ {M : Type 1} (𝓤 : URA M) (H : Heap 𝓤) (𝓜 : Model 𝓤 H) (𝓖
 
   pub knows-joined : γ #joined ≡ joined-def.routine → Joined-known 𝓤 H (𝓖 .A) (𝓜 .mem) (𝓡 .run) (tables 𝓤 H 𝓜 𝓡 γ .C)
   knows-joined e = cited 𝓤 H (Joined 𝓤 H (𝓖 .A) (𝓜 .mem) (𝓡 .run)) 𝓜 𝓡 γ #joined joined-def.routine e (joined-thm.met 𝓤 H 𝓜 𝓖 𝓡)
-
--- ---- the walk as a whole
-module _ {M : Type 1} (𝓤 : URA M) (H : Heap 𝓤) (A : Atoms 𝓤) (T : Ended) (c : Clauses 𝓤 T) where
-  abbrev S : Signature
-  S = T .signature
-
-  -- it ends with the tokens and what is said of the last values; the result owns nothing, and the `ensures` is a fact
-  pub exits : Given 𝓤 H A → (y : Of 𝓤 H A T c .Ghost) (v : Val) (r : Res S (y .0 .0)) (ws : Lasts T (y .0 .0) (y .0 .3)) (ts : List (Lft × Share)) (φ : Type 0)
-      → ent 𝓤 (mean 𝓤 H A (tokens ts)) (alive 𝓤 H A S (y .0 .0) (y .0 .1)) → ent 𝓤 (emp 𝓤) (sem 𝓤 H A (typeAt (S .result) (y .0 .0) .own r (v ∷ [])))
-      → ent 𝓤 (fact 𝓤 φ) (c (y .0 .0) (y .0 .3) .ensures (y .1) r (atExit T (y .0 .0) (y .0 .3) ws)) → φ → ent 𝓤 (⋆ 𝓤 H A (tokens ts ∷ ‵ (lasts T (y .0 .0) (y .0 .3) ws) ∷ [])) (Of 𝓤 H A T c .post y v)
-  exits W y v r ws ts φ live own says x =
-      qed W (tokens ts ∷ ‵ (lasts T (y .0 .0) (y .0 .3) ws) ∷ []) ∵ updating ! $ at-once ! $ show ! (λ (r′ : Res S (y .0 .0)). sep 𝓤 (Back 𝓤 H A S (y .0) v r′) (ensured 𝓤 H A T c (y .0 .0) (y .0 .3) (y .1) r′)) r $
-      use0 W (‵ (typeAt (S .result) (y .0 .0) .own r (v ∷ []))) own $ move ! (1 ∷ []) $ use1 W (raw (alive 𝓤 H A S (y .0 .0) (y .0 .1))) live $ join ! $ frame ! $
-      show ! (λ (us : Lasts T (y .0 .0) (y .0 .3)). sep 𝓤 (sem 𝓤 H A (lasts T (y .0 .0) (y .0 .3) us)) (c (y .0 .0) (y .0 .3) .ensures (y .1) r (atExit T (y .0 .0) (y .0 .3) us))) ws $ frame ! $ by ! (via 𝓤 (fact 𝓤 φ) (factI 𝓤 φ (emp 𝓤) x) says)
-
-  pub meets : (run : Fun 𝓤) (sp : (κs : Lfts (S .lifetimes)) → Spells (typesAt (S .params) κs)) → ((κs : Lfts (S .lifetimes)) → Tellss (typesAt (S .params) κs) (Ises (typesAt (S .params) κs)) (sp κs))
-      → ((κs : Lfts (S .lifetimes)) (qs : Shares (S .lifetimes)) (bounds : AllOutlive (S .lifetimes) (S .outlives) κs) (a : Args S κs) (g : c κs a .ghost)
-      → Are (typesAt (S .params) κs) (Ises (typesAt (S .params) κs)) a (spelled (typesAt (S .params) κs) (sp κs) a)
-      → ent 𝓤 (sep 𝓤 (onEntry 𝓤 H A S κs qs a (spelled (typesAt (S .params) κs) (sp κs) a)) (c κs a .requires g))
-      (run (flat (typesAt (S .params) κs) (spelled (typesAt (S .params) κs) (sp κs) a)) (Of 𝓤 H A T c .post ((κs, qs, bounds, a, spelled (typesAt (S .params) κs) (sp κs) a), g))))
-      → Meets 𝓤 H A S run (closing 𝓤 H A T c)
-  meets run sp tl k y =
-      let P : SProp 𝓤 = c (y .0 .0) (y .0 .3) .requires (y .1) in
-      let Q : Vals S (y .0 .0) → SProp 𝓤 = λ us. run (flat (typesAt (S .params) (y .0 .0)) us) (Of 𝓤 H A T c .post ((y .0 .0, y .0 .1, y .0 .2, y .0 .3, us), y .1)) in
-      via 𝓤 (sep 𝓤 P (wand 𝓤 P (Q (y .0 .4))))
-      (via 𝓤 (sep 𝓤 (wand 𝓤 P (Q (y .0 .4))) P)
-      (monoL 𝓤 P (said 𝓤 H A S (y .0 .0) (y .0 .1) (sp (y .0 .0)) (tl (y .0 .0)) (y .0 .3) (λ us. wand 𝓤 P (Q us)) (y .0 .4) (λ are. wandI 𝓤 _ P _ (k (y .0 .0) (y .0 .1) (y .0 .2) (y .0 .3) (y .1) are))))
-      (comm∗ 𝓤 (wand 𝓤 P (Q (y .0 .4))) P))
-      (apply∗ 𝓤 P (Q (y .0 .4)))
