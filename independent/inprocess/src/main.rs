@@ -87,8 +87,8 @@ fn print_fault(seed: u64, number: u64, lines: &[Line], fault: &Fault) {
     shortest.iter().for_each(|line| println!("{}", text(line)));
 }
 
-/// Plays episodes until there are enough events or the time is up; false on a disagreement.
-fn run(options: &Options, tally: &mut Tally) -> bool {
+/// Plays episodes until there are enough events or the time is up; gives the events a second, None on a disagreement.
+fn run(options: &Options, tally: &mut Tally) -> Option<u64> {
     let start = Instant::now();
     let is_over = |events: u64| {
         let late = options.seconds.is_some_and(|seconds| start.elapsed() >= Duration::from_secs(seconds));
@@ -102,14 +102,13 @@ fn run(options: &Options, tally: &mut Tally) -> bool {
         let lines = episode(options.seed, number).lines();
         if let Err(fault) = play(number, &lines, tally) {
             print_fault(options.seed, number, &lines, &fault);
-            return false;
+            return None;
         }
         number += 1;
     }
     let seconds = start.elapsed().as_secs_f64();
     println!("{} episodes of seed {} in {seconds:.1} s", grouped(number), options.seed);
-    println!("{} events a second", grouped((tally.events as f64 / seconds) as u64));
-    true
+    Some((tally.events as f64 / seconds) as u64)
 }
 
 /// Whether the run has played enough to say something.
@@ -171,11 +170,12 @@ fn compare(options: &Options) -> bool {
         return one(options, number);
     }
     let mut tally = Tally::default();
-    let agreed = run(options, &mut tally);
+    let pace = run(options, &mut tally);
     print!("{}", tally.report());
-    let good = agreed && is_enough(options, &tally);
+    let good = pace.is_some() && is_enough(options, &tally);
     let (tables, events) = (grouped(tally.tables), grouped(tally.events));
-    println!("in process: {tables} tables, {events} events, {} disagreements", u8::from(!agreed));
+    let pace = pace.map_or("1 disagreement".to_string(), |pace| format!("{} a second, 0 disagreements", grouped(pace)));
+    println!("in process: {tables} tables, {events} events, {pace}");
     good
 }
 
