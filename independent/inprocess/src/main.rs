@@ -28,6 +28,8 @@ const USAGE: &str =
 
 /// What a run has at least, if its time is up before all its events are played.
 const LEAST: u64 = 200_000;
+/// How long shorter lines are looked for that show a disagreement.
+const SHORTENING: Duration = Duration::from_secs(20);
 
 struct Options {
     seed: u64,
@@ -81,7 +83,8 @@ fn print_fault(seed: u64, number: u64, lines: &[Line], fault: &Fault) {
     println!("asked: {}", text(&lines[fault.line - 1]));
     fault.differences.iter().for_each(|difference| println!("{difference}"));
     println!("again: inprocess --seed {seed} --episode {number}");
-    let is_faulty = |lines: &[Line]| play(number, lines, &mut Tally::default()).is_err();
+    let end = Instant::now() + SHORTENING;
+    let is_faulty = |lines: &[Line]| Instant::now() < end && play(number, lines, &mut Tally::default()).is_err();
     let shortest = shrink(lines[..fault.line].to_vec(), &mut |lines: &[Line]| is_faulty(lines));
     println!("the shortest lines found, as the console takes them:");
     shortest.iter().for_each(|line| println!("{}", text(line)));
