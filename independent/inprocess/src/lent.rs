@@ -1,7 +1,7 @@
 //! What is lent to the library, with bytes around it that nobody may write.
 
-/// Elements on either side.
-const AROUND: usize = 64;
+/// Elements on either side; odd, so that bytes are lent at no alignment.
+const AROUND: usize = 61;
 
 /// Elements of one kind, lent to the library.
 pub struct Lent<T> {
