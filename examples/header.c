@@ -296,6 +296,21 @@ static void refusals(void) {
     expect_refused("state", count(0), PLEVANDOR_REFUSAL_STATE);
 }
 
+/* A caller may leave anything in a register above a number of eight bits: the library must not look at it. */
+static void rubbish(void) {
+    typedef uint64_t wider(uint64_t, const uint8_t *, const uint8_t *, size_t, const struct plevandor_counters *,
+                           size_t, uint64_t);
+    wider *counts = (wider *)(void (*)(void))plevandor_count;
+    const uint64_t above = 0xDEADBEEFCAFE0100u, wide = above | PLEVANDOR_WIDE, narrow = above | PLEVANDOR_NARROW;
+    load(PLEVANDOR_WIDE, NNI);
+    expect_answer("wide with rubbish", counts(wide, state, store, sizeof store, rows, ROWS, above), PLEVANDOR_COUNTED,
+                  0);
+    expect_refused("unit with rubbish", counts(wide, state, store, sizeof store, rows, ROWS, above | 1),
+                   PLEVANDOR_REFUSAL_UNIT);
+    expect_refused("narrow with rubbish", counts(narrow, state, store, sizeof store, rows, ROWS, above),
+                   PLEVANDOR_REFUSAL_STATE);
+}
+
 /* Each counter's name in the row beside its number. */
 static void names(void) {
 #define NAME(field, number) expect(#field, offsetof(struct plevandor_counters, field), 4 * PLEVANDOR_COUNTER_##number)
@@ -305,7 +320,7 @@ static void names(void) {
 }
 
 int main(void) {
-    sizes(), most_units(), tables(), arrivals(), hearings(), frames(), refusals(), names();
+    sizes(), most_units(), tables(), arrivals(), hearings(), frames(), refusals(), rubbish(), names();
     printf("header: %u checks, %u wrong\n", checks, wrong);
     return wrong != 0;
 }
