@@ -1,6 +1,6 @@
 /*
  * Libraries that are wrong in one thing each, for bin/wrong-libraries: the functions of plevandor.h over those of the
- * good library, which are called right_.. here. Which of them it is, is the number in the environment's PLEVANDOR_WRONG.
+ * good library, which are called right_.. here. The number in the environment's PLEVANDOR_WRONG says which it is.
  */
 #include "plevandor.h"
 

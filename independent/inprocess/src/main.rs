@@ -1,5 +1,5 @@
-//! Plays random tables, events and spoiled states on the firmware library and on the independent program in one process,
-//! and compares every answer and what is lent. The scripts are those of the two consoles' comparison.
+//! Plays random tables, events and spoiled states on the firmware library and on the independent program in one
+//! process, and compares every answer and what is lent. The scripts are those of the two consoles' comparison.
 
 mod expected;
 mod lent;

@@ -202,8 +202,8 @@ impl Pair {
         self.verdict(self.differences(Reach::All))
     }
 
-    /// What differs: always in state, rows, input and buffer and around all that is lent; in the store as far as the call
-    /// reaches; in the memory if it reaches all.
+    /// What differs: always in state, rows, input and buffer and around all that is lent; in the store as far as the
+    /// call reaches; in the memory if it reaches all.
     fn differences(&self, reach: Reach) -> Vec<String> {
         let library = &self.library;
         let mut found = Vec::new();
