@@ -1,6 +1,6 @@
 //! The console: every command of docs/CONSOLE.md, one answer a line.
 
-mod command;
+pub mod command;
 mod lines;
 mod unit;
 
