@@ -225,21 +225,21 @@ fn put_refusal(out: &mut [u8], at: usize, card: Card, number: u8, line: u32, tex
 
 // That a card takes a table: the bytes of memory and the units.
 pub fn ok_line(card: Card, used: u32, units: u8, out: &mut [u8; 256]) -> usize
-    ensures { λ r. ⌜ Wrote (now (out .entry)) 0 (okLine card used units) r (now (out .exit)) × (r ≤ 256) ⌝ }
+    ensures { λ r. ⌜ Wrote (now (out .entry)) 0 (okLine card used units) r (now (out .exit)) × (r ≤ length (now (out .exit))) ⌝ }
 {
     put_ok(out, 0, card, used, units)
 }
 
 // That a narrow card refuses a line for what it asks.
 pub fn wide_line(line: u64, bytes: &[u8], ask: Ask, out: &mut [u8; 256]) -> usize
-    ensures { λ r. ⌜ Wrote (now (out .entry)) 0 (wideLine line (now (bytes .entry)) ask) r (now (out .exit)) × (r ≤ 256) ⌝ }
+    ensures { λ r. ⌜ Wrote (now (out .entry)) 0 (wideLine line (now (bytes .entry)) ask) r (now (out .exit)) × (r ≤ length (now (out .exit))) ⌝ }
 {
     put_wide(out, 0, line, bytes, ask)
 }
 
 // That a card refuses a table with this number at this line.
 pub fn refused_line(card: Card, number: u8, line: u32, text: &[u8], out: &mut [u8; 256]) -> usize
-    ensures { λ r. ⌜ Wrote (now (out .entry)) 0 (refusedLine card number line (now (text .entry))) r (now (out .exit)) × (r ≤ 256) ⌝ }
+    ensures { λ r. ⌜ Wrote (now (out .entry)) 0 (refusedLine card number line (now (text .entry))) r (now (out .exit)) × (r ≤ length (now (out .exit))) ⌝ }
 {
     put_refusal(out, 0, card, number, line, text)
 }
