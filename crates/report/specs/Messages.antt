@@ -40,6 +40,10 @@ cutMark line = cond (ltb 80 (length line)) tCut []
 abbrev pub shown : List ℕ → List ℕ
 shown line = cat oneShown (take 80 line) ++ cutMark line
 
+-- and a colon behind it; an empty line is not shown
+unfoldable pub showing : List ℕ → List ℕ
+showing line = cond (eqb (length line) 0) [] (shown line ++ tColon)
+
 -- the line with this number, counted from 1
 abbrev pub lineIn : List ℕ → ℕ → List ℕ
 lineIn text line = fieldOf line (split 10 text)
@@ -59,7 +63,7 @@ askWords (Out vpi) = (tPath ++ decimal vpi) ++ tAbove
 
 -- `376: narrow refused 5: vp 7 9 u8 1 261: outgoing path 261 is above 255`
 abbrev pub wideLine : ℕ → List ℕ → Ask → List ℕ
-wideLine line bytes ask = ((head Narrow 5 line ++ (shown bytes ++ tColon)) ++ askWords ask) ++ newline
+wideLine line bytes ask = ((head Narrow 5 line ++ showing bytes) ++ askWords ask) ++ newline
 
 -- what is wrong, as far as 01's number says it
 unfoldable pub formWords : List ℕ → List ℕ
@@ -76,7 +80,7 @@ why text number =
 
 -- the line that is refused; none where the whole table is
 unfoldable pub shownIn : List ℕ → ℕ → List ℕ
-shownIn text line = cond (eqb line 0) [] (shown (lineIn text line) ++ tColon)
+shownIn text line = cond (eqb line 0) [] (showing (lineIn text line))
 
 -- `12: wide refused 4: unit 3 uni 5 2 one 0 0 100 0: given twice`
 abbrev pub refusedLine : Card → ℕ → ℕ → List ℕ → List ℕ

@@ -3,11 +3,9 @@ use card::Ask;
 use card::Card;
 ghost use mathlib.Core.Path.{_≡_};
 ghost use Prim.Native.Nat.{_+_, _≤_, min};
-ghost use mathlib.Core.List.{_++_};
 ghost use lib.ListN.{length};
 ghost use Rattle.text.specs.Writing.{Wrote};
-ghost use Rattle.report.specs.Messages.{cardWord, unitsWord, okLine, shownByte, cutMark, shown as shownOf, lineIn, place, head, askWords, wideLine, formWords, why, shownIn, refusedLine};
-ghost use Rattle.report.specs.Phrases.{tColon};
+ghost use Rattle.report.specs.Messages.{cardWord, unitsWord, okLine, shownByte, cutMark, shown as shownOf, showing, lineIn, place, head, askWords, wideLine, formWords, why, shownIn, refusedLine};
 
 // How much of a line is shown.
 const SHOWN: usize = 80;
@@ -170,11 +168,14 @@ fn put_why(out: &mut [u8], at: usize, text: &[u8], number: u8) -> usize
     }
 }
 
-// A line as it is shown, and a colon.
+// A line as it is shown, and a colon; nothing of an empty one.
 fn put_line(out: &mut [u8], at: usize, line: &[u8]) -> usize
     requires { ⌜ at + 85 ≤ length (now out) ⌝ }
-    ensures { λ r. ⌜ Wrote (now (out .entry)) at (shownOf (now (line .entry)) ++ tColon) r (now (out .exit)) × (r ≤ at + 85) ⌝ }
+    ensures { λ r. ⌜ Wrote (now (out .entry)) at (showing (now (line .entry))) r (now (out .exit)) × (r ≤ at + 85) ⌝ }
 {
+    if line.len() == 0 {
+        return at;
+    }
     let next = put_shown(out, at, line);
     text::put(out, next, b": ")
 }
