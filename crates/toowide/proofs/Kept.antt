@@ -3,11 +3,11 @@ use mathlib.Core.Path.{_≡_, refl, sym, ap, ap₂, subst, _∙_}
 use mathlib.Core.Bool.{Bool, true, false, cond, not, false≢true}
 use mathlib.Core.List.{List, [], _∷_, _++_, append-assoc, append-nil, map}
 use mathlib.Core.Logic.{⊎-elim, _↔_}
-use Prim.Native.Nat.{ℕ, zero, suc, _+_, _<_, _≤_}
+use Prim.Native.Nat.{ℕ, zero, suc, _+_, _-_, _<_, _≤_}
 use native.Mathlib.Omega.{arith}
 use lib.Dec.{eqb, ltb}
-use lib.ListN.{length, drop}
-use borrow.Author.Tests.{ne-eqb}
+use lib.ListN.{length, take, drop}
+use borrow.Author.Tests.{ne-eqb, ltb-true, ltb-false}
 use Rattle.card.specs.Cards.{narrowHolds}
 use Rattle.card.specs.declared.Ask.{Ask}
 use Rattle.card.specs.declared.Ask.the-variants.{Bus as A·Bus, On, Out}
@@ -21,6 +21,7 @@ use Rattle.line.specs.declared.Reading.the-variants.{Good as Read, Bad}
 use Rattle.told.proofs.Grown.{decide}
 use Rattle.table.specs.Load.{readingsOf, load}
 use Rattle.table.specs.declared.Outcome.the-variants.{Loaded, Refused}
+use Rattle.table.proofs.Turns.{line-ended, line-open, no-line as no-reading}
 use Rattle.promise.specs.Says.{IsWide}
 use Rattle.promise.specs.Narrow.{NoneWide, FirstWide}
 use Rattle.promise.specs.Readings.{linesOf, readThen}
@@ -84,40 +85,68 @@ next-by-next text k h = follows text k 0 0 (omega arith)
 -- B. the list as the lines that were read have it
 unfoldable asksIn : ℕ → List Reading → List Asks
 asksIn n [] = []
-asksIn n (r ∷ rs) = askedAt n (asked r) ++ asksIn (n + 1) rs
+asksIn n (r ∷ rs) = askedAt n r (asked r) ++ asksIn (n + 1) rs
 
-map-list : (a : Asking) (n start e : ℕ) (rest : List Wide) → map asksAt (listAt a n start e rest) ≡ askedAt n a ++ map asksAt rest
+map-list : (text : List ℕ) (a : Asking) (n start e : ℕ) (rest : List Wide) → map (asksAt text) (listAt a n start e rest) ≡ askedAt n (readingOf (take (e - start) (drop start text)) true) a ++ map (asksAt text) rest
 unfolding listAt askedAt
-map-list (Of ask) n start e rest = refl
-map-list Nothing n start e rest = refl
+map-list text (Of ask) n start e rest = refl
+map-list text Nothing n start e rest = refl
 
-open-asks : (n : ℕ) (p : List ℕ) (b : Bool) → askedAt n Nothing ++ [] ≡ asksIn n (cond b [] (readingOf p false ∷ []))
-unfolding asksIn askedAt
-open-asks n p true = refl
-open-asks n p false = rw (open-nothing p)
+-- one line more: a newline ended it, or the text did
+module _ (text : List ℕ) (n start e : ℕ) (q : e ≡ start + length (at (from·on text start) 0)) (g : start < length text) where
+  abbrev line : List ℕ
+  line = take (e - start) (drop start text)
 
-list-asks : (n start : ℕ) (ps : List (List ℕ)) → map asksAt (listIn n start ps) ≡ asksIn n (readingsOf ps)
-unfolding over ended readingsOf asksIn
-list-asks n start [] = refl
-list-asks n start (p ∷ []) = map-list (asked (readingOf p false)) n start (start + length p) [] ∙ rw (open-nothing p) (open-asks n p (eqb (length p) 0))
-list-asks n start (p ∷ q ∷ ps) =
-    map-list (asked (readingOf p true)) n start (start + length p) _ ∙ ap (λ x. askedAt n (asked (readingOf p true)) ++ x) (list-asks (n + 1) (start + length p + 1) (q ∷ ps))
+  abbrev behind : List Asks
+  behind = asksIn (n + 1) (readingsOf (from·on text (e + 1)))
+
+  ended-asks : e < length text → askedAt n (readingOf line true) (asked (readingOf line true)) ++ behind ≡ asksIn n (readingsOf (from·on text start))
+  unfolding asksIn
+  ended-asks h = sym (ap (asksIn n) (line-ended text start e q g h))
+
+  open-asks : length text ≤ e → askedAt n (readingOf line true) (asked (readingOf line false)) ++ behind ≡ asksIn n (readingsOf (from·on text start))
+  unfolding asksIn askedAt
+  open-asks h =
+      let past : length text ≤ e + 1 = omega arith in
+      rw (open-nothing line) (ap (asksIn (n + 1)) (no-reading text (e + 1) past) ∙ sym (ap (asksIn n) (line-open text start e q g h) ∙ rw (open-nothing line)))
+
+  line-asks : askedAt n (readingOf line true) (asked (readingOf line (ltb e (length text)))) ++ behind ≡ asksIn n (readingsOf (from·on text start))
+  line-asks =
+      decide (ltb e (length text))
+      (λ t. ap (λ b. askedAt n (readingOf line true) (asked (readingOf line b)) ++ behind) t ∙ ended-asks (ltb-true e (length text) t))
+      (λ t. ap (λ b. askedAt n (readingOf line true) (asked (readingOf line b)) ++ behind) t ∙ open-asks (ltb-false e (length text) t))
+
+module _ (text : List ℕ) where
+  past-asks : (n start : ℕ) → length text ≤ start → map (asksAt text) (listIn n start (from·on text start)) ≡ asksIn n (readingsOf (from·on text start))
+  unfolding asksIn
+  past-asks n start h = ap (map (asksAt text)) (no-line listAt [] list-skip text n start h) ∙ sym (ap (asksIn n) (no-reading text start h))
+
+  list-asks : (m n start : ℕ) → length text ≤ start + m → map (asksAt text) (listIn n start (from·on text start)) ≡ asksIn n (readingsOf (from·on text start))
+  list-asks zero n start h = past-asks n start (omega arith)
+  list-asks (suc m) n start h =
+      let e = start + length (at (from·on text start) 0) in
+      decide (ltb start (length text))
+      (λ t.
+      ap (map (asksAt text)) (step listAt [] list-skip text start e refl n) ∙ map-list text _ n start e _
+      ∙ ap (λ x. askedAt n (readingOf (take (e - start) (drop start text)) true) (asked (readingOf (take (e - start) (drop start text)) (ltb e (length text)))) ++ x) (list-asks m (n + 1) (e + 1) (omega arith))
+      ∙ line-asks text n start e refl (ltb-true start (length text) t))
+      (λ t. past-asks n start (ltb-false start (length text) t))
 
 no-text : asksIn 1 (readingsOf (split 10 [])) ≡ asksIn 1 (linesOf [])
 unfolding linesOf asksIn readingsOf split asked askedAt
 no-text = refl
 
-text-asks : (text : List ℕ) → map asksAt (wideLines text) ≡ asksIn 1 (linesOf text)
+text-asks : (text : List ℕ) → map (asksAt text) (wideLines text) ≡ asksIn 1 (linesOf text)
 unfolding linesOf
-text-asks [] = list-asks 1 0 (split 10 []) ∙ no-text
-text-asks (b ∷ t) = list-asks 1 0 (split 10 (b ∷ t)) ∙ rw (ne-eqb (length (b ∷ t)) 0 (λ z. absurd (omega arith)))
+text-asks [] = list-asks [] 0 1 0 (omega arith) ∙ no-text
+text-asks (b ∷ t) = list-asks (b ∷ t) (length (b ∷ t)) 1 0 (omega arith) ∙ rw (ne-eqb (length (b ∷ t)) 0 (λ z. absurd (omega arith)))
 
-told-more : (l : Line) (told : List Line) (rest : List Reading) → wideOf told ++ asksIn (length told + 1) (Read l ∷ rest) ≡ (wideOf told ++ askedAt (length told + 1) (beyond (askOf l))) ++ asksIn (length (l ∷ told) + 1) rest
+told-more : (l : Line) (told : List Line) (rest : List Reading) → wideOf told ++ asksIn (length told + 1) (Read l ∷ rest) ≡ (wideOf told ++ askedAt (length told + 1) (Read l) (beyond (askOf l))) ++ asksIn (length (l ∷ told) + 1) rest
 unfolding asksIn asked
 told-more l told rest =
     let sums : length told + 1 + 1 ≡ length (l ∷ told) + 1 = omega arith in
-    sym (append-assoc (wideOf told) (askedAt (length told + 1) (beyond (askOf l))) (asksIn (length told + 1 + 1) rest))
-    ∙ ap (λ n. (wideOf told ++ askedAt (length told + 1) (beyond (askOf l))) ++ asksIn n rest) sums
+    sym (append-assoc (wideOf told) (askedAt (length told + 1) (Read l) (beyond (askOf l))) (asksIn (length told + 1 + 1) rest))
+    ∙ ap (λ n. (wideOf told ++ askedAt (length told + 1) (Read l) (beyond (askOf l))) ++ asksIn n rest) sums
 
 told-asks : (told : List Line) (rest : List Reading) → asksIn 1 (readThen told rest) ≡ wideOf told ++ asksIn (length told + 1) rest
 unfolding readThen wideOf
@@ -168,10 +197,10 @@ unfolding wideOf
 more-wide [] told = ([], sym (append-nil (wideOf told)))
 more-wide (l ∷ after) told =
     let ys = more-wide after told in
-    let a = askedAt (length (after ++ told) + 1) (beyond (askOf l)) in
+    let a = askedAt (length (after ++ told) + 1) (Read l) (beyond (askOf l)) in
     (ys .0 ++ a, ap (λ x. x ++ a) (ys .1) ∙ append-assoc (wideOf told) (ys .0) a)
 
-alone : (before : List Line) (l : Line) (ask : Ask) → NoneWide before → beyond (askOf l) ≡ Of ask → wideOf (l ∷ before) ≡ record { number = length before + 1; ask = ask } ∷ []
+alone : (before : List Line) (l : Line) (ask : Ask) → NoneWide before → beyond (askOf l) ≡ Of ask → wideOf (l ∷ before) ≡ record { number = length before + 1; reading = Read l; ask = ask } ∷ []
 unfolding wideOf askedAt
 alone before l ask n e = rw (no-wide before n, e)
 
@@ -179,20 +208,20 @@ first-wide : (told : List Line) (line : ℕ) → FirstWide told line → (a : As
 first-wide told line f =
     let asks = wide-asks (f .it) .1 (f .wide) in
     let ys = more-wide (f .after) (f .it ∷ f .before) in (
-      record { number = length (f .before) + 1; ask = asks .0 },
+      record { number = length (f .before) + 1; reading = Read (f .it); ask = asks .0 },
       ys .0,
       ap wideOf (f .all) ∙ ys .1 ∙ ap (λ x. x ++ ys .0) (alone (f .before) (f .it) (asks .0) (f .none-before) (asks .1)),
       sym (f .counted),
     )
 
 -- E. of a text that the wide card takes
-map-none : (ws : List Wide) → map asksAt ws ≡ [] → ws ≡ []
-map-none [] e = refl
-map-none (w ∷ ws) e = let z : _≡_ {A = ℕ} 0 1 = cc in absurd (omega arith)
+map-none : (text : List ℕ) (ws : List Wide) → map (asksAt text) ws ≡ [] → ws ≡ []
+map-none text [] e = refl
+map-none text (w ∷ ws) e = let z : _≡_ {A = ℕ} 0 1 = cc in absurd (omega arith)
 
-map-first : (ws : List Wide) (a : Asks) (ys : List Asks) → map asksAt ws ≡ a ∷ ys → (w : Wide) × (rest : List Wide) × (ws ≡ w ∷ rest) × (w .number ≡ a .number)
-map-first [] a ys e = let z : _≡_ {A = ℕ} 0 1 = cc in absurd (omega arith)
-map-first (w ∷ ws) a ys e = (w, ws, refl, let h : asksAt w ≡ a = cc in ap (λ x. x .number) h)
+map-first : (text : List ℕ) (ws : List Wide) (a : Asks) (ys : List Asks) → map (asksAt text) ws ≡ a ∷ ys → (w : Wide) × (rest : List Wide) × (ws ≡ w ∷ rest) × (w .number ≡ a .number)
+map-first text [] a ys e = let z : _≡_ {A = ℕ} 0 1 = cc in absurd (omega arith)
+map-first text (w ∷ ws) a ys e = (w, ws, refl, let h : asksAt text w ≡ a = cc in ap (λ x. x .number) h)
 
 module _ (text memory : List ℕ) (store rows : ℕ) (told : List Line) where
   pub every-line : EveryLine text memory store rows told
@@ -202,11 +231,11 @@ module _ (text memory : List ℕ) (store rows : ℕ) (told : List Line) where
   named : Accepts W text memory store rows told → (n : ℕ) → FirstWide told n → (w : Wide) × (rest : List Wide) × (wideLines text ≡ w ∷ rest) × (w .number ≡ n)
   named a n f =
       let x = first-wide told n f in
-      let y = map-first (wideLines text) (x .0) (x .1) (every-line a ∙ x .2) in
+      let y = map-first text (wideLines text) (x .0) (x .1) (every-line a ∙ x .2) in
       (y .0, y .1, y .2, y .3 ∙ x .3)
 
   none-listed : Accepts W text memory store rows told → NoneWide told → wideLines text ≡ []
-  none-listed a n = map-none (wideLines text) (every-line a ∙ no-wide told n)
+  none-listed a n = map-none text (wideLines text) (every-line a ∙ no-wide told n)
 
   some-listed : (w : Wide) (rest : List Wide) → wideLines text ≡ w ∷ rest → wideLines text ≡ [] → ⊥
   some-listed w rest e k = let z : _≡_ {A = ℕ} 0 1 = cc in omega arith

@@ -7,7 +7,10 @@ use mathlib.Core.Logic.{_↔_}
 use lib.ListN.{length, take, drop}
 use Rattle.card.specs.declared.Ask.{Ask}
 use Rattle.card.specs.declared.Card.the-variants.{Narrow, Wide as W}
+use Rattle.line.specs.Lines.{readingOf}
 use Rattle.line.specs.declared.Line.{Line}
+use Rattle.line.specs.declared.Reading.{Reading}
+use Rattle.line.specs.declared.Reading.the-variants.{Good}
 use Rattle.table.specs.declared.Outcome.the-variants.{Loaded, Refused}
 use Rattle.table.specs.Load.{load}
 use Rattle.promise.specs.Refusals.{Accepts}
@@ -21,22 +24,24 @@ use Rattle.toowide.specs.declared.Asking.the-variants.{Of, Nothing}
 abbrev pub NextByNext : Type 0
 NextByNext = (text : List ℕ) (k : ℕ) → length text < k → following k text 0 0 ≡ wideLines text
 
--- a line's number, and what it asks
+-- a line's number, how it reads, and what it asks
 pub record Asks : Type 0 where
   pub number : ℕ
+  pub reading : Reading
   pub ask : Ask
 
-abbrev pub asksAt : Wide → Asks
-asksAt w = record { number = w .number; ask = w .ask }
+-- those of a line that is listed: it reads as the text's part between its places does
+abbrev pub asksAt : List ℕ → Wide → Asks
+asksAt text w = record { number = w .number; reading = readingOf (take (w .end - w .start) (drop (w .start) text)) true; ask = w .ask }
 
 -- of lines, the latest first, those that ask for too much, in their order, counted from 1
-unfoldable pub askedAt : ℕ → Asking → List Asks
-askedAt number (Of ask) = record { number = number; ask = ask } ∷ []
-askedAt number Nothing = []
+unfoldable pub askedAt : ℕ → Reading → Asking → List Asks
+askedAt number reading (Of ask) = record { number = number; reading = reading; ask = ask } ∷ []
+askedAt number reading Nothing = []
 
 unfoldable pub wideOf : List Line → List Asks
 wideOf [] = []
-wideOf (l ∷ told) = wideOf told ++ askedAt (length told + 1) (beyond (askOf l))
+wideOf (l ∷ told) = wideOf told ++ askedAt (length told + 1) (Good l) (beyond (askOf l))
 
 -- a line asks for too much exactly if it is one of 01's Wide: "`bus` 32, `nni`, or outgoing VPI above 255"
 abbrev pub WideIff : Type 0
@@ -44,9 +49,9 @@ WideIff = (l : Line) → ((ask : Ask) × (beyond (askOf l) ≡ Of ask)) ↔ IsWi
 
 -- of a text that the wide card takes
 module _ (text memory : List ℕ) (store rows : ℕ) (told : List Line) where
-  -- these lines are listed and no others
+  -- these lines are listed, each where it stands, and no others
   abbrev pub EveryLine : Type 0
-  EveryLine = Accepts W text memory store rows told → map asksAt (wideLines text) ≡ wideOf told
+  EveryLine = Accepts W text memory store rows told → map (asksAt text) (wideLines text) ≡ wideOf told
 
   -- the first of them is the line that loading on the narrow card names
   abbrev pub FirstNamed : Type 0
