@@ -18,6 +18,8 @@ use Rattle.line.specs.declared.Line.{Line}
 use Rattle.line.specs.declared.Line.the-variants.{Bus, Unit as L·Unit, Vp, Drop, Page, Vc, Mc}
 use Rattle.line.specs.declared.Reading.{Reading}
 use Rattle.line.specs.declared.Reading.the-variants.{Good as Read, Bad}
+use Rattle.paper.specs.Words.{wordsOf, InRange}
+use Rattle.paper.proofs.Readings.{reads-iff}
 use Rattle.told.proofs.Grown.{decide}
 use Rattle.table.specs.Load.{readingsOf, load}
 use Rattle.table.specs.declared.Outcome.the-variants.{Loaded, Refused}
@@ -25,13 +27,15 @@ use Rattle.table.proofs.Turns.{line-ended, line-open, no-line as no-reading}
 use Rattle.promise.specs.Says.{IsWide}
 use Rattle.promise.specs.Narrow.{NoneWide, FirstWide}
 use Rattle.promise.specs.Readings.{linesOf, readThen}
-use Rattle.promise.specs.Refusals.{Accepts}
+use Rattle.promise.specs.Faults.{Fault, order, twice, wide, room, Condition, not-ended, no-line as words-of-none, fault, Faultless}
+use Rattle.promise.specs.Refusals.{Accepts, AtLine}
 use Rattle.promise.proofs.Faults.{tooWide, wide-iff}
 use Rattle.promise.proofs.Cards.{wide-or-not, narrow-accepts, narrow-refuses-iff}
-use Rattle.promise.proofs.Refusals.{all-fine, accepted, loaded-refused}
+use Rattle.promise.proofs.Refusals.{all-fine, accepted, loaded-refused, refused-iff}
+use Rattle.promise.proofs.Texts.{line-read-iff}
 use Rattle.toowide.specs.Asks.{asked, askOf, beyond}
 use Rattle.toowide.specs.Listing.{Wide, ended, over, foundAt, nextIn, listAt, listIn, wideLines, onward, following}
-use Rattle.toowide.specs.Listed.{Asks, asksAt, askedAt, wideOf, NextByNext, WideIff, EveryLine, FirstNamed, NoneIfTaken}
+use Rattle.toowide.specs.Listed.{Asks, asksAt, askedAt, wideOf, NextByNext, WideIff, EveryLine, FirstNamed, NoneIfTaken, NamedFirst}
 use Rattle.toowide.specs.declared.Asking.{Asking}
 use Rattle.toowide.specs.declared.Asking.the-variants.{Of, Nothing}
 use Rattle.toowide.specs.declared.Next.{Next}
@@ -254,3 +258,39 @@ module _ (text memory : List ℕ) (store rows : ℕ) (told : List Line) where
     λ e. ⊎-elim (λ n. (_, ap (λ x. x .outcome) (accepted Narrow text memory store rows told (narrow-accepts text memory store rows told a n) .0))) (λ f. let y = named a (f .0) (f .1) in absurd (some-listed (y .0) (y .1) (y .2) e)) (wide-or-not told),
     λ x. ⊎-elim (none-listed a) (λ f. absurd (loaded-refused (sym (x .1) ∙ narrow-refuses-iff text memory store rows told a (f .0) .0 (f .1)))) (wide-or-not told),
   )
+
+-- F. of any text: the line that the narrow card names for 5
+none-wide : (memory : List ℕ) (told : List Line) → Faultless Narrow memory told → NoneWide told
+none-wide memory [] f = tt
+none-wide memory (l ∷ told) f = (λ w. f .0 5 (wide refl w refl), none-wide memory told (f .1))
+
+wide-fault : (memory : List ℕ) (told : List Line) (l : Line) → Fault Narrow memory told l 5 → IsWide l
+wide-fault memory told l (order o n) = absurd (omega arith)
+wide-fault memory told l (twice a n) = absurd (omega arith)
+wide-fault memory told l (wide c w n) = w
+wide-fault memory told l (room x n) = absurd (omega arith)
+
+wide-line : (memory : List ℕ) (told : List Line) (bytes : List ℕ) (ended : Bool) → Condition Narrow memory told bytes ended 5 → (l : Line) × (readingOf bytes ended ≡ Read l) × IsWide l
+wide-line memory told bytes ended (not-ended e n) = absurd (omega arith)
+wide-line memory told bytes ended (words-of-none h n) = absurd (omega arith)
+wide-line memory told bytes ended (fault l e r w f) =
+    (l, ap (readingOf bytes) e ∙ reads-iff bytes l .1 (r, w), wide-fault memory told l f)
+
+first-asks : (told : List Line) (l : Line) (ask : Ask) (after : List Reading) → NoneWide told → beyond (askOf l) ≡ Of ask → asksIn 1 (readThen told (Read l ∷ after)) ≡ record { number = length told + 1; reading = Read l; ask = ask } ∷ asksIn (length told + 1 + 1) after
+unfolding asksIn asked askedAt
+first-asks told l ask after n e = told-asks told (Read l ∷ after) ∙ rw (no-wide told n, e)
+
+named-at : (text memory : List ℕ) (line : ℕ) → AtLine Narrow text memory 5 line → (w : Wide) × (rest : List Wide) × (wideLines text ≡ w ∷ rest) × (w .number ≡ line)
+named-at text memory line a =
+    let x = wide-line memory (a .before) (a .bytes) (a .ended) (a .faulty) in
+    let asks = wide-asks (x .0) .1 (x .2) in
+    let r = line-read-iff text (a .before) (Read (x .0)) .1 (record { ranged = a .ranged; bytes = a .bytes; ended = a .ended; here = a .it; read = x .1 }) in
+    let all = text-asks text ∙ ap (asksIn 1) (r .1) ∙ first-asks (a .before) (x .0) (asks .0) (r .0) (none-wide memory (a .before) (a .faultless)) (asks .1) in
+    let y = map-first text (wideLines text) _ _ all in
+    (y .0, y .1, y .2, y .3 ∙ sym (a .counted))
+
+pub named-first : NamedFirst
+named-first text memory store rows line e =
+    ⊎-elim (λ long. let n = long .number-is in absurd (omega arith))
+    (⊎-elim (named-at text memory line) (λ store. let n = store .number-is in absurd (omega arith)))
+    (refused-iff Narrow text memory store rows 5 line .0 e)

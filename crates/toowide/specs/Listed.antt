@@ -64,3 +64,9 @@ module _ (text memory : List ℕ) (store rows : ℕ) (told : List Line) where
   NoneIfTaken =
       Accepts W text memory store rows told →
       (wideLines text ≡ []) ↔ ((used : ℕ) × (load Narrow text memory store rows .outcome ≡ Loaded used))
+
+-- also where the wide card does not take it: what the narrow card names for 5 is the first line of the list
+abbrev pub NamedFirst : Type 0
+NamedFirst =
+    (text memory : List ℕ) (store rows line : ℕ) → load Narrow text memory store rows .outcome ≡ Refused 5 line →
+    (w : Wide) × (rest : List Wide) × (wideLines text ≡ w ∷ rest) × (w .number ≡ line)
