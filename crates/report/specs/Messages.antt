@@ -82,6 +82,6 @@ why text number =
 unfoldable pub shownIn : List ℕ → ℕ → List ℕ
 shownIn text line = cond (eqb line 0) [] (showing (lineIn text line))
 
--- `12: wide refused 4: unit 3 uni 5 2 one 0 0 100 0: given twice`
+-- `12: wide refused 4: unit 3 uni 5 2 one 0 0 100 0: this unit, path, circuit or session is given twice`
 abbrev pub refusedLine : Card → ℕ → ℕ → List ℕ → List ℕ
 refusedLine card number line text = ((head card number line ++ shownIn text line) ++ why text number) ++ newline

@@ -136,8 +136,8 @@ fn put_ask(out: &mut [u8], at: usize, ask: Ask) -> usize
 }
 
 fn put_form(out: &mut [u8], at: usize, text: &[u8]) -> usize
-    requires { ⌜ at + 100 ≤ length (now out) ⌝ }
-    ensures { λ r. ⌜ Wrote (now (out .entry)) at (formWords (now (text .entry))) r (now (out .exit)) × (r ≤ at + 100) ⌝ }
+    requires { ⌜ at + 104 ≤ length (now out) ⌝ }
+    ensures { λ r. ⌜ Wrote (now (out .entry)) at (formWords (now (text .entry))) r (now (out .exit)) × (r ≤ at + 104) ⌝ }
 {
     if text.len() == 0 {
         return text::put(out, at, b"the text is empty");
@@ -150,8 +150,8 @@ fn put_form(out: &mut [u8], at: usize, text: &[u8]) -> usize
 }
 
 fn put_why(out: &mut [u8], at: usize, text: &[u8], number: u8) -> usize
-    requires { ⌜ at + 100 ≤ length (now out) ⌝ }
-    ensures { λ r. ⌜ Wrote (now (out .entry)) at (why (now (text .entry)) number) r (now (out .exit)) × (r ≤ at + 100) ⌝ }
+    requires { ⌜ at + 104 ≤ length (now out) ⌝ }
+    ensures { λ r. ⌜ Wrote (now (out .entry)) at (why (now (text .entry)) number) r (now (out .exit)) × (r ≤ at + 104) ⌝ }
 {
     match number {
         1 => text::put(out, at, b"the text is above 65,536 bytes"),
@@ -159,9 +159,13 @@ fn put_why(out: &mut [u8], at: usize, text: &[u8], number: u8) -> usize
         3 => text::put(
             out,
             at,
-            b"out of order: bus once and first, units below the bus number, a unit, page or top before its use",
+            b"bus not first or again, unit off the bus or not declared, VPI or VCI above its top, or vc without page",
         ),
-        4 => text::put(out, at, b"given twice"),
+        4 => text::put(
+            out,
+            at,
+            b"this unit, path, circuit or session is given twice",
+        ),
         5 => text::put(out, at, b"bus 32, nni or an outgoing path above 255"),
         6 => text::put(out, at, b"the memory of 262,144 bytes is full"),
         _ => text::put(out, at, b"cell store or counter rows too small"),
@@ -215,8 +219,8 @@ fn put_wide(out: &mut [u8], at: usize, line: u64, bytes: &[u8], ask: Ask) -> usi
 }
 
 fn put_refusal(out: &mut [u8], at: usize, card: Card, number: u8, line: u32, text: &[u8]) -> usize
-    requires { ⌜ at + 250 ≤ length (now out) ⌝ }
-    ensures { λ r. ⌜ Wrote (now (out .entry)) at (refusedLine card number line (now (text .entry))) r (now (out .exit)) × (r ≤ at + 250) ⌝ }
+    requires { ⌜ at + 254 ≤ length (now out) ⌝ }
+    ensures { λ r. ⌜ Wrote (now (out .entry)) at (refusedLine card number line (now (text .entry))) r (now (out .exit)) × (r ≤ at + 254) ⌝ }
 {
     let headed = put_head(out, at, card, number, line as u64);
     let lined = put_refused(out, headed, text, line);
