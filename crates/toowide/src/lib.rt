@@ -3,6 +3,7 @@ use card::Ask;
 use card::Card;
 use line::Line;
 use line::Reading;
+use shelf::Settings;
 ghost use mathlib.Core.Path.{_≡_};
 ghost use Rattle.toowide.specs.Asks.{askOf, asked};
 ghost use Rattle.toowide.specs.Listing.{nextWide, Inside};
@@ -24,6 +25,14 @@ pub enum Next {
     None,
 }
 
+// What a unit's settings ask of a card.
+fn on_link(settings: Settings) -> Asking
+    ensures { λ r. ⌜ r ≡ Asking.Of (Ask.On (settings .link)) ⌝ }
+{
+    let link = settings.link;
+    Asking::Of(Ask::On(link))
+}
+
 // What a line asks of a card.
 fn ask_of(line: Line) -> Asking
     ensures { λ r. ⌜ r ≡ askOf line ⌝ }
@@ -33,10 +42,7 @@ fn ask_of(line: Line) -> Asking
         Line::Unit {
             settings,
             limits: _,
-        } => {
-            let link = settings.link;
-            Asking::Of(Ask::On(link))
-        }
+        } => on_link(settings),
         Line::Vp {
             unit: _,
             vpi: _,

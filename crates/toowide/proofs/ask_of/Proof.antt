@@ -10,7 +10,7 @@ returns c = rw (c .before .line .given .1)
 
 returns-2 : tie.Need-returns-2
 unfolding askOf
-returns-2 c = rw (c .before .line2 .given .1)
+returns-2 c = rw (c .before .before .line2 .given .1) (c .on-link .ensures)
 
 returns-3 : tie.Need-returns-3
 unfolding askOf
@@ -38,6 +38,7 @@ ask-of-spec =
     (tie.spec
     (λ c. search needs)
     (λ c. search needs)
+    (λ c κs. search needs)
     (λ c. search needs)
     (λ c. search needs)
     (λ c. search needs)
