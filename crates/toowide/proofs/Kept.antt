@@ -20,7 +20,7 @@ use Rattle.line.specs.declared.Reading.{Reading}
 use Rattle.line.specs.declared.Reading.the-variants.{Good as Read, Bad}
 use Rattle.paper.specs.Words.{wordsOf, InRange}
 use Rattle.paper.proofs.Readings.{reads-iff}
-use Rattle.told.proofs.Grown.{decide}
+use Rattle.meaning.proofs.Grown.{decide}
 use Rattle.table.specs.Load.{readingsOf, load}
 use Rattle.table.specs.declared.Outcome.the-variants.{Loaded, Refused}
 use Rattle.table.proofs.Turns.{line-ended, line-open, no-line as no-reading}

@@ -11,7 +11,7 @@ use Rattle.card.specs.declared.Ask.{Ask}
 use Rattle.text.specs.Text.{split, at}
 use Rattle.text.proofs.Split.{field-is, split-some, split-end, split-more, split-last}
 use Rattle.line.specs.Lines.{readingOf}
-use Rattle.told.proofs.Grown.{decide}
+use Rattle.meaning.proofs.Grown.{decide}
 use Rattle.toowide.specs.Asks.{asked}
 use Rattle.toowide.specs.Listing.{ended, over, foundAt}
 use Rattle.toowide.specs.declared.Asking.{Asking}
