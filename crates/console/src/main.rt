@@ -611,7 +611,7 @@ fn hint(w: World, out: &[u8; 200000], line: &[u8]) -> World {
         Slip::Both => tell_person(
             w,
             out,
-            b"hint: a blank stands in this line, and it ends in a carriage return; fields are parted by one tab, a line ends in a newline alone\n",
+            b"hint: a blank stands in this line, and a carriage return ends it; fields are parted by one tab, lines by a newline\n",
         ),
         Slip::NoSlip => w,
     }
