@@ -51,6 +51,7 @@ fn every_line_has_one_answer() {
     assert_eq!(answers("\n\nshow rows"), ["bad", "bad", "show rows 0"]);
     assert_eq!(answers("card wide\ncard narrow"), ["card ok", "card ok"]);
     assert_eq!(answers("card wide\r\n"), ["bad"]);
+    assert_eq!(answers("help\nhelp me\nhelp \nHelp"), ["help ok", "bad", "bad", "bad"]);
     assert_eq!(console(b"show\tmemory\n\xFF\n"), ["show memory 0 811C9DC5", "bad"]);
 }
 

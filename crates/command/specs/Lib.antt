@@ -4,3 +4,4 @@ pub mod Lent
 pub mod Called
 pub mod Names
 pub mod Commands
+pub mod Slips

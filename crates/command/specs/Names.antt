@@ -35,9 +35,12 @@ wCount = 99 ∷ 111 ∷ 117 ∷ 110 ∷ 116 ∷ []
 abbrev pub wPoke : List ℕ
 wPoke = 112 ∷ 111 ∷ 107 ∷ 101 ∷ []
 
+abbrev pub wHelp : List ℕ
+wHelp = 104 ∷ 101 ∷ 108 ∷ 112 ∷ []
+
 abbrev pub wShow : List ℕ
 wShow = 115 ∷ 104 ∷ 111 ∷ 119 ∷ []
 
 -- the first word of a line, in the order of docs/CONSOLE.md
 abbrev pub commands : List (List ℕ)
-commands = wCard ∷ wLend ∷ wLoad ∷ wArrive ∷ wHear ∷ wFrame ∷ wTake ∷ wHand ∷ wCollect ∷ wCount ∷ wPoke ∷ wShow ∷ []
+commands = wCard ∷ wLend ∷ wLoad ∷ wArrive ∷ wHear ∷ wFrame ∷ wTake ∷ wHand ∷ wCollect ∷ wCount ∷ wPoke ∷ wHelp ∷ wShow ∷ []

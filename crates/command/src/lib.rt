@@ -9,6 +9,7 @@ ghost use Rattle.command.specs.Lent.{cardLine, lendBank, lendRows, lendL
 ghost use Rattle.command.specs.Called.{loadLine, arriveLine, hearLine, frameLine, takeLine, handLine, collectLine, countLine};
 ghost use Rattle.command.specs.Commands.{counts, lines, spoken as spokenBy, readingOf};
 ghost use Rattle.command.specs.Names.{commands};
+ghost use Rattle.command.specs.Slips.{has as hasByte, endsIn, slipOf};
 
 // A number in its range, or none.
 pub enum Num {
@@ -122,6 +123,7 @@ pub enum Command {
     Count(u8),
     Poke { bank: Bank, at: u32, from: usize },
     PokeState { at: u32, from: usize },
+    Help,
     Show(Bank),
     ShowRows,
     ShowState,
@@ -375,10 +377,10 @@ pub fn count_line(s: &[u8]) -> Reading
 }
 
 // For each command but `show` how many fields its lines have.
-const COUNTS: [usize; 11] = [2, 4, 2, 3, 3, 2, 3, 3, 3, 2, 4];
+const COUNTS: [usize; 12] = [2, 4, 2, 3, 3, 2, 3, 3, 3, 2, 4, 1];
 
 // The place of `show` among the commands: its lines have two fields or three.
-const SHOW: usize = 11;
+const SHOW: usize = 12;
 
 // The line of the k-th command.
 fn line_of(k: usize, s: &[u8]) -> Reading
@@ -396,6 +398,7 @@ fn line_of(k: usize, s: &[u8]) -> Reading
         8 => collect_line(s),
         9 => count_line(s),
         10 => poke_line(s),
+        11 => Reading::Does(Command::Help),
         _ => Reading::Bad,
     }
 }
@@ -404,7 +407,7 @@ fn line_of(k: usize, s: &[u8]) -> Reading
 fn count_of(k: usize) -> usize
     ensures { λ r. ⌜ r ≡ getD counts k 0 ⌝ }
 {
-    if k < 11 { COUNTS[k] } else { 0 }
+    if k < 12 { COUNTS[k] } else { 0 }
 }
 
 fn spoken(k: usize, s: &[u8]) -> Reading
@@ -424,7 +427,7 @@ fn command_named(w: &[u8]) -> usize
     ensures { λ r. ⌜ r ≡ placeIn commands (now (w .entry)) ⌝ }
 {
     find(
-        b"card\tlend\tload\tarrive\thear\tframe\ttake\thand\tcollect\tcount\tpoke\tshow",
+        b"card\tlend\tload\tarrive\thear\tframe\ttake\thand\tcollect\tcount\tpoke\thelp\tshow",
         w,
     )
 }
@@ -437,4 +440,49 @@ pub fn read(s: &[u8]) -> Reading
         return spoken(command_named(text::field(s, 1)), s);
     }
     Reading::Bad
+}
+
+// What a person may have got wrong in a line that is no command.
+pub enum Slip {
+    Blanks,
+    Return,
+    Both,
+    NoSlip,
+}
+
+const BLANK: u8 = b' ';
+
+const RETURN: u8 = b'\r';
+
+// Whether a byte stands in s.
+fn has(s: &[u8], byte: u8) -> bool
+    ensures { λ r. ⌜ r ≡ hasByte byte (now (s .entry)) ⌝ }
+{
+    text::field_end(s, 0, byte) < s.len()
+}
+
+// Whether a byte stands at the end of s.
+fn ends_in(s: &[u8], byte: u8) -> bool
+    ensures { λ r. ⌜ r ≡ endsIn byte (now (s .entry)) ⌝ }
+{
+    if s.len() == 0 {
+        return false;
+    }
+    s[s.len() - 1] == byte
+}
+
+// Blanks where tabs should be, or a line end of two bytes.
+pub fn slip_in(s: &[u8]) -> Slip
+    ensures { λ r. ⌜ r ≡ slipOf (now (s .entry)) ⌝ }
+{
+    if ends_in(s, RETURN) {
+        if has(s, BLANK) {
+            return Slip::Both;
+        }
+        return Slip::Return;
+    }
+    if has(s, BLANK) {
+        return Slip::Blanks;
+    }
+    Slip::NoSlip
 }

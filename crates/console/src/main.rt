@@ -6,6 +6,7 @@ use card::Card;
 use command::Bank;
 use command::Command;
 use command::Reading;
+use command::Slip;
 use entry::Counted;
 use owned::After;
 ghost use mathlib.Core.Path.{_≡_};
@@ -586,14 +587,70 @@ fn lined(mut w: World, input: &mut [u8; 400000], out: &[u8; 200000]) -> World {
     refilled(w, input, n, end)
 }
 
+// Words for a person, on standard error; the answers so far are written first, so that both are read in order.
+fn tell_person(mut w: World, out: &[u8; 200000], words: &[u8]) -> World {
+    write_out(out, w.at);
+    io::write_all(2, words);
+    w.at = 0;
+    w
+}
+
+// What a person may have got wrong in a line that is bad.
+fn hint(w: World, out: &[u8; 200000], line: &[u8]) -> World {
+    match command::slip_in(line) {
+        Slip::Blanks => tell_person(
+            w,
+            out,
+            b"hint: a blank stands in this line; fields are parted by one tab\n",
+        ),
+        Slip::Return => tell_person(
+            w,
+            out,
+            b"hint: this line ends in a carriage return; a line ends in a newline alone\n",
+        ),
+        Slip::Both => tell_person(
+            w,
+            out,
+            b"hint: a blank stands in this line, and a carriage return ends it; fields are parted by one tab, lines by a newline\n",
+        ),
+        Slip::NoSlip => w,
+    }
+}
+
+// After its answer `help` lists the commands for a person.
+fn list(w: World, out: &[u8; 200000], command: Command) -> World {
+    match command {
+        Command::Help => tell_person(
+            w,
+            out,
+            b"Commands, one a line; fields are parted by one tab (here a blank), a line ends in a newline alone:\n\
+              card narrow, card wide\n\
+              lend memory LENGTH BYTE, lend store LENGTH BYTE, lend rows COUNT VALUE\n\
+              load HEX\n\
+              arrive UNIT HEX\n\
+              hear UNIT HEX\n\
+              frame LENGTH\n\
+              take UNIT LENGTH\n\
+              hand UNIT HEX\n\
+              collect UNIT LENGTH\n\
+              count UNIT\n\
+              poke memory AT HEX, poke store AT HEX, poke state AT HEX\n\
+              help\n\
+              show memory, show store, show rows, show state, show unit UNIT\n\
+              docs/CONSOLE.md has what each does and answers; docs/FORMATS.md has tables, fates and refusals.\n",
+        ),
+        _ => w,
+    }
+}
+
 // What is no command is bad, and so is a line that was too long.
-fn say_bad(mut w: World, out: &mut [u8; 200000]) -> World
+fn say_bad(mut w: World, line: &[u8], out: &mut [u8; 200000]) -> World
     requires { ⌜ w .at ≤ 180000 ⌝ }
 {
     let end = text::put(out, w.at, b"bad");
     w.at = ended(out, end);
     w.long = false;
-    w
+    hint(w, out, line)
 }
 
 // Answers the next line, if there is a whole one.
@@ -616,7 +673,7 @@ fn turn(
     w.good = true;
     match reading_of(w.long, line) {
         Reading::Does(command) => {
-            obey(
+            w = obey(
                 w,
                 state,
                 memory,
@@ -625,9 +682,10 @@ fn turn(
                 line,
                 command,
                 out,
-            )
+            );
+            list(w, out, command)
         }
-        Reading::Bad => say_bad(w, out),
+        Reading::Bad => say_bad(w, line, out),
     }
 }
 

@@ -410,7 +410,7 @@ fn far_records(script: &mut Script) {
     script.show_all();
 }
 
-/// A line of 150,000 bytes is read, a longer one is bad.
+/// A line of 150,000 bytes is read, a longer one is bad; `help` has no more than its word.
 fn long_lines(script: &mut Script) {
     stage(script, "bus 16\n");
     script.say("lend memory 300000 00");
@@ -420,4 +420,6 @@ fn long_lines(script: &mut Script) {
     }
     script.lines.push(vec![b'9'; 150_000]);
     script.say(&format!("take {} 53", "9".repeat(100_000)));
+    script.say("help");
+    script.say("help 0");
 }

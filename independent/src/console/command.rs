@@ -48,6 +48,7 @@ pub enum Command {
     Collect { unit: u32, length: usize },
     Count { unit: u32 },
     Poke { poked: Poked, at: usize, bytes: Vec<u8> },
+    Help,
     Show(Part),
     ShowRows,
     ShowState,
@@ -87,6 +88,7 @@ pub fn parse(line: &[u8]) -> Option<Command> {
             let (poked, at) = (parse_poked(poked)?, number(at)?.try_into().ok()?);
             Some(Command::Poke { poked, at, bytes: hex_bytes(bytes)? })
         }
+        [b"help"] => Some(Command::Help),
         [b"show", b"rows"] => Some(Command::ShowRows),
         [b"show", b"state"] => Some(Command::ShowState),
         [b"show", b"unit", unit] => Some(Command::ShowUnit { unit: unit_number(unit)? }),

@@ -58,6 +58,7 @@ impl Console {
             Command::Collect { unit, length } => self.collect(unit, length, out),
             Command::Count { unit } => self.count(unit, out),
             Command::Poke { poked, at, bytes } => self.poke(poked, at, &bytes, out),
+            Command::Help => say!(out, "help\tok"),
             Command::Show(part) => self.show(part, out),
             Command::ShowRows => self.show_rows(out),
             Command::ShowState => self.show_state(out),

@@ -1,5 +1,6 @@
 -- `command::line_of` meets its contract. Assumes nothing.
-use Rattle.command.proofs.Laws.{past-lines, from-6, from-11}
+use mathlib.Core.Path.{refl}
+use Rattle.command.proofs.Laws.{past-lines, from-6, from-12}
 use borrow.Author.Needs.{needs}
 use Rattle.command.proofs.line_of.Statement.{statement}
 use Rattle.command.proofs.line_of.Tie as tie
@@ -38,7 +39,10 @@ returns-11 : tie.Need-returns-11
 returns-11 c = rw (c .before .match .keys11) (c .poke-line .ensures)
 
 returns-12 : tie.Need-returns-12
-returns-12 c = past-lines _ _ (from-11 _ (from-6 _ (c .match .rest .0 .0 .0 .0 .0 .0 .0 .0 .0 .0 .1) (c .match .rest .0 .0 .0 .0 .0 .0 .0 .0 .0 .1) (c .match .rest .0 .0 .0 .0 .0 .0 .0 .0 .1) (c .match .rest .0 .0 .0 .0 .0 .0 .0 .1) (c .match .rest .0 .0 .0 .0 .0 .0 .1) (c .match .rest .0 .0 .0 .0 .0 .1)) (c .match .rest .0 .0 .0 .0 .1) (c .match .rest .0 .0 .0 .1) (c .match .rest .0 .0 .1) (c .match .rest .0 .1) (c .match .rest .1))
+returns-12 c = rw (c .match .keys12) refl
+
+returns-13 : tie.Need-returns-13
+returns-13 c = past-lines _ _ (from-12 _ (from-6 _ (c .match .rest .0 .0 .0 .0 .0 .0 .0 .0 .0 .0 .0 .1) (c .match .rest .0 .0 .0 .0 .0 .0 .0 .0 .0 .0 .1) (c .match .rest .0 .0 .0 .0 .0 .0 .0 .0 .0 .1) (c .match .rest .0 .0 .0 .0 .0 .0 .0 .0 .1) (c .match .rest .0 .0 .0 .0 .0 .0 .0 .1) (c .match .rest .0 .0 .0 .0 .0 .0 .1)) (c .match .rest .0 .0 .0 .0 .0 .1) (c .match .rest .0 .0 .0 .0 .1) (c .match .rest .0 .0 .0 .1) (c .match .rest .0 .0 .1) (c .match .rest .0 .1) (c .match .rest .1))
 
 pub line-of-spec : {M : Type 1} → statement M
 line-of-spec =
@@ -66,4 +70,5 @@ line-of-spec =
     returns-9
     returns-10
     returns-11
-    returns-12)
+    returns-12
+    returns-13)
