@@ -364,8 +364,8 @@ fn a_marked_maintenance_cell_is_found_and_shortened() {
         None => answer,
     };
     let finding = compare(&Faulty { line: <[u8]>::to_vec, answer }, &Own, 0, 1).1.expect("a fault");
-    // Store, rows, a table, the frame and the take.
-    assert!(finding.script.len() <= 5, "{:?}", text(&finding.script));
+    // Memory, store, rows, a table, the frame and the take.
+    assert!(finding.script.len() <= 6, "{:?}", text(&finding.script));
 }
 
 #[test]

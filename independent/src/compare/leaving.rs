@@ -23,10 +23,10 @@ pub fn kinds() -> impl Iterator<Item = String> {
 pub fn kind_of(console: &Console, line: &[u8]) -> Option<String> {
     let unit = std::str::from_utf8(line).ok()?.strip_prefix("take\t")?.strip_suffix("\t53")?.parse().ok()?;
     let Console { shelf, store, rows, .. } = console;
-    let place = shelf.state.place_of(unit)?;
-    if !shelf.state.is_sound(shelf.card, store.len(), rows.len()) || shelf.state.columns[MARK][place] == 0 {
+    if !shelf.state.is_sound(shelf.card, store.len(), rows.len()) {
         return None;
     }
+    let place = shelf.state.place_of(unit).filter(|place| shelf.state.columns[MARK][*place] == 1)?;
     let settings = shelf.state.settings(place);
     let counts = [0, 1, 2, 3].map(|queue| shelf.state.columns[QUEUE_COUNT + queue][place]);
     let queue = counts.iter().position(|count| *count > 0)?;
