@@ -1,5 +1,5 @@
-//! Fixed scripts: document 01's values on each side of a line, figures 15 and 16 of document 004, every byte of the
-//! state, and in a file of their own those of request W1.
+//! Fixed scripts: document 01's values on each side of a line, figures 15 and 16 of document 004, every PT at an outlet
+//! at its limit and below (request W3), every byte of the state, and in a file of their own those of request W1.
 
 use super::fixed_control;
 use super::script::{cell, frame, poke_of, to_unit, Script};
