@@ -52,6 +52,8 @@ pub struct Header {
     pub tail: u8,
 }
 
+/// The bit of `Header::tail` that is the top bit of PT, 0 in user data.
+pub const TOP_PT_BIT: u8 = 0b1000;
 /// The bit of `Header::tail` that is the middle bit of PT.
 pub const CONGESTION_BIT: u8 = 0b0100;
 /// The bit of `Header::tail` that is CLP.

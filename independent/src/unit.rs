@@ -1,7 +1,7 @@
 //! One unit of a sound state, and what it does with a cell.
 
 use crate::codec::{bus_cell, header_check, header_of, looped_back, BusCell, Header, Heard, Target};
-use crate::codec::{CLP_BIT, CONGESTION_BIT};
+use crate::codec::{CLP_BIT, CONGESTION_BIT, TOP_PT_BIT};
 use crate::lookup::{lookup, Answer};
 use crate::ring::{read_slot, write_slot, Slots};
 use crate::state::{State, CONTROL_IN, LOOPBACK_IN, LOOPBACK_OUT, MARK, NUMBER, QUEUE_COUNT};
@@ -181,7 +181,8 @@ impl Unit<'_> {
         // The queues are counted before the cell leaves them.
         let congested = (0..4).any(|queue| settings.reaches_limit(queue, counts[queue]));
         let mut header = header_of(&cell);
-        if congested && self.state.columns[MARK][self.place] == 1 {
+        let is_user_data = header.tail & TOP_PT_BIT == 0;
+        if is_user_data && congested && self.state.columns[MARK][self.place] == 1 {
             header.tail |= CONGESTION_BIT;
         }
         let bytes = header.write(self.state.link(self.place));

@@ -357,6 +357,27 @@ fn faults_of_control_and_loopback_cells_are_found_and_shortened() {
 }
 
 #[test]
+fn a_marked_maintenance_cell_is_found_and_shortened() {
+    // PT 101 leaves as 111, at an outlet with or without congestion.
+    let answer = |answer: Vec<u8>, _| match answer.strip_prefix(b"take\t3\tcell\t0010001A") {
+        Some(rest) => [b"take\t3\tcell\t0010001E", rest].concat(),
+        None => answer,
+    };
+    let finding = compare(&Faulty { line: <[u8]>::to_vec, answer }, &Own, 0, 1).1.expect("a fault");
+    // Memory, store, rows, a table, the frame and the take.
+    assert!(finding.script.len() <= 6, "{:?}", text(&finding.script));
+}
+
+#[test]
+fn every_pt_leaves_congested_and_idle_outlets_in_both_modes() {
+    // The fixed scripts alone show it.
+    let missing = compare(&Own, &Own, 0, 1).0.missing();
+    assert!(!missing.iter().any(|kind| kind.starts_with("take PT")), "{missing:?}");
+    let nothing = Tally::default().missing();
+    assert_eq!(nothing.iter().filter(|kind| kind.starts_with("take PT")).count(), 32);
+}
+
+#[test]
 fn differing_bytes_of_two_states() {
     let differ = |first: &str, second: &str| {
         differing_bytes(first.replace(' ', "\t").as_bytes(), second.replace(' ', "\t").as_bytes())

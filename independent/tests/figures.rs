@@ -103,9 +103,34 @@ fn class_picks_the_queue_for_every_kind() {
 
 #[test]
 fn mark_keeps_the_other_bits_and_renews_the_check() {
-    for (tail, marked) in [(0b0000, 0b0100), (0b1011, 0b1111), (0b0110, 0b0110), (0b1000, 0b1100)] {
+    for (tail, marked) in [(0b0000, 0b0100), (0b0011, 0b0111), (0b0110, 0b0110), (0b0010, 0b0110)] {
         let mut rig = Rig::wide("bus 16\nunit 3 nni 0 1 one 0 0 1 1\n");
         rig.hear(3, &frame(to_unit(3, 2), header(0xABC, 0x1234, tail), 7)).unwrap();
         assert_eq!(rig.take(3), Some(cell(header(0xABC, 0x1234, marked), 7)));
     }
+}
+
+#[test]
+fn only_a_top_pt_bit_of_0_is_marked() {
+    for (mode, class) in [("one 0 0 1", 2), ("four 40 1 1", 1), ("four 40 1 1", 2)] {
+        for tail in 0..16 {
+            let mut rig = Rig::wide(&format!("bus 16\nunit 3 nni 0 1 {mode} 1\n"));
+            // VCI 3 and 4 are those of F4 cells, which their PT alone spares.
+            for vci in [3, 4, 0x1234] {
+                rig.hear(3, &frame(to_unit(3, class), header(0xABC, vci, tail & 0b1110), 7)).unwrap();
+                let expected = if tail < 0b1000 { tail & 0b1110 | 0b0100 } else { tail & 0b1110 };
+                assert_eq!(rig.take(3), Some(cell(header(0xABC, vci, expected), 7)));
+            }
+        }
+    }
+}
+
+#[test]
+fn cells_that_are_not_marked_count() {
+    let mut rig = Rig::wide("bus 16\nunit 3 uni 0 1 one 0 0 2 1\n");
+    for tail in [0b0000, 0b1010, 0b0000] {
+        rig.hear(3, &frame(to_unit(3, 0), header(1, 1, tail), 7)).unwrap();
+    }
+    let tails: Vec<u8> = std::iter::from_fn(|| rig.take(3)).map(|cell| cell[3] & 0b1111).collect();
+    assert_eq!(tails, [0b0100, 0b1010, 0b0000]);
 }

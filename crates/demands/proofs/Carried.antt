@@ -20,7 +20,7 @@ use Rattle.flow.proofs.Silent.{quiet}
 use Rattle.flow.proofs.Streets.{right-street, bytes-stay}
 use Rattle.flow.proofs.Follows.{line-followed}
 use Rattle.flow.proofs.Apart.{once-only}
-use Rattle.flow.proofs.Out.{taken-right, line-delivered, sent-right}
+use Rattle.flow.proofs.Out.{taken-right, line-delivered, pt-kept, sent-right}
 use Rattle.sentences.specs.Arrival.{ArrivalRule}
 use Rattle.sentences.specs.Frame.{FrameRule}
 use Rattle.sentences.specs.Hearing.{HearingRule}
@@ -105,6 +105,7 @@ demand-2 =
       once-only = once-only;
       taken-right = taken-right;
       line-delivered = line-delivered;
+      pt-kept = pt-kept;
       sent-right = sent-right;
       isolation = isolation;
     }

@@ -27,7 +27,7 @@ use Rattle.flow.specs.Order.{InOrder, TakenHanded, CollectedHanded, SentFramed,
 use Rattle.flow.specs.Counted.{CountersTrue}
 use Rattle.flow.specs.Street.{RightStreet, BytesStay, LineFollowed}
 use Rattle.flow.specs.Apart.{OnceOnly}
-use Rattle.flow.specs.Out.{TakenRight, LineDelivered, SentRight, MovedLater}
+use Rattle.flow.specs.Out.{TakenRight, LineDelivered, PtKept, SentRight, MovedLater}
 use Rattle.flow.specs.Quiet.{Quiet}
 use Rattle.sentences.specs.Changes.{InBytes}
 use Rattle.sentences.specs.Refusals.{RefusedRule, StateKept}
@@ -162,10 +162,12 @@ pub record Demand2 : Type 0 where
   -- no cell goes out twice: of those that meet any test no more are sent than arrived and were routed, or were handed in, and no more are taken, collected or moved
   -- than came in frames meant for the unit
   pub once-only : OnceOnly
-  -- the bytes that a take hands out are those of a cell meant for that unit
+  -- the bytes that a take hands out are those of a cell meant for that unit, marked exactly when 01 says so of the unit's queues and 02 of the cell: "only cells whose top PT bit is 0 are marked"
   pub taken-right : TakenRight
-  -- and their VPI and VCI are the line's, payload and CLP the arrival's, PT but for the mark: "A UNI unit writes GFC 0. The check is new."
+  -- and their VPI and VCI are the line's, payload and CLP the arrival's, PT but for that mark: "A UNI unit writes GFC 0. The check is new."
   pub line-delivered : LineDelivered
+  -- "End-to-end OAM cells with PT 101 left a busy cabinet as 111.": a PT of 4 or more leaves as it arrived, from arrival to take, whatever the queues hold; at a unit with mark 0 every PT does
+  pub pt-kept : PtKept
   -- those of a frame after a grant are the oldest cell of the unit granted, which arrived there, was handed in there, "sent as they are", or had moved there
   pub sent-right : SentRight
   -- an event at a unit leaves every other unit, row and part of the store alone, and of the state's bytes all but that unit's rings and places
@@ -188,7 +190,8 @@ pub record Witnessed : Type 0 where
   pub listing-prints : ListingPrints
   -- "A table of the `bus` line alone is good."
   pub bus-alone : BusAlone
-  -- every fate of an arrival and of a copy, an ABR cell taken, Unit, Length and Busy; control and loopback cells handed in, heard, returned and collected, byte for byte
+  -- every fate of an arrival and of a copy, an ABR cell taken, Unit, Length and Busy; control and loopback cells handed in, heard, returned and collected, byte for byte; of 02's
+  -- mark, a PT of 101 that leaves a busy unit as it arrived
   pub all-run : AllRun
   -- each refusal of a table
   pub refusals : Refusals

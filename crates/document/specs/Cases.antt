@@ -48,10 +48,13 @@ table =
     []
 
 -- a cell with a right check; a frame with a sound parity
-abbrev pub good : Link → ℕ → ℕ → List ℕ
-good link vpi vci =
-    let header = word link (record { gfc = 0; vpi = vpi; vci = vci; pt = 0; clp = 0 }) in
+abbrev pub lined : Link → ℕ → ℕ → ℕ → List ℕ
+lined link vpi vci pt =
+    let header = word link (record { gfc = 0; vpi = vpi; vci = vci; pt = pt; clp = 0 }) in
     be4 header ++ (check header ∷ replicate 48 7)
+
+abbrev pub good : Link → ℕ → ℕ → List ℕ
+good link vpi vci = lined link vpi vci 0
 
 abbrev pub sound : ℕ → ℕ → List ℕ
 sound r header = sealed (cell r 0 header (replicate 48 7))
@@ -156,6 +159,10 @@ discards-say = hears (hearing.Queued ∷ hearing.Queued ∷ hearing.Clp ∷ hear
 unfoldable pub pts : Shelf → ℕ → ℕ → List ℕ
 pts shelf unit n = map (λ b. fields Uni (four (b .bytes) 0) .pt) (gives shelf (replicate n (take-cell unit (lent 53))))
 
+-- a queue with cells of these PTs already
+abbrev pub coded : ℕ → ℕ → List ℕ → Shelf → Shelf
+coded place q ps d = after d place (withQueue (unitAt d place) q (map (λ p. record { header = p * 2; payload = [] }) ps)) []
+
 -- a shelf, a unit, and the PTs of the cells that are taken there one after the other
 pub record Figure : Type 0 where
   pub on : Shelf
@@ -167,6 +174,10 @@ figures =
     record { on = filled 0 0 3 (opened table); unit = 0; marks = 2 ∷ 2 ∷ 0 ∷ [] }
     -- in figure 16 a class 0 cell leaves before them, marked too
     ∷ record { on = filled 1 0 1 (filled 1 1 3 (filled 1 2 2 (opened table))); unit = 3; marks = 2 ∷ 2 ∷ 2 ∷ 2 ∷ 2 ∷ 0 ∷ [] }
+    -- 02: "only cells whose top PT bit is 0 are marked", each of the eight PTs at a limit; the last but one is marked, since the one behind it counts
+    ∷ record { on = coded 0 0 (1 ∷ 2 ∷ 3 ∷ 5 ∷ 6 ∷ 7 ∷ 0 ∷ 4 ∷ []) (opened table); unit = 0; marks = 3 ∷ 2 ∷ 3 ∷ 5 ∷ 6 ∷ 7 ∷ 2 ∷ 4 ∷ [] }
+    -- by the PT of the cell that leaves, whatever the queue at its limit has in front
+    ∷ record { on = coded 1 0 (0 ∷ 4 ∷ []) (coded 1 1 (5 ∷ 1 ∷ 0 ∷ []) (opened table)); unit = 3; marks = 2 ∷ 4 ∷ 5 ∷ 1 ∷ 0 ∷ [] }
     ∷ []
 
 -- G. bus 32 / unit 0 uni 1 1 .. / unit 16 uni 1 1 .. / unit 17 uni 1 1 .., each with vp .. 1 b 0 0
@@ -297,6 +308,21 @@ standing-says =
     answers (Heard hearing.Full) ∷ answers (Framed 2 nobody 3 0) ∷ answers (Framed 3 3 nobody 1) ∷
     counts (record { arrived = 0; hec = 0; ignored = 0; misrouted = 0; inletfull = 0; sent = 2; unheard = 0; damaged = 0; queued = 2; full = 1; clp = 0; wide = 0; taken = 2 }) ∷ []
 
+-- J. 02's mark: "End-to-end OAM cells with PT 101", one before two of user data, at unit 3 with VBR limit 2: it leaves as it arrived, the next is marked, the last is alone
+abbrev pub marking : List Event
+marking =
+    arrive 0 (lined Uni 5 33 5) ∷ arrive 0 (lined Uni 5 33 0) ∷ arrive 0 (lined Uni 5 33 0) ∷ frame (lent 57) ∷ frame (lent 57) ∷ frame (lent 57) ∷ frame (lent 57) ∷
+    take-cell 3 (lent 53) ∷ take-cell 3 (lent 53) ∷ take-cell 3 (lent 53) ∷ []
+
+abbrev pub marking-gives : List Back
+marking-gives =
+    back (answers (Arrived arrival.Queued)) (lined Uni 5 33 5) ∷ back (answers (Arrived arrival.Queued)) (lined Uni 5 33 0) ∷ back (answers (Arrived arrival.Queued)) (lined Uni 5 33 0) ∷
+    back (answers (Framed 0 nobody 0 0)) (lent 57) ∷
+    back (answers (Framed 1 0 0 1)) (sound (routing (target.Unit 3) 2) 0x0090028a) ∷
+    back (answers (Framed 2 0 0 1)) (sound (routing (target.Unit 3) 2) 0x00900280) ∷
+    back (answers (Framed 3 0 nobody 1)) (sound (routing (target.Unit 3) 2) 0x00900280) ∷
+    back (answers Taken) (lined Uni 9 40 5) ∷ back (answers Taken) (lined Uni 9 40 2) ∷ back (answers Taken) (lined Uni 9 40 0) ∷ []
+
 -- those of which the bytes count
 pub record Exchange : Type 0 where
   pub script : List Event
@@ -304,7 +330,8 @@ pub record Exchange : Type 0 where
 
 abbrev pub exchanges : List Exchange
 exchanges =
-    record { script = update; gives = update-gives } ∷ record { script = test; gives = test-gives } ∷ record { script = last-first; gives = last-first-gives } ∷ []
+    record { script = update; gives = update-gives } ∷ record { script = test; gives = test-gives } ∷ record { script = last-first; gives = last-first-gives } ∷
+    record { script = marking; gives = marking-gives } ∷ []
 
 -- all of them
 abbrev pub cases : List Case

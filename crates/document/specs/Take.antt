@@ -36,7 +36,7 @@ congested Four u = atLimit u 1 || atLimit u 2
 abbrev pub marks : Unit → Bool
 marks u = u .limits .mark && congested (u .limits .mode) u
 
--- ".. the middle PT bit is set. A UNI unit writes GFC 0. The check is new."
+-- ".. the middle PT bit is set. A UNI unit writes GFC 0. The check is new."; 02: "Now only cells whose top PT bit is 0 are marked", which `outgoing` asks of the cell's own header
 abbrev pub handed : Unit → Cell → List ℕ
 handed u c = lineCell (outgoing (u .settings .link) (marks u) (c .header)) (c .payload)
 

@@ -2,8 +2,8 @@
 use Prim.Native.Nat.{ℕ, _+_, _%_, _≤_, _<_}
 use native.Mathlib.Omega.{arith}
 use mathlib.Core.Path.{_≡_, refl, sym, ap, subst, _∙_}
-use mathlib.Core.Logic.{_↔_, ⊎-elim}
-use mathlib.Core.Bool.{Bool, true, false, cond}
+use mathlib.Core.Logic.{_↔_, inl, inr, ⊎-elim}
+use mathlib.Core.Bool.{Bool, true, false, cond, false≢true}
 use mathlib.Core.List.{List, [], _∷_, _++_, append-nil, map, List·Memᴰ as In, List·Memᴰ·head}
 use lib.Dec.{eqb}
 use lib.ListN.{length, getD, drop, take as first, length-drop}
@@ -25,26 +25,28 @@ use Rattle.outlet.specs.declared.Mode.the-variants.{One, Four}
 use Rattle.outlet.proofs.Truth.{le-iff, and-iff, or-iff}
 use Rattle.outlet.specs.Hearing.{limit, TooWide}
 use Rattle.outlet.proofs.Fates.{limit-in}
-use Rattle.outlet.specs.Taking.{marked, outgoing}
+use Rattle.outlet.specs.Taking.{marked, marksCell, outgoing}
 use Rattle.outlet.specs.declared.Leaving as L
 use Rattle.outlet.specs.declared.Leaving.the-variants as leaves
-use Rattle.outlet.proofs.Headers.{outgoing-fields, vpi-kept, outgoing-lt}
+use Rattle.outlet.proofs.Headers.{unmarked, marks-cell-iff, outgoing-fields, vpi-kept, outgoing-lt}
 use Rattle.document.specs.Take.{lineCell}
 use Rattle.arbiter.specs.Arbitration.{nobody}
 use Rattle.line.specs.declared.Line.{Line}
 use Rattle.meaning.proofs.Grown.{decide}
 use Rattle.document.specs.Arrival.{headerOf}
 use Rattle.document.specs.Events.{Event, take-cell}
-use Rattle.document.specs.Shelf.{Cell, Unit, Shelf, numberOf, queueAt, held, unitAt, unitsOf, opened}
+use Rattle.document.specs.Shelf.{Cell, Routed, Unit, Shelf, numberOf, queueAt, held, unitAt, unitsOf, opened}
 use Rattle.document.specs.Frame.{movedUnit}
 use Rattle.document.specs.Take.{leaving, atLimit, congested, marks}
 use Rattle.document.proofs.Fixed.{given-stays}
 use Rattle.flow.specs.Parts.{From, from-inlet, from-control, from-loopback, Part, rests, arrives, hears, takes, hands, collects, sends, moves, partOf, oldestIn, takenBy}
 use Rattle.flow.specs.Order.{HandedOut, InTurn}
 use Rattle.flow.specs.Lost.{Different}
-use Rattle.flow.specs.Street.{declaredAt, CameFrom, by-bus, by-hand, by-processor}
-use Rattle.paper.specs.Outlets.{Crowded, Marks}
-use Rattle.flow.specs.Out.{reached, out, linkAt, heldAt, ReadsAs, RightlyTaken, TakenRight, LineDelivered, Origin, SentRight}
+use Rattle.flow.specs.Street.{declaredAt, Arrived, CameFrom, by-bus, by-hand, by-processor}
+use Rattle.paper.specs.Cells.{pt}
+use Rattle.paper.specs.Outlets.{Crowded, Marks, MarksCell}
+use Rattle.paper.specs.Words.{AllInRange}
+use Rattle.flow.specs.Out.{reached, out, linkAt, limitsAt, heldAt, ReadsAs, RightlyTaken, TakenRight, LineDelivered, Spared, PtKept, Origin, SentRight}
 use Rattle.flow.proofs.Kept.{given-at, number-at, as-many, still-different}
 use Rattle.flow.proofs.Streets.{right-street, control-waits, loopback-waits}
 use Rattle.flow.proofs.Follows.{payload-kept, line-followed}
@@ -108,7 +110,7 @@ payload-length lines es i q c (by-processor place b target class header inside h
 
 -- so its bytes read as it was
 reads-back : (link : Link) (mark : Bool) (c : Cell) (bytes : List ℕ) → (TooWide link (c .header) → ⊥) → length (c .payload) ≡ 48 → bytes ≡ lineCell (outgoing link mark (c .header)) (c .payload) →
-    let h = fields Nni (c .header) in ReadsAs link mark (h .vpi) (h .vci) h (c .payload) bytes
+    let h = fields Nni (c .header) in ReadsAs link (marksCell mark (c .header)) (h .vpi) (h .vci) h (c .payload) bytes
 unfolding lineCell
 reads-back link mark c bytes narrow full e =
     let h = fields Nni (c .header) in
@@ -117,7 +119,7 @@ reads-back link mark c bytes narrow full e =
     let kept : h .vpi % pathsOf link ≡ h .vpi = sym (ap (λ (x : H.Header). x .vpi) (outgoing-fields link mark (c .header))) ∙ vpi-kept link mark (c .header) narrow in
     record {
       whole = let l = ap length e in omega arith;
-      header = ap (fields link) four-is ∙ outgoing-fields link mark (c .header) ∙ (λ i. record { gfc = 0; vpi = kept i; vci = h .vci; pt = marked mark (h .pt); clp = h .clp });
+      header = ap (fields link) four-is ∙ outgoing-fields link mark (c .header) ∙ (λ i. record { gfc = 0; vpi = kept i; vci = h .vci; pt = marked (marksCell mark (c .header)) (h .pt); clp = h .clp });
       checked = ap (λ b. getD b 4 0) e ∙ ap check (sym four-is);
       payload-is = ap (drop 5) e;
     }
@@ -135,6 +137,10 @@ marks-when u = and-iff (λ e. e, λ e. e) (go (u .limits .mode) refl)
     go Four e =
         or-iff (at-limit-iff u 1 (u .limits .cbrlimit) (limit-in (u .limits) 1 Four e))
         (at-limit-iff u 2 (u .limits .vbrlimit) (limit-in (u .limits) 2 Four e))
+
+marks-cell : (u : Unit) (header : ℕ) → (marksCell (marks u) header ≡ true) ↔ MarksCell (u .limits) (held u) (pt header)
+unfolding fields
+marks-cell u header = marks-cell-iff (marks u) header (marks-when u)
 
 module _ (lines : List Line) (es : List Event) where
   -- there are as many units as the lines declare, with their numbers
@@ -160,8 +166,8 @@ module _ (lines : List Line) (es : List Event) where
         oldest = o .1;
         origin = origin;
         bytes = h .bytes;
-        mark = marks (unitAt d (h .place));
-        marks-iff = subst (λ g. (marks (unitAt d (h .place)) ≡ true) ↔ Marks (g .limits) (heldAt lines es (h .place))) (given-at (opened lines) d (given-stays (opened lines) es) (h .place)) (marks-when (unitAt d (h .place)));
+        mark = marksCell (marks (unitAt d (h .place))) (h .cell .header);
+        marks-iff = subst (λ g. (marksCell (marks (unitAt d (h .place))) (h .cell .header) ≡ true) ↔ MarksCell (g .limits) (heldAt lines es (h .place)) (pt (h .cell .header))) (given-at (opened lines) d (given-stays (opened lines) es) (h .place)) (marks-cell (unitAt d (h .place)) (h .cell .header));
         reads = reads-back (linkAt lines (h .place)) (marks (unitAt d (h .place))) (h .cell) (out lines es unit buffer) (not-wide lines es (h .place) (h .queue) (h .cell) origin) (payload-length lines es (h .place) (h .queue) (h .cell) origin)
             (h .bytes ∙ ap (λ g. lineCell (outgoing (g .settings .link) (marks (unitAt d (h .place))) (h .cell .header)) (h .cell .payload)) (given-at (opened lines) d (given-stays (opened lines) es) (h .place)));
       }
@@ -187,6 +193,30 @@ line-delivered lines good es unit buffer t place r a same =
             payload-is = t .reads .payload-is ∙ ap (λ c. c .payload) same ∙ f .payload;
           };
     }
+
+-- a PT that no unit marks, or that this one does not: the cell leaves with it
+module _ (lines : List Line) (es : List Event) (unit : ℕ) (buffer : List ℕ) (t : RightlyTaken lines es unit buffer) where
+  not-marked : Spared (limitsAt lines (t .place)) (pt (t .cell .header)) → t .mark ≡ false
+  not-marked s = decide (t .mark) (λ e. absurd (never (t .marks-iff .0 e) s)) (λ e. e)
+    where
+      never : MarksCell (limitsAt lines (t .place)) (heldAt lines es (t .place)) (pt (t .cell .header)) → Spared (limitsAt lines (t .place)) (pt (t .cell .header)) → ⊥
+      never m (inl high) = let low = m .1 in omega arith
+      never m (inr off) = false≢true (sym off ∙ m .0 .0)
+
+  held-kept : Spared (limitsAt lines (t .place)) (pt (t .cell .header)) → pt (four (out lines es unit buffer) 0) ≡ pt (t .cell .header)
+  unfolding fields
+  held-kept s = ap (λ (h : H.Header). h .pt) (t .reads .header) ∙ ap (λ m. marked m (pt (t .cell .header))) (not-marked s) ∙ unmarked (pt (t .cell .header))
+
+  arrived-kept : AllInRange lines → (place : ℕ) (r : Routed) (a : Arrived lines es place r) → t .cell ≡ r .cell →
+      Spared (limitsAt lines (t .place)) (pt (four (a .bytes) 0)) → pt (four (out lines es unit buffer) 0) ≡ pt (four (a .bytes) 0)
+  unfolding fields
+  arrived-kept good place r a same s =
+      let f = line-followed lines good (declaredAt lines place .settings) (a .bytes) r (a .way) in
+      let e : pt (t .cell .header) ≡ pt (four (a .bytes) 0) = ap (λ c. pt (c .header)) same ∙ ap (λ (h : H.Header). h .pt) (f .header) in
+      held-kept (subst (λ p. Spared (limitsAt lines (t .place)) p) (sym e) s) ∙ e
+
+pub pt-kept : PtKept
+pt-kept lines good es unit buffer t = record { held-so = held-kept lines es unit buffer t; arrived-so = arrived-kept lines es unit buffer t good }
 
 -- what a unit sends that the shelf has granted: it arrived, was handed in, or had moved before this frame
 module _ (lines : List Line) (once : Different (unitsOf lines)) (es : List Event) (granted-one : reached lines es .granted ≡ nobody → ⊥) (place : ℕ) (within : place < length (unitsOf lines)) (own : numberOf (unitAt (reached lines es) place) ≡ reached lines es .granted) where

@@ -1,8 +1,8 @@
 -- Promise: what the lent bytes hold after a take or a frame came down the right street. Assumes nothing.
-use Prim.Native.Nat.{ℕ, _<_}
+use Prim.Native.Nat.{ℕ, _≤_, _<_}
 use mathlib.Core.Path.{_≡_}
-use mathlib.Core.Logic.{_↔_}
-use mathlib.Core.Bool.{Bool, true}
+use mathlib.Core.Logic.{_↔_, _⊎_}
+use mathlib.Core.Bool.{Bool, true, false}
 use mathlib.Core.List.{List, [], _∷_}
 use mathlib.Core.Option.{some}
 use lib.ListN.{length, getD, drop}
@@ -18,7 +18,8 @@ use Rattle.outlet.specs.Taking.{marked}
 use Rattle.arbiter.specs.Arbitration.{nobody}
 use Rattle.line.specs.declared.Line.{Line}
 use Rattle.answer.specs.declared.Answer.the-variants.{Taken}
-use Rattle.paper.specs.Outlets.{Marks}
+use Rattle.paper.specs.Cells.{pt}
+use Rattle.paper.specs.Outlets.{MarksCell}
 use Rattle.promise.specs.Refusals.{Accepts}
 use Rattle.document.specs.Arrival.{headerOf}
 use Rattle.document.specs.Events.{Event, frame, take-cell, answers}
@@ -68,8 +69,9 @@ pub record RightlyTaken (lines : List Line) (es : List Event) (unit : ℕ) (buff
   pub oldest : queueAt (unitAt (reached lines es) place) queue ≡ cell ∷ others
   pub origin : CameFrom lines es place queue cell
   pub bytes : out lines es unit buffer ≡ handed (unitAt (reached lines es) place) cell
+  -- "If mark is 1 and, counted before it leaves, ..", and 02: "only cells whose top PT bit is 0 are marked", of the cell as it was held
   pub mark : Bool
-  pub marks-iff : (mark ≡ true) ↔ Marks (limitsAt lines place) (heldAt lines es place)
+  pub marks-iff : (mark ≡ true) ↔ MarksCell (limitsAt lines place) (heldAt lines es place) (pt (cell .header))
   pub reads :
       let h = fields Nni (cell .header) in
       ReadsAs (linkAt lines place) mark (h .vpi) (h .vci) h (cell .payload) (out lines es unit buffer)
@@ -91,6 +93,21 @@ abbrev pub LineDelivered : Type 0
 LineDelivered =
     (lines : List Line) → AllInRange lines → (es : List Event) (unit : ℕ) (buffer : List ℕ) (t : RightlyTaken lines es unit buffer) (place : ℕ) (r : Routed) (a : Arrived lines es place r) →
     t .cell ≡ r .cell → Delivered lines es unit buffer t place r a
+
+-- 02: "the mark belongs to user data": what is never marked, a PT of 4 or more, and at a unit with mark 0 every PT
+abbrev pub Spared : Limits → ℕ → Type 0
+Spared limits p = (4 ≤ p) ⊎ (limits .mark ≡ false)
+
+-- such a cell leaves with the PT with which it was held, and one that arrived at one of our units with the PT of its arrival, whatever the queues hold
+pub record KeepsPt (lines : List Line) (es : List Event) (unit : ℕ) (buffer : List ℕ) (t : RightlyTaken lines es unit buffer) : Type 0 where
+  pub held-so : Spared (limitsAt lines (t .place)) (pt (t .cell .header)) → pt (four (out lines es unit buffer) 0) ≡ pt (t .cell .header)
+  pub arrived-so :
+      (place : ℕ) (r : Routed) (a : Arrived lines es place r) → t .cell ≡ r .cell →
+      Spared (limitsAt lines (t .place)) (pt (four (a .bytes) 0)) → pt (four (out lines es unit buffer) 0) ≡ pt (four (a .bytes) 0)
+
+-- every cell handed out
+abbrev pub PtKept : Type 0
+PtKept = (lines : List Line) → AllInRange lines → (es : List Event) (unit : ℕ) (buffer : List ℕ) (t : RightlyTaken lines es unit buffer) → KeepsPt lines es unit buffer t
 
 -- a cell that a unit sends, from one of its three places: one that arrived there; one that its processor handed in; one that had moved there
 abbrev pub Origin : List Line → List Event → ℕ → From → Type 0

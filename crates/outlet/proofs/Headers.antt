@@ -1,6 +1,7 @@
 -- What the header of a cell that leaves keeps: VPI, VCI, CLP, and the PT but for the mark. Assumes nothing.
 use mathlib.Core.Path.{_≡_, refl, ap, _∙_}
 use mathlib.Core.Bool.{Bool, true, false}
+use mathlib.Core.Logic.{_↔_}
 use Prim.Native.Nat.{ℕ, _+_, _*_, _/_, _%_, _^_, _<_}
 use native.Mathlib.Nat.{zero-mul, mod-lt, mod-eq-of-lt}
 use native.Mathlib.Omega.{arith}
@@ -10,7 +11,8 @@ use Rattle.header.specs.declared.Link.{Link}
 use Rattle.header.specs.declared.Link.the-variants.{Uni, Nni}
 use Rattle.header.specs.declared.Header.{Header}
 use Rattle.outlet.specs.Hearing.{busVpi, TooWide}
-use Rattle.outlet.specs.Taking.{marked, outgoing}
+use Rattle.outlet.specs.Taking.{marked, marksCell, outgoing}
+use Rattle.outlet.proofs.Truth.{eq-iff, and-iff}
 
 -- a marked PT: its middle bit is set, the others stay; an unmarked one is as it was
 pub marked-middle : (pt : ℕ) → marked true pt / 2 % 2 ≡ 1
@@ -35,6 +37,12 @@ marked-lt : (mark : Bool) (pt : ℕ) → pt < 8 → marked mark pt < 8
 unfolding marked
 marked-lt true pt h = omega arith
 marked-lt false pt h = h
+
+-- a cell is marked where its outlet marks and the top bit of its own PT is 0
+pub marks-cell-iff : {P : Type 0} (mark : Bool) (header : ℕ) → (mark ≡ true) ↔ P → (marksCell mark header ≡ true) ↔ (P × (fields Nni header .pt / 4 ≡ 0))
+unfolding fields
+marks-cell-iff mark header iff =
+    and-iff iff (λ e. let t = eq-iff (header / 2 % 8 / 4 % 2) 0 .0 e in omega arith, λ z. eq-iff (header / 2 % 8 / 4 % 2) 0 .1 (omega arith))
 
 -- a VPI is written by its low bits
 low-vpi : (link : Link) (v : ℕ) → topOf link 0 v ≡ topOf link 0 (v % pathsOf link)
@@ -62,13 +70,14 @@ room link mark header =
     }
 
 -- the header that leaves, read as its link reads it
-pub outgoing-fields : (link : Link) (mark : Bool) (header : ℕ) → fields link (outgoing link mark header) ≡ leavesAs link mark (fields Nni header)
+pub outgoing-fields : (link : Link) (mark : Bool) (header : ℕ) → fields link (outgoing link mark header) ≡ leavesAs link (marksCell mark header) (fields Nni header)
 unfolding outgoing word
 outgoing-fields link mark header =
     let h = fields Nni header in
-    let e : outgoing link mark header ≡ word link (leavesAs link mark h) =
-    ap (λ t. t * 2 ^ 20 + h .vci * 2 ^ 4 + marked mark (h .pt) % 2 ^ 3 * 2 + h .clp % 2) (low-vpi link (h .vpi)) in
-    ap (fields link) e ∙ fields-word link (leavesAs link mark h) (room link mark header)
+    let m = marksCell mark header in
+    let e : outgoing link mark header ≡ word link (leavesAs link m h) =
+    ap (λ t. t * 2 ^ 20 + h .vci * 2 ^ 4 + marked m (h .pt) % 2 ^ 3 * 2 + h .clp % 2) (low-vpi link (h .vpi)) in
+    ap (fields link) e ∙ fields-word link (leavesAs link m h) (room link m header)
 
 -- so a VPI that the link has room for is kept
 pub vpi-kept : (link : Link) (mark : Bool) (header : ℕ) → (TooWide link header → ⊥) → fields link (outgoing link mark header) .vpi ≡ busVpi header

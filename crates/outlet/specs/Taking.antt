@@ -3,7 +3,7 @@ use Prim.Native.Nat.{ℕ, zero, suc, _+_, _*_, _/_, _%_, _≤_, _<_}
 use mathlib.Core.Path.{_≡_}
 use mathlib.Core.Logic.{_⊎_}
 use mathlib.Core.Bool.{Bool, true, false, _&&_, _||_, cond}
-use lib.Dec.{ltb}
+use lib.Dec.{ltb, eqb}
 use Rattle.header.specs.Fields.{fields, word}
 use Rattle.header.specs.declared.Link.{Link}
 use Rattle.header.specs.declared.Link.the-variants.{Nni}
@@ -39,7 +39,7 @@ abbrev pub congestedIn : Mode → Outlet → Bool
 congestedIn One outlet = atLimit outlet 0
 congestedIn Four outlet = atLimit outlet 1 || atLimit outlet 2
 
--- "If mark is 1 and, counted before it leaves, .. the middle PT bit is set": the outlet is the one that the cell leaves, whatever its class
+-- "If mark is 1 and, counted before it leaves, ..": whether an outlet marks the user cell that leaves it, whatever its class
 unfoldable pub marks : Outlet → Bool
 marks outlet = outlet .limits .mark && congestedIn (outlet .limits .mode) outlet
 
@@ -57,6 +57,13 @@ marked false pt = pt
 abbrev pub leavingAs : Bool → Header → Header
 leavingAs mark h = record { gfc = 0; vpi = h .vpi; vci = h .vci; pt = marked mark (h .pt); clp = h .clp }
 
+-- 02: "the mark belongs to user data .. only cells whose top PT bit is 0 are marked": whether a cell with this bus header is, at an outlet that marks; VCI and CLP have no part in it
+abbrev pub userData : ℕ → Bool
+userData pt = eqb (pt / 4 % 2) 0
+
+abbrev pub marksCell : Bool → ℕ → Bool
+marksCell mark header = mark && userData (fields Nni header .pt)
+
 -- the bus header, as the link writes it
 unfoldable pub outgoing : Link → Bool → ℕ → ℕ
-outgoing link mark header = word link (leavingAs mark (fields Nni header))
+outgoing link mark header = word link (leavingAs (marksCell mark header) (fields Nni header))

@@ -270,7 +270,7 @@ pub fn leaving_of(outlet: Outlet) -> Leaving
     Leaving::Empty
 }
 
-// Whether the cell that leaves next is marked.
+// Whether the outlet marks the user cell that leaves next.
 pub fn marks(outlet: Outlet) -> bool
     ensures { λ r. ⌜ r ≡ marksIt outlet ⌝ }
 {
@@ -289,16 +289,17 @@ fn marked(mark: bool, pt: u8) -> u8
     if mark { pt / 4 * 4 + 2 + pt % 2 } else { pt }
 }
 
-// The header as it leaves on the link, made of the bus header.
+// The header as it leaves on the link, made of the bus header: only a cell whose top PT bit is 0 is marked.
 pub fn outgoing(link: Link, mark: bool, header: u32) -> u32
     ensures { λ r. ⌜ r ≡ outgoingOf link mark header ⌝ }
 {
     let h = header::read(Link::Nni, header);
+    let user = h.pt / 4 % 2 == 0;
     let out = Header {
         gfc: 0,
         vpi: h.vpi,
         vci: h.vci,
-        pt: marked(mark, h.pt),
+        pt: marked(mark & user, h.pt),
         clp: h.clp,
     };
     header::write(link, out)

@@ -20,9 +20,10 @@ use Rattle.outlet.specs.Taking as queueing
 use Rattle.outlet.specs.declared.Leaving.{Leaving}
 use Rattle.outlet.specs.declared.Leaving.the-variants.{Queue, Empty}
 use Rattle.outlet.proofs.Leaves.{leaving-iff, marks-iff}
+use Rattle.outlet.proofs.Headers.{marks-cell-iff}
 use Rattle.shelf.specs.declared.Unit as U
 use Rattle.paper.specs.Cells.{four, vci, pt}
-use Rattle.paper.specs.Outlets.{queuesIn, queues, held, Marks, Crowded}
+use Rattle.paper.specs.Outlets.{queuesIn, queues, held, Marks, MarksCell, Crowded}
 use Rattle.paper.specs.Take.{Leaves, marked, onLink, HandedOut}
 use Rattle.outlet.proofs.Truth.{decide}
 use Rattle.paper.proofs.Cells.{four-is, four-bytes, check-iff}
@@ -75,6 +76,10 @@ mark-iff outlet = (
   λ m. marks-iff outlet .1 (m .0, crowded-iff (outlet .limits .mode) outlet .1 (m .1)),
 )
 
+marks-cell : (outlet : Outlet) (h : ℕ) → (queueing.marksCell (queueing.marks outlet) h ≡ true) ↔ MarksCell (outlet .limits) (held outlet) (pt h)
+unfolding fields
+marks-cell outlet h = marks-cell-iff (queueing.marks outlet) h (mark-iff outlet)
+
 -- C. its header on the link
 out-pt : (mark : Bool) (p : ℕ) → p < 8 → queueing.marked mark p < 8
 unfolding queueing.marked
@@ -94,10 +99,10 @@ three-bits mark h = mod-eq-of-lt (out-pt mark (pt h) (mod-lt (h / 2) (omega arit
 one-bit : (h : ℕ) → h % 2 % 2 ≡ h % 2
 one-bit h = omega arith
 
-outgoing-is : (link : Link) (mark : Bool) (h : ℕ) → queueing.outgoing link mark h ≡ onLink link h (queueing.marked mark (pt h))
+outgoing-is : (link : Link) (mark : Bool) (h : ℕ) → queueing.outgoing link mark h ≡ onLink link h (queueing.marked (queueing.marksCell mark h) (pt h))
 unfolding queueing.outgoing word topOf fields
-outgoing-is Uni mark h = λ i. eight (h / 1048576 % 4096) i * 1048576 + vci h * 16 + three-bits mark h i * 2 + one-bit h i
-outgoing-is Nni mark h = λ i. twelve (h / 1048576) i * 1048576 + vci h * 16 + three-bits mark h i * 2 + one-bit h i
+outgoing-is Uni mark h = λ i. eight (h / 1048576 % 4096) i * 1048576 + vci h * 16 + three-bits (queueing.marksCell mark h) h i * 2 + one-bit h i
+outgoing-is Nni mark h = λ i. twelve (h / 1048576) i * 1048576 + vci h * 16 + three-bits (queueing.marksCell mark h) h i * 2 + one-bit h i
 
 -- D. its bytes
 marked-is : (p : ℕ) → queueing.marked true p ≡ marked p
@@ -113,12 +118,13 @@ pub handed-out : (u : U.Unit) (cell : List ℕ) →
 handed-out u cell =
     let h = four cell 4 in
     let b = queueing.marks (u .outlet) in
-    let out = onLink (u .settings .link) h (queueing.marked b (pt h)) in
+    let m = queueing.marksCell b h in
+    let out = onLink (u .settings .link) h (queueing.marked m (pt h)) in
     let is : queueing.outgoing (u .settings .link) b (octets.four cell 4) ≡ out = ap (queueing.outgoing (u .settings .link) b) (four-is cell 4) ∙ outgoing-is (u .settings .link) b h in
     record {
-      p = queueing.marked b (pt h);
-      mark = λ m. ap (λ x. queueing.marked x (pt h)) (mark-iff (u .outlet) .1 m) ∙ marked-is (pt h);
-      no-mark = λ n. decide b (λ t. absurd (n (mark-iff (u .outlet) .0 t))) (λ f. ap (λ x. queueing.marked x (pt h)) f ∙ unmarked-is (pt h));
+      p = queueing.marked m (pt h);
+      mark = λ t. ap (λ x. queueing.marked x (pt h)) (marks-cell (u .outlet) h .1 t) ∙ marked-is (pt h);
+      no-mark = λ n. decide m (λ t. absurd (n (marks-cell (u .outlet) h .0 t))) (λ f. ap (λ x. queueing.marked x (pt h)) f ∙ unmarked-is (pt h));
       check = header·.check out;
       right = check-iff out (header·.check out) .0 refl;
       are = (λ i. octets.be4 (is i) ++ (header·.check (is i) ∷ octets.part cell 8 48)) ∙ ap (λ x. x ++ (header·.check out ∷ octets.part cell 8 48)) (four-bytes out);

@@ -1,5 +1,5 @@
 -- The queues of an outlet, the places of cells in the store, in 01's own numbers. Assumes nothing.
-use Prim.Native.Nat.{ℕ, _+_, _-_, _*_, _≤_}
+use Prim.Native.Nat.{ℕ, _+_, _-_, _*_, _/_, _≤_}
 use mathlib.Core.Path.{_≡_}
 use mathlib.Core.Logic.{_⊎_}
 use mathlib.Core.Bool.{cond, true}
@@ -72,6 +72,10 @@ Crowded Four limits held = (limits .cbrlimit ≤ held 1) ⊎ (limits .vbrlimit �
 -- "If mark is 1 and, counted before it leaves, ..": `held` says how many cells each queue holds
 abbrev pub Marks : Limits → (ℕ → ℕ) → Type 0
 Marks limits held = (limits .mark ≡ true) × Crowded (limits .mode) limits held
+
+-- 02: "Now only cells whose top PT bit is 0 are marked": whether a cell with this PT is, of whose three bits the top one is `p / 4`
+abbrev pub MarksCell : Limits → (ℕ → ℕ) → ℕ → Type 0
+MarksCell limits held p = Marks limits held × (p / 4 ≡ 0)
 
 -- The store: "8,192 bytes a declared unit", in `unit` line order; a cell is its 56 bytes before parity, in a slot of 56. The outlet has slots 0 to 122, the inlet 123 to 126,
 -- its control cell 127, its loopback cell 128, the control outlet 129 to 132, the loopback outlet 133

@@ -9,7 +9,7 @@ use Rattle.header.specs.declared.Link.the-variants.{Uni, Nni}
 use Rattle.outlet.specs.declared.Outlet.{Outlet}
 use Rattle.shelf.specs.declared.Unit as U
 use Rattle.paper.specs.Cells.{four, fourBytes, vpi, vci, pt, clp, header, HeaderCheck}
-use Rattle.paper.specs.Outlets.{queues, held, Marks}
+use Rattle.paper.specs.Outlets.{queues, held, MarksCell}
 
 -- "Take gives the oldest cell (mode `one`) or the oldest cell of the lowest class held (mode `four`), or `empty`": of the queues that this mode has, the one that it leaves
 abbrev pub Leaves : Outlet → Option ℕ → Type 0
@@ -26,11 +26,11 @@ onLink Uni h p = header (vpi Nni h % 256) (vci h) p (clp h)
 onLink Nni h p = header (vpi Nni h) (vci h) p (clp h)
 
 -- "If mark is 1 and, counted before it leaves, CBR or VBR is at its limit or above (mode `one`: the queue at the VBR limit or above), the middle PT bit is set. A UNI unit writes GFC 0. The
--- check is new."
+-- check is new."; 02: "Now only cells whose top PT bit is 0 are marked": the PT is that of the cell as it is held
 pub record HandedOut (u : U.Unit) (cell bytes : List ℕ) : Type 0 where
   pub p : ℕ
-  pub mark : Marks (u .outlet .limits) (held (u .outlet)) → p ≡ marked (pt (four cell 4))
-  pub no-mark : (Marks (u .outlet .limits) (held (u .outlet)) → ⊥) → p ≡ pt (four cell 4)
+  pub mark : MarksCell (u .outlet .limits) (held (u .outlet)) (pt (four cell 4)) → p ≡ marked (pt (four cell 4))
+  pub no-mark : (MarksCell (u .outlet .limits) (held (u .outlet)) (pt (four cell 4)) → ⊥) → p ≡ pt (four cell 4)
   pub check : ℕ
   pub right : HeaderCheck (onLink (u .settings .link) (four cell 4) p) check
   pub are : bytes ≡ fourBytes (onLink (u .settings .link) (four cell 4) p) ++ (check ∷ take 48 (drop 8 cell))

@@ -198,6 +198,7 @@ module _ (memory store : List ℕ) (rows : List C.Counters) (m : length memory �
         exchange = gives _ _ (ap (λ l. getD l 0 []) exchanges-hold);
         return = gives _ _ (ap (λ l. getD l 1 []) exchanges-hold);
         in-turn = gives _ _ (ap (λ l. getD l 2 []) exchanges-hold);
+        mark = gives _ _ (ap (λ l. getD l 3 []) exchanges-hold);
         find-busy = says _ _ (ap (λ l. getD l 19 []) cases-hold);
         crowd = says _ _ (ap (λ l. getD l 20 []) cases-hold);
         judge = says _ _ (ap (λ l. getD l 21 []) cases-hold);

@@ -14,7 +14,7 @@ use Rattle.answer.specs.declared.Answer.the-variants.{Refused}
 use Rattle.promise.specs.Starred.{path}
 use Rattle.document.specs.Events.{Event, Said, Back, answers}
 use Rattle.document.specs.Examples.{events, printed}
-use Rattle.document.specs.Cases.{arrivals, arrivals-say, refusals, refusals-say, frames, frames-say, heard, heard-say, discards, discards-say, abr, abr-say, update, update-gives, test, test-gives, last-first, last-first-gives, busy, busy-says, crowded, crowded-says, kinds, kinds-say, standing, standing-says}
+use Rattle.document.specs.Cases.{arrivals, arrivals-say, refusals, refusals-say, frames, frames-say, heard, heard-say, discards, discards-say, abr, abr-say, update, update-gives, test, test-gives, last-first, last-first-gives, marking, marking-gives, busy, busy-says, crowded, crowded-says, kinds, kinds-say, standing, standing-says}
 use Rattle.running.specs.Lent.{Lent, does, loadedIn}
 use Rattle.paper.specs.Answers.{IsOk, IsRefused}
 use Rattle.running.specs.Tables.{answerTo}
@@ -67,7 +67,8 @@ saidTo memory store rows es = map (λ b. b .said) (givenTo memory store rows es)
 
 -- every fate of an arrival (`arrivals`), every fate of a copy (`heard`, `discards`), an ABR cell taken (`abr`), Unit and Length (`refusals`), sent, heard and unheard cells (`frames`); of 02's
 -- control and loopback cells, byte for byte, one handed in, sent, heard and collected (`update`), one on its way there and back (`test`), each in its turn (`last-first`), Busy (`busy`),
--- `full` at both outlets (`crowded`), `damaged` (`kinds`) and one that waits for its place (`standing`): whatever a memory for its 342 records, a store for its three units and three rows held before
+-- `full` at both outlets (`crowded`), `damaged` (`kinds`) and one that waits for its place (`standing`); an OAM cell that a busy unit does not mark, before a user cell that it does (`marking`):
+-- whatever a memory for its 342 records, a store for its three units and three rows held before
 pub record Runs (memory store : List ℕ) (rows : List C.Counters) : Type 0 where
   pub load : IsOk (answerTo Wide text memory (length store) (length rows)) 2736
   pub arrive : saidTo memory store rows arrivals ≡ arrivals-say
@@ -79,6 +80,7 @@ pub record Runs (memory store : List ℕ) (rows : List C.Counters) : Type 0 wher
   pub exchange : givenTo memory store rows update ≡ update-gives
   pub return : givenTo memory store rows test ≡ test-gives
   pub in-turn : givenTo memory store rows last-first ≡ last-first-gives
+  pub mark : givenTo memory store rows marking ≡ marking-gives
   pub find-busy : saidTo memory store rows busy ≡ busy-says
   pub crowd : saidTo memory store rows crowded ≡ crowded-says
   pub judge : saidTo memory store rows kinds ≡ kinds-say

@@ -1,5 +1,5 @@
-//! Fixed scripts: document 01's values on each side of a line, figures 15 and 16 of document 004, every byte of the
-//! state, and in a file of their own those of request W1.
+//! Fixed scripts: document 01's values on each side of a line, figures 15 and 16 of document 004, every PT at an outlet
+//! at its limit and below (request W3), every byte of the state, and in a file of their own those of request W1.
 
 use super::fixed_control;
 use super::script::{cell, frame, poke_of, to_unit, Script};
@@ -18,9 +18,9 @@ vc 0 5 33 u3 2 9 40
 ";
 
 #[rustfmt::skip]
-const SCRIPTS: [fn(&mut Script); 17] = [
+const SCRIPTS: [fn(&mut Script); 18] = [
     fresh_start, listing, inlet, figure_15, figure_16, outgoing_vpi, states, every_byte, every_value, whole_states,
-    units_shown, pokes, mode_one, far_records, whole_memory, long_texts, long_lines,
+    units_shown, pokes, mode_one, far_records, whole_memory, long_texts, long_lines, payload_types,
 ];
 
 /// Place 0 is unit 4 in mode one, place 1 unit 9 in mode four.
@@ -371,6 +371,22 @@ fn figure_16(script: &mut Script) {
     queue(script, 2, &[7, 8]);
     (0..6).for_each(|_| script.say("take 3 53"));
     script.show_all();
+}
+
+/// Each PT and CLP in each class, in both modes, with mark 1 and 0: alone, then at an outlet at its limit, before a user
+/// cell that is marked since the maintenance cell behind it counts.
+fn payload_types(script: &mut Script) {
+    for settings in ["one 0 0 2 1", "four 40 2 2 1", "one 0 0 2 0", "four 40 2 2 0"] {
+        stage(script, &format!("bus 16\nunit 3 uni 0 1 {settings}\n"));
+        for (class, tail) in (0..4).flat_map(|class| (0..16).map(move |tail| (class, tail))) {
+            let cell = |class, tail| frame(to_unit(3, class), [0, 0], plain(1, 1, tail), &[tail; 48]);
+            script.hear(3, &cell(class, tail));
+            script.say("take 3 53");
+            [cell(class, tail), cell(2, 0b0000), cell(2, 0b1000)].iter().for_each(|bytes| script.hear(3, bytes));
+            (0..4).for_each(|_| script.say("take 3 53"));
+        }
+        script.show_all();
+    }
 }
 
 /// Records up to byte 262,144 and not one more; later bytes are untouched.

@@ -4,6 +4,7 @@ pub mod dice;
 pub mod episodes;
 pub mod fixed;
 mod fixed_control;
+mod leaving;
 pub mod program;
 pub mod script;
 pub mod settings;
@@ -177,10 +178,12 @@ impl Runs {
         let lines = episode.lines();
         let mut answers = Vec::new();
         for line in &lines {
+            let found = self.judge.finds(line);
             let (judged, judge) = (self.judged.answer(line), self.judge.answer(line));
             match (judged, judge) {
                 (Some(judged), Some(judge)) if judged == judge => {
                     tally.add(line, &judged);
+                    found.iter().for_each(|kind| tally.bump(kind));
                     answers.push(judged);
                 }
                 (judged, judge) => return Some(Fault::Answers { line: line.clone(), judged, judge }),

@@ -4,6 +4,7 @@ use std::io::{self, BufRead, BufReader, BufWriter, Read, Write};
 use std::process::{Child, ChildStdout, Command, Stdio};
 use std::thread::{spawn, JoinHandle};
 
+use super::leaving;
 use crate::console::Console;
 
 /// Writes the lines of a script, each with its newline.
@@ -19,6 +20,11 @@ pub trait Program: Sync {
 pub trait Run {
     /// The answer to the next line, which is given again; None if the program has ended.
     fn answer(&mut self, line: &[u8]) -> Option<Vec<u8>>;
+
+    /// What a line that is not yet answered will find; None where there is nothing to tell.
+    fn finds(&self, _line: &[u8]) -> Option<String> {
+        None
+    }
 
     /// After the last line: whether the program says no more and ends well.
     fn ends_well(&mut self) -> bool;
@@ -40,6 +46,10 @@ impl Run for OwnRun {
         let mut answer = Vec::new();
         self.0.answer(line, &mut answer);
         Some(answer)
+    }
+
+    fn finds(&self, line: &[u8]) -> Option<String> {
+        leaving::kind_of(&self.0, line)
     }
 
     fn ends_well(&mut self) -> bool {

@@ -2,6 +2,7 @@
 
 use std::collections::BTreeMap;
 
+use super::leaving;
 use super::script::poke_of;
 use super::settings::{name_of, JUDGED, NOT_JUDGED};
 
@@ -236,7 +237,8 @@ impl Tally {
         let counters = COUNTERS.iter().map(|name| format!("counter {name}"));
         let refused = JUDGED.iter().map(|name| format!("poked {name} refused"));
         let borne = JUDGED.iter().chain(&NOT_JUDGED).map(|name| format!("poked {name} borne"));
-        wanted.chain(counters).chain(refused).chain(borne).filter(|kind| !self.kinds.contains_key(kind)).collect()
+        let wanted = wanted.chain(counters).chain(refused).chain(borne).chain(leaving::kinds());
+        wanted.filter(|kind| !self.kinds.contains_key(kind)).collect()
     }
 
     /// Every kind with how often it occurred, one a line.

@@ -75,8 +75,8 @@ impl Traffic<'_> {
         let unit = self.unit().number;
         let class = self.dice.roll(4) as u8;
         let clp = self.dice.pick(&[0, 20, 50]);
-        for _ in 0..events {
-            let tail = u8::from(self.dice.chance(clp));
+        for number in 0..events {
+            let tail = (number % 8 << 1) as u8 | u8::from(self.dice.chance(clp));
             let header = Header { vpi: self.dice.byte().into(), vci: 5, tail };
             let routing = Routing { target: Target::Unit(unit), class }.encode();
             let bytes = frame(routing, [0, 0], header, &self.payload());

@@ -19,10 +19,10 @@ const BUFFER_BYTE: u8 = 0xEE;
 
 /// A shelf with all that is lent to it.
 pub struct Console {
-    shelf: Shelf,
+    pub shelf: Shelf,
     memory: Vec<u8>,
-    store: Vec<u8>,
-    rows: Vec<Counters>,
+    pub store: Vec<u8>,
+    pub rows: Vec<Counters>,
 }
 
 impl Default for Console {
