@@ -28,7 +28,7 @@ use Rattle.fates.proofs.Going.{is-due, is-renewed, beyond, waits-moved}
 use Rattle.waiting.specs.Waiting.{isFrame, atThree}
 
 -- only a frame changes requests and last units granted, and it says who is granted
-arbiter-after : (d : D.Shelf) (e : Event) → happensTo d e .shelf .arbiter ≡ cond (isFrame e) (arbiterOf (granted (d .arbiter .last) (asksOf d))) (d .arbiter)
+pub arbiter-after : (d : D.Shelf) (e : Event) → happensTo d e .shelf .arbiter ≡ cond (isFrame e) (arbiterOf (granted (d .arbiter .last) (asksOf d))) (d .arbiter)
 unfolding happensTo isFrame arrived handedIn
 arbiter-after d (arrive unit c) = at-unit (λ s. s .shelf .arbiter ≡ d .arbiter) (D.findIn (d .units) unit) (eqb (length c) 53) _ _ (λ place. refl) (λ number. refl)
 arbiter-after d (frame buffer) = decide (eqb (length buffer) 57) (λ t. rw t) (λ t. rw t)
@@ -41,7 +41,7 @@ arbiter-after d (hand unit c) =
 arbiter-after d (collect unit buffer) =
     at-unit (λ s. s .shelf .arbiter ≡ d .arbiter) (D.findIn (d .units) unit) (eqb (length buffer) 56) _ _ (λ place. collected (D.unitAt d place .side .controlout) d place buffer) (λ number. refl)
 
-frame-says : (d : D.Shelf) (e : Event) → isFrame e ≡ true → happensTo d e .said ≡ answers (framedAnswer d (bytesOf e))
+pub frame-says : (d : D.Shelf) (e : Event) → isFrame e ≡ true → happensTo d e .said ≡ answers (framedAnswer d (bytesOf e))
 unfolding happensTo isFrame bytesOf
 frame-says d (frame buffer) t = rw t
 frame-says d (arrive unit c) t = let z : _≡_ {A = ℕ} 0 1 = cc in absurd (omega arith)

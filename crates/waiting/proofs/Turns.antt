@@ -36,6 +36,12 @@ in-turn last asks three unit low ask = go (turns last asks three)
           stand = λ n. t .stand unit n ∙ ask;
         }
 
+-- no more meet a test than there are
+pub few-among : (test : ℕ → Bool) (l : List ℕ) → length (among test l) ≤ length l
+unfolding among
+few-among test [] = omega arith
+few-among test (n ∷ l) = let rest = few-among test l in decide (test n) (λ t. rw t (omega arith)) (λ t. rw t (omega arith))
+
 -- of those that meet one test fewer meet another, if whoever meets that one meets it, and one does not
 module _ (p q : ℕ → Bool) (less : (n : ℕ) → p n ≡ true → q n ≡ true) where
   as-few : (l : List ℕ) → length (among p l) ≤ length (among q l)
