@@ -86,7 +86,7 @@ abbrev pub WaitsItsTurn : Type 0
 WaitsItsTurn = Within (λ told d unit. length (upTo (lastAt (d .arbiter .last) 3) unit (atThree told)))
 
 -- a table and events with which a unit that asks at a priority is not granted in so many frames
-pub record Waits (card : Card) (priority n : ℕ) : Type 0 where
+pub record Ungranted (card : Card) (priority n : ℕ) : Type 0 where
   pub text : List ℕ
   pub memory : List ℕ
   pub store : List ℕ
@@ -104,7 +104,7 @@ pub record Waits (card : Card) (priority n : ℕ) : Type 0 where
 
 -- "on a 16 bus, that no such number holds for priority 1 beside a busy priority 3": for every n, and beside one unit of priority 3
 pub record Starves (card : Card) (n : ℕ) : Type 0 where
-  pub low : Waits card 1 n
+  pub low : Ungranted card 1 n
   pub bus : busOf (low .told) ≡ 16
   pub one : length (atThree (low .told)) ≡ 1
 
@@ -113,7 +113,7 @@ NoBoundBelow = (card : Card) (n : ℕ) → Starves card n
 
 -- and no lower number holds for priority 3: of three units one waits for the third frame
 pub record Attains (card : Card) : Type 0 where
-  pub last : Waits card 3 2
+  pub last : Ungranted card 3 2
   pub three : length (atThree (last .told)) ≡ 3
 
 abbrev pub BoundAttained : Type 0
