@@ -1,17 +1,16 @@
 -- A unit that asks at 3 is granted within so many frames: over every sequence of events, and on our shelf. Assumes nothing.
-use Prim.Native.Nat.{ℕ, zero, suc, _+_, _<_, _≤_}
+use Prim.Native.Nat.{ℕ, suc, _+_, _<_, _≤_}
 use native.Mathlib.Omega.{arith}
 use mathlib.Core.Path.{_≡_, refl, sym, ap, subst, _∙_}
-use mathlib.Core.Logic.{_≢_}
-use mathlib.Core.Bool.{Bool, true, false, cond, false≢true}
-use mathlib.Core.List.{List, [], _∷_, _++_, map, List·Memᴰ as In}
-use lib.Dec.{eqb, leb}
-use lib.ListN.{length, getD, take, drop, replicate}
-use borrow.Author.Tests.{eqb-true, eqb-false, eq-eqb, le-leb}
+use mathlib.Core.Bool.{true, false, cond}
+use mathlib.Core.List.{List, [], _∷_, _++_}
+use lib.Dec.{leb}
+use lib.ListN.{length, getD, drop}
+use borrow.Author.Tests.{eq-eqb}
 use Rattle.outlet.proofs.Truth.{decide}
 use Rattle.card.specs.declared.Card.{Card}
 use Rattle.arbiter.specs.Arbitration.{arbiterOf, granted}
-use Rattle.line.specs.declared.Line.{Line}
+use Rattle.arbiter.specs.declared.Grant.{Grant}
 use Rattle.answer.specs.declared.Answer.the-variants.{Framed}
 use Rattle.paper.specs.Grants.{turn, lastAt}
 use Rattle.document.specs.Events.{Event, frame, bytesOf, answers, Back}
@@ -19,17 +18,16 @@ use Rattle.document.specs.Shelf.{Shelf, opened}
 use Rattle.document.specs.Frame.{moved, sentIn}
 use Rattle.document.specs.Steps as document
 use Rattle.document.proofs.Fixed.{given-stays}
-use Rattle.flow.specs.Parts.{among}
 use Rattle.running.specs.Lent.{Lent, does, runIn, loadedIn}
 use Rattle.refining.specs.Refines.{gives}
 use Rattle.refining.proofs.Refined.{refines}
-use Rattle.fates.specs.Frames.{asksOf, grantedNow}
+use Rattle.fates.specs.Frames.{asksOf}
 use Rattle.fates.proofs.Standing.{Stands}
 use Rattle.fates.proofs.Loads.{from-load}
 use Rattle.fates.proofs.Going.{frames-go-on}
-use Rattle.waiting.specs.Waiting.{isFrame, framesIn, saidAt, GrantedBy, atThree, upTo, Within, WaitsAtMost, WaitsItsTurn}
-use Rattle.waiting.proofs.Turns.{in-turn, few-among, fewer, nearer}
-use Rattle.waiting.proofs.Frames.{arbiter-after, frame-says, Holds, holds}
+use Rattle.waiting.specs.Waiting.{isFrame, framesIn, GrantedBy, atThree, upTo, Holds, WaitsAtMost, WaitsItsTurn}
+use Rattle.waiting.proofs.Turns.{few-among, Turned, its-own, asks-on, nearer, in-turn}
+use Rattle.waiting.proofs.Frames.{arbiter-after, frame-says, holds}
 
 -- A. of any units that may ask at 3
 module _ (may : List ℕ) where
@@ -37,26 +35,18 @@ module _ (may : List ℕ) where
   abbrev ahead : Shelf → ℕ → ℕ
   ahead d unit = length (upTo (lastAt (d .arbiter .last) 3) unit may)
 
-  -- what comes of a frame: the unit is granted, or it asks on and is nearer
-  data Turned (d : Shelf) (unit : ℕ) (after : Shelf) : Type 0 where
-    its-own : grantedNow d ≡ unit → 0 < ahead d unit → Turned d unit after
-    asks-on : getD (after .arbiter .asks) unit 0 ≡ 3 → ahead after unit < ahead d unit → Turned d unit after
+  -- the arbiter after a frame, and after another event
+  abbrev grant : Shelf → Grant
+  grant d = granted (d .arbiter .last) (asksOf d)
 
-  turned : (d : Shelf) → Holds may d → (e : Event) → isFrame e ≡ true → (unit : ℕ) → getD (asksOf d) unit 0 ≡ 3 → Turned d unit (document.happensTo d e .shelf)
-  turned d h e t unit ask =
-      let last = lastAt (d .arbiter .last) 3 in
-      let v = grantedNow d in
-      let low = h .few unit ask in
-      let i = in-turn (d .arbiter .last) (asksOf d) (h .three) unit low ask in
-      let there = h .one (i .highest) in
-      let is = arbiter-after d e ∙ ap (λ b. cond b (arbiterOf (granted (d .arbiter .last) (asksOf d))) (d .arbiter)) t in
-      decide (eqb v unit)
-      (λ q. its-own (eqb-true v unit q) (omega (arith, fewer (λ n. false) (λ n. leb (turn last n) (turn last unit)) (λ n z. absurd (false≢true z)) v may there refl (le-leb (turn last v) (turn last unit) (i .first)))))
-      (λ q.
-      let other = eqb-false v unit q in
-      asks-on (ap (λ a. getD (a .asks) unit 0) is ∙ i .stand (λ z. other (sym z)))
-      (subst (λ l. length (upTo l unit may) < ahead d unit) (sym (ap (λ a. lastAt (a .last) 3) is ∙ i .own))
-      (nearer last v unit (h .few v (i .highest)) low other (i .first) may there)))
+  after-frame : (d : Shelf) (e : Event) → isFrame e ≡ true → document.happensTo d e .shelf .arbiter ≡ arbiterOf (grant d)
+  after-frame d e t = arbiter-after d e ∙ ap (λ b. cond b (arbiterOf (grant d)) (d .arbiter)) t
+
+  after-other : (d : Shelf) (e : Event) → isFrame e ≡ false → document.happensTo d e .shelf .arbiter ≡ d .arbiter
+  after-other d e t = arbiter-after d e ∙ ap (λ b. cond b (arbiterOf (grant d)) (d .arbiter)) t
+
+  turned : (d : Shelf) → Holds may d → (unit : ℕ) → getD (asksOf d) unit 0 ≡ 3 → Turned may (d .arbiter .last) unit (grant d)
+  turned d h unit ask = nearer may (d .arbiter .last) (asksOf d) unit (grant d) (h .few) (h .one) ask (in-turn (d .arbiter .last) (asksOf d) (h .three) unit (h .few unit ask) ask)
 
   -- one more event before the grant
   later : (e : Event) (b : Back) (unit n m : ℕ) (es : List Event) (back : List Back) → cond (isFrame e) 1 0 + m ≤ n → GrantedBy unit m es back → GrantedBy unit n (e ∷ es) (b ∷ back)
@@ -70,9 +60,12 @@ module _ (may : List ℕ) where
       GrantedBy unit (ahead (document.happensTo d e .shelf) unit) es (document.gives (document.happensTo d e .shelf) es)) →
       GrantedBy unit (ahead d unit) (e ∷ es) (document.gives d (e ∷ es))
   unfolding document.gives framesIn
-  from-frame d h e t unit ask es rest = go (turned d h e t unit ask)
+  from-frame d h e t unit ask es rest = go (turned d h unit ask)
     where
-      go : Turned d unit (document.happensTo d e .shelf) → GrantedBy unit (ahead d unit) (e ∷ es) (document.gives d (e ∷ es))
+      d′ : Shelf
+      d′ = document.happensTo d e .shelf
+
+      go : Turned may (d .arbiter .last) unit (grant d) → GrantedBy unit (ahead d unit) (e ∷ es) (document.gives d (e ∷ es))
       go (its-own own some) =
           record {
             place = 0;
@@ -84,13 +77,14 @@ module _ (may : List ℕ) where
           }
       go (asks-on on near) =
           let one = ap {B = ℕ} (λ b. cond b 1 0) t in
-          later e _ unit (ahead d unit) (ahead (document.happensTo d e .shelf) unit) es (document.gives (document.happensTo d e .shelf) es) (omega arith) (rest on near)
+          let is = after-frame d e t in
+          let same = ap (λ a. length (upTo (lastAt (a .last) 3) unit may)) is in
+          later e _ unit (ahead d unit) (ahead d′ unit) es (document.gives d′ es) (omega arith) (rest (ap (λ a. getD (a .asks) unit 0) is ∙ on) (omega arith))
 
   some-ahead : (d : Shelf) → Holds may d → (unit : ℕ) → getD (asksOf d) unit 0 ≡ 3 → 0 < ahead d unit
-  unfolding isFrame
-  some-ahead d h unit ask = go (turned d h (frame (replicate 57 0)) refl unit ask)
+  some-ahead d h unit ask = go (turned d h unit ask)
     where
-      go : Turned d unit (document.happensTo d (frame (replicate 57 0)) .shelf) → 0 < ahead d unit
+      go : Turned may (d .arbiter .last) unit (grant d) → 0 < ahead d unit
       go (its-own own some) = some
       go (asks-on on near) = omega arith
 
@@ -109,7 +103,7 @@ module _ (may : List ℕ) where
       from-frame d (ever []) e t unit (ever [] .stand unit ask) es (λ on near. granted-within d′ (λ fs. ever (e ∷ fs)) unit on es (omega arith)))
       (λ t.
       let none = ap {B = ℕ} (λ b. cond b 1 0) t in
-      let is : d′ .arbiter ≡ d .arbiter = arbiter-after d e ∙ ap (λ b. cond b (arbiterOf (granted (d .arbiter .last) (asksOf d))) (d .arbiter)) t in
+      let is = after-other d e t in
       let same = ap (λ a. length (upTo (lastAt (a .last) 3) unit may)) is in
       later e _ unit (ahead d unit) (ahead d′ unit) es (document.gives d′ es) (omega arith)
       (granted-within d′ (λ fs. ever (e ∷ fs)) unit (ap (λ a. getD (a .asks) unit 0) is ∙ ask) es (omega arith)))

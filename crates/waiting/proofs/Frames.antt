@@ -1,22 +1,21 @@
 -- Requests at 3 on the document's shelf: who makes them, and that they stand until they are granted. Assumes nothing.
-use Prim.Native.Nat.{ℕ, zero, suc, _+_, _<_, _≤_}
+use Prim.Native.Nat.{ℕ, zero, suc, _<_, _≤_}
 use native.Mathlib.Omega.{arith}
 use mathlib.Core.Path.{_≡_, refl, sym, ap, subst, _∙_}
-use mathlib.Core.Logic.{_≢_}
-use mathlib.Core.Bool.{Bool, true, false, cond}
+use mathlib.Core.Bool.{true, cond}
 use mathlib.Core.List.{List, [], _∷_, map, List·Memᴰ as In, List·Memᴰ·head, List·Memᴰ·tail, Memᴰ·cast}
 use lib.Dec.{eqb}
 use lib.ListN.{length, getD}
 use borrow.Author.Tests.{eq-eqb}
 use Rattle.outlet.proofs.Truth.{decide}
 use Rattle.store.proofs.Slots.{by-lt}
-use Rattle.arbiter.specs.Arbitration.{besides, due, granted, arbiterOf, Asks}
+use Rattle.arbiter.specs.Arbitration.{besides, due, granted, arbiterOf}
 use Rattle.line.specs.declared.Line.{Line}
 use Rattle.document.specs.Events.{Event, arrive, frame, hear, take-cell, count, hand, collect, bytesOf, answers}
 use Rattle.document.specs.Shelf as D
 use Rattle.document.specs.Arrival.{arrived}
 use Rattle.document.specs.Hearing.{handedIn}
-use Rattle.document.specs.Frame.{moved, movedUnit, framedAnswer}
+use Rattle.document.specs.Frame.{movedUnit, framedAnswer}
 use Rattle.document.specs.Take.{leaving}
 use Rattle.document.specs.Steps.{happensTo}
 use Rattle.document.proofs.Fixed.{given}
@@ -25,7 +24,7 @@ use Rattle.flow.proofs.Kept.{given-at, as-many}
 use Rattle.fates.specs.Frames.{asksOf, grantedNow, Renewed, GoesOn}
 use Rattle.fates.proofs.Standing.{at-unit, took, handed, collected, Stands}
 use Rattle.fates.proofs.Going.{is-due, is-renewed, beyond, waits-moved}
-use Rattle.waiting.specs.Waiting.{isFrame, atThree}
+use Rattle.waiting.specs.Waiting.{isFrame, atThree, Holds}
 
 -- only a frame changes requests and last units granted, and it says who is granted
 pub arbiter-after : (d : D.Shelf) (e : Event) → happensTo d e .shelf .arbiter ≡ cond (isFrame e) (arbiterOf (granted (d .arbiter .last) (asksOf d))) (d .arbiter)
@@ -91,13 +90,7 @@ listed (u ∷ us) (suc i) h e =
     let rest = listed us i (omega arith) e in
     decide (eqb (u .settings .priority) 3) (λ t. rw t (List·Memᴰ·tail rest)) (λ t. rw t rest)
 
--- what the bound asks of a shelf, of any units that may ask at 3: their requests stand, and who is granted at 3 is one of them
-pub record Holds (may : List ℕ) (d : D.Shelf) : Type 0 where
-  pub three : length (d .arbiter .last) ≡ 3
-  pub few : (n : ℕ) → getD (asksOf d) n 0 ≡ 3 → n < 32
-  pub stand : (n : ℕ) → getD (d .arbiter .asks) n 0 ≡ 3 → getD (asksOf d) n 0 ≡ 3
-  pub one : getD (asksOf d) (grantedNow d) 0 ≡ 3 → In (grantedNow d) may
-
+-- so much holds of the units at priority 3
 pub holds : (told : List Line) (d : D.Shelf) → given d ≡ given (D.opened told) → Stands d → GoesOn d → Holds (atThree told) d
 holds told d same s g =
     record {

@@ -1,5 +1,5 @@
 -- Streets that wait long, computed. Assumes nothing.
-use Prim.Native.Nat.{ℕ, zero, suc, _+_, _*_, _<_, _≤_}
+use Prim.Native.Nat.{ℕ, zero, suc, _+_, _*_, _≤_}
 use native.Mathlib.Omega.{arith}
 use mathlib.Core.Path.{_≡_, refl, sym, ap, subst, _∙_}
 use mathlib.Core.Logic.{_≢_, inl}
@@ -9,47 +9,44 @@ use Rattle.remainder.specs.Bits.{bits, number}
 use Rattle.remainder.specs.Division.{minus, divide, remainder, residue}
 use Rattle.header.specs.Fields.{fields, topOf, word}
 use Rattle.header.specs.Check.{check as header-check}
-use Rattle.bus.specs.Routing.{check as routing-check, upper, routing, controlling, address}
-use Rattle.bus.specs.Frame.{cell, exclusiveOr, sealed, third, carried, heard, returned}
-use Rattle.outlet.specs.Outlets.{capacity}
-use Rattle.outlet.specs.Hearing.{queueOf, limit, tooWide}
-use Rattle.arbiter.specs.Arbitration.{nobody, asking, due, renewedFrom, run, cyclic, next, someAsks, highest, first, granted}
+use Rattle.arbiter.specs.Arbitration.{nobody, asking, due, renewedFrom, run, cyclic, someAsks, highest, first, granted}
 use Rattle.shelf.specs.Shelves.{placeFrom}
-use Rattle.told.specs.Told.{hearsBy, hearsIn}
+use Rattle.told.specs.Told.{hearsBy, hearsIn, same as same-whose, opens, gives as gives-record, recordOf, total, declare, joinAt, shelfBy, shelfOf, topOf as top-told}
 use Rattle.told.specs.Served.{serves, served}
 use Rattle.answer.specs.Answers.{queuedOne, isAddressed}
 use Rattle.answer.specs.declared.Arrival.the-variants as arrival
 use Rattle.answer.specs.declared.Answer.the-variants.{Refused, Arrived, Framed}
-use Rattle.paper.specs.Counters.{arrivalCounts, hearingCounts, sentCounts}
-use Rattle.document.specs.Counters.{Entry, times}
+use Rattle.document.specs.Counters.{Entry}
 use Rattle.document.specs.Events.{Event, Said, answers}
 use Rattle.document.specs.Shelf.{Shelf, unitsOf, busOf, opened}
 use Rattle.document.specs.Arrival.{wayBy, wayFor, wayOf, arrivalBy, inletBy, arrived}
-use Rattle.document.specs.Hearing.{addressed, fateIn, roomIn, hearingOf, placing, keeping}
-use Rattle.document.specs.Frame.{movingFrom, movedBy, movedEntries, askingOf, copies, someAddressed, heardEntries, sendingFrom, sendsOne, sends}
+use Rattle.document.specs.Hearing.{addressed, hearingOf, keeping}
+use Rattle.document.specs.Frame.{movingFrom, movedBy, askingOf, copies, someAddressed, sendingFrom, sendsOne, sends}
 use Rattle.document.specs.Steps.{admitted, happensTo, becomes, gives}
 use Rattle.answer.specs.Counting.{zeros}
 use Rattle.card.specs.declared.Card.{Card}
 use Rattle.lookup.specs.Record.{usable}
 use Rattle.line.specs.declared.Line.{Line}
-use Rattle.told.specs.Lines.{Good}
-use Rattle.paper.specs.Words.{textOf, AllInRange}
+use Rattle.told.specs.Lines.{Good, judge}
+use Rattle.paper.specs.Words.{textOf, AllInRange, numeralTo, numeral, fieldsOf, parted, wordsOf}
 use Rattle.promise.specs.Says.{unitLines}
 use Rattle.promise.specs.Refusals.{Accepts}
 use Rattle.promise.proofs.Faults.{good-iff}
 use Rattle.card.specs.Cards.{holds as card-holds, narrowHolds}
 use Rattle.card.specs.declared.Card.the-variants.{Narrow, Wide}
 use Rattle.judge.specs.Judge.{judgeBus, judgeUnit, judgeVp, judgeDrop, judgePage, judgeVc, judgeMc}
-use Rattle.told.specs.Told.{same as same-whose, opens, gives as gives-record, recordOf, total, declare, joinAt, shelfBy, shelfOf, topOf as top-told}
-use Rattle.told.specs.Lines.{judge}
-use Rattle.paper.specs.Words.{numeralTo, numeral, fieldsOf, parted, wordsOf}
 use Rattle.document.specs.Examples.{lent}
 use Rattle.running.specs.Lent.{loadedIn}
 use Rattle.refining.proofs.Refined.{refines}
 use Rattle.flow.specs.Parts.{among}
-use Rattle.waiting.specs.Waiting.{framesIn, isFrame, TakesUp, saidAt, atThree, Ungranted, Starves, NoBoundBelow, Attains, BoundAttained}
+use Rattle.waiting.specs.Waiting.{framesIn, isFrame, TakesUp, saidAt, atThree, Ungranted, NoBoundBelow, BoundAttained}
 use Rattle.waiting.proofs.Bound.{gives-after}
-use Rattle.waiting.specs.Streets.{beside, three, arrives, tick, filled, busy, each}
+use Rattle.waiting.specs.Streets.{beside, three, arrives, tick, filled, busy, each, Examples}
+
+-- how the bound counts
+pub examples : Examples
+unfolding framesIn isFrame among unitsOf beside
+examples = record { from-0 = refl; after-0 = refl; after-2 = refl; itself = refl; between = refl; listed = refl; frames = refl }
 
 -- the shelf once the unit of priority 3 is granted for the first time and has a cell more, with any frame number and history
 unfoldable started : Shelf
@@ -80,7 +77,7 @@ record Computed : Type 0 where
   all : length (atThree three) ≡ 3
 
 computed : Computed
-unfolding started beside three bits number minus divide remainder residue fields topOf word header-check routing-check upper routing controlling third address cell exclusiveOr sealed carried heard returned capacity queueOf limit tooWide asking due renewedFrom run cyclic next someAsks highest first granted placeFrom hearsBy hearsIn serves served times arrivalCounts hearingCounts sentCounts unitsOf busOf wayBy wayFor wayOf arrivalBy inletBy arrived addressed fateIn roomIn hearingOf placing keeping movingFrom movedBy movedEntries askingOf queuedOne isAddressed copies someAddressed heardEntries sendingFrom sendsOne sends admitted happensTo becomes gives among
+unfolding started beside three bits number minus divide remainder residue fields topOf word header-check asking due renewedFrom run cyclic someAsks highest first granted placeFrom serves served unitsOf busOf wayBy wayFor wayOf arrivalBy inletBy arrived addressed hearingOf keeping movingFrom movedBy askingOf queuedOne isAddressed copies someAddressed sendingFrom sendsOne sends admitted happensTo becomes gives among
 computed =
     record {
       asks = refl;
@@ -119,7 +116,7 @@ never-granted (suc n) frame history =
     (never-both 0 1 frame 1 0 (saidIn (again frame history) (busy n)) (λ e. omega arith)
     (subst (λ d. Never 0 (saidIn d (busy n))) (sym (computed .stays frame history)) (never-granted n (again frame history .frame) (again frame history .history))))
 
--- the tables are good on either card, with as much room as they ask for
+-- the tables are good on either card, with as much room as they ask for: two records and 8,192 bytes a unit
 accepted : (card : Card) (told : List Line) (units : ℕ) → length (textOf told) ≤ 65536 → (told ≡ [] → ⊥) → AllInRange told → Good card (usable (replicate (16 * units) 0)) told → unitLines told ≡ units →
     Accepts card (textOf told) (replicate (16 * units) 0) (length (replicate {A = ℕ} (8192 * units) 0)) (length (replicate units zeros)) told
 accepted card told units short some ranged good many =

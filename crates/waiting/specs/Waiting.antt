@@ -3,7 +3,7 @@ use Prim.Native.Nat.{ℕ, _+_, _<_, _≤_}
 use mathlib.Core.Path.{_≡_}
 use mathlib.Core.Logic.{_≢_}
 use mathlib.Core.Bool.{Bool, false, cond}
-use mathlib.Core.List.{List, [], _∷_, map}
+use mathlib.Core.List.{List, [], _∷_, map, List·Memᴰ as In}
 use lib.Dec.{eqb, leb}
 use lib.ListN.{length, getD, take}
 use Rattle.card.specs.declared.Card.{Card}
@@ -19,7 +19,7 @@ use Rattle.document.specs.Steps.{becomes}
 use Rattle.flow.specs.Parts.{among}
 use Rattle.running.specs.Lent.{runIn, loadedIn}
 use Rattle.refining.specs.Refines.{gives}
-use Rattle.fates.specs.Frames.{asksOf}
+use Rattle.fates.specs.Frames.{asksOf, grantedNow}
 
 -- the frames among these events: a frame that is refused with Length is none
 unfoldable pub isFrame : Event → Bool
@@ -66,6 +66,13 @@ pub record InTurn (last asks : List ℕ) (unit : ℕ) (after : Grant) : Type 0 w
   pub first : turn (lastAt last 3) (after .unit) ≤ turn (lastAt last 3) unit
   pub own : lastAt (after .last) 3 ≡ after .unit
   pub stand : unit ≢ after .unit → getD (after .asks) unit 0 ≡ 3
+
+-- and of a shelf, whichever units may ask at 3: "the others stand", a request that is renewed too, until it is granted; and who is granted at 3 may ask so
+pub record Holds (may : List ℕ) (d : Shelf) : Type 0 where
+  pub three : length (d .arbiter .last) ≡ 3
+  pub few : (n : ℕ) → getD (asksOf d) n 0 ≡ 3 → n < 32
+  pub stand : (n : ℕ) → getD (d .arbiter .asks) n 0 ≡ 3 → getD (asksOf d) n 0 ≡ 3
+  pub one : getD (asksOf d) (grantedNow d) 0 ≡ 3 → In (grantedNow d) may
 
 -- a unit that asks at 3 is granted within so many frames: from a good load on, on either card, in what our shelf gives back after any events, from the frame that takes its request up on, with
 -- any events between the frames; data, control and loopback cells ask
