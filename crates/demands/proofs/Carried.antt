@@ -41,6 +41,7 @@ use Rattle.fates.proofs.Holding.{held-means-held}
 use Rattle.fates.proofs.Going.{frames-go-on}
 use Rattle.fates.proofs.Cleaned.{clean-table-clean-bus}
 use Rattle.fates.proofs.Isolated.{isolation}
+use Rattle.waiting.proofs.Requests.{same-requests}
 use Rattle.waiting.proofs.Bound.{waits-at-most, waits-its-turn}
 use Rattle.waiting.proofs.Starving.{no-bound-below, bound-attained}
 use Rattle.witness.proofs.Witnessed.{listing-prints, bus-alone, all-run, refusals, spoiled-state, link-byte, beyond-loaded, control-asks}
@@ -94,6 +95,7 @@ demand-2 =
       frames-go-on = frames-go-on;
       waits-at-most = waits-at-most;
       waits-its-turn = waits-its-turn;
+      same-requests = same-requests;
       no-bound-below = no-bound-below;
       clean-table-clean-bus = clean-table-clean-bus;
       in-order = in-order;

@@ -44,7 +44,7 @@ use Rattle.fates.specs.Held.{HeldMeansHeld}
 use Rattle.fates.specs.Frames.{FramesGoOn}
 use Rattle.fates.specs.Clean.{CleanTableCleanBus}
 use Rattle.fates.specs.Isolation.{Isolation}
-use Rattle.waiting.specs.Waiting.{WaitsAtMost, WaitsItsTurn, NoBoundBelow, BoundAttained}
+use Rattle.waiting.specs.Waiting.{WaitsAtMost, WaitsItsTurn, SameRequests, NoBoundBelow, BoundAttained}
 use Rattle.witness.specs.Witness.{ListingPrints, BusAlone, AllRun, Refusals, Spoiled, LinkByte, BeyondLoaded, ControlAsks}
 
 -- 1. "Every entry point takes every input, finishes, and does nothing undefined. A bad table, frame, cell, buffer or shelf state is refused with a fixed number. A refused table leaves
@@ -141,6 +141,8 @@ pub record Demand2 : Type 0 where
   pub waits-at-most : WaitsAtMost
   -- and sharper: only those count that stand in cyclic order after the last one granted at 3, up to the unit itself
   pub waits-its-turn : WaitsItsTurn
+  -- the requests and the last units granted that both go by are those of our state's bytes
+  pub same-requests : SameRequests
   -- "Show too, on a 16 bus, that no such number holds for priority 1 beside a busy priority 3."
   pub no-bound-below : NoBoundBelow
   -- no frame of a cell that arrived is damaged; "A sent cell addressing no declared unit also counts `unheard` at its sender"

@@ -8,16 +8,19 @@ use lib.Dec.{eqb, leb}
 use lib.ListN.{length, getD, take}
 use Rattle.card.specs.declared.Card.{Card}
 use Rattle.arbiter.specs.declared.Grant.{Grant}
+use Rattle.state.specs.Bytes.{shelfIn}
 use Rattle.line.specs.declared.Line.{Line}
 use Rattle.answer.specs.declared.Counters as C
 use Rattle.answer.specs.declared.Answer.the-variants.{Framed, Refused}
 use Rattle.paper.specs.Grants.{turn, lastAt}
+use Rattle.framing.specs.Requests as framing
+use Rattle.framing.specs.Moves.{moved}
 use Rattle.promise.specs.Refusals.{Accepts}
 use Rattle.document.specs.Events.{Event, arrive, frame, hear, take-cell, count, hand, collect, Said, answers, Back}
 use Rattle.document.specs.Shelf.{Shelf, numberOf, unitsOf, busOf, opened}
 use Rattle.document.specs.Steps.{becomes}
 use Rattle.flow.specs.Parts.{among}
-use Rattle.running.specs.Lent.{runIn, loadedIn}
+use Rattle.running.specs.Lent.{Lent, runIn, loadedIn}
 use Rattle.refining.specs.Refines.{gives}
 use Rattle.fates.specs.Frames.{asksOf, grantedNow}
 
@@ -83,6 +86,16 @@ Within most =
     (unit : ℕ) → TakesUp (becomes (opened told) es) unit 3 →
     most told (becomes (opened told) es) unit ≤ framesIn (frame buffer ∷ more) →
     GrantedBy unit (most told (becomes (opened told) es) unit) (frame buffer ∷ more) (gives card (runIn card (loadedIn card text memory store rows) es) (frame buffer ∷ more))
+
+-- these are our shelf's requests, and its last units granted: those that the 2,048 bytes of its state give in that frame
+pub record Same (l : Lent) (d : Shelf) : Type 0 where
+  pub requests : framing.requests (moved (shelfIn (l .state))) .asks ≡ asksOf d
+  pub lasts : shelfIn (l .state) .arbiter .last ≡ d .arbiter .last
+
+abbrev pub SameRequests : Type 0
+SameRequests =
+    (card : Card) (text memory store : List ℕ) (rows : List C.Counters) (told : List Line) →
+    Accepts card text memory (length store) (length rows) told → (es : List Event) → Same (runIn card (loadedIn card text memory store rows) es) (becomes (opened told) es)
 
 -- "n being the number of declared units at priority 3"
 abbrev pub WaitsAtMost : Type 0
