@@ -4,7 +4,7 @@ use answer::Counters;
 use card::Card;
 use entry::Counted;
 use event::Event;
-use written::Outcome;
+use replies::Outcome;
 
 // The counter rows; an array by itself cannot take a call's result.
 struct Tally {
@@ -32,7 +32,7 @@ fn kept(after: owned::After) -> Tally {
 // Prints the line of an event.
 fn say(event: Event, outcome: Outcome, cell: &[u8]) {
     let mut out = [0u8; 512];
-    let n = written::event_line(event, outcome, cell, &mut out);
+    let n = replies::event_line(event, outcome, cell, &mut out);
     if n <= 512 {
         io::write_all(1, &out[..n]);
     }
@@ -293,7 +293,7 @@ fn read_table(text: &mut [u8]) -> usize {
 // Prints the line of the table.
 fn say_table(answer: Answer) {
     let mut out = [0u8; 512];
-    let n = written::table_line(answer, &mut out);
+    let n = replies::table_line(answer, &mut out);
     if n <= 512 {
         io::write_all(1, &out[..n]);
     }

@@ -352,7 +352,7 @@ fn say_event(out: &mut [u8; 200000], at: usize, line: &[u8], unit: u8, answer: A
     requires { ⌜ at ≤ 180000 ⌝ }
     ensures { λ r. ⌜ r ≤ at + 100 ⌝ }
 {
-    written::said(out, at, word_of(line), unit, answer)
+    replies::said(out, at, word_of(line), unit, answer)
 }
 
 // The answer of an event with its buffer.
@@ -368,7 +368,7 @@ fn say_buffer(
     requires { ⌜ (at ≤ 180000) × (count ≤ 1000) ⌝ }
 {
     let end = say_event(out, at, line, unit, answer);
-    written::put_bytes(out, end, part_of(buffer, 0, count))
+    replies::put_bytes(out, end, part_of(buffer, 0, count))
 }
 
 // A command that is no event is done, or bad.
@@ -420,7 +420,7 @@ fn say_count(
     let card = w.card;
     let rows = w.rows;
     match owned::count(card, state, part_of(store, 0, w.store), rows, w.lent, unit) {
-        Counted::Counters(c) => written::counted(out, w.at, unit, c),
+        Counted::Counters(c) => replies::counted(out, w.at, unit, c),
         Counted::Refused(number) => {
             let answer = Answer::Refused((number % 256) as u8);
             say_event(out, w.at, line, unit, answer)
@@ -434,7 +434,7 @@ fn say_sum(out: &mut [u8; 200000], at: usize, line: &[u8], b: &[u8], lent: usize
 {
     let part = part_of(b, 0, lent);
     let n = within(20, line);
-    written::summed(out, at, &line[..n], part.len() as u64, text::fnv(part))
+    replies::summed(out, at, &line[..n], part.len() as u64, text::fnv(part))
 }
 
 fn show_bank(
@@ -472,9 +472,9 @@ fn tell(
         Command::Show(bank) => show_bank(w, memory, store, bank, line, out),
         Command::ShowRows => {
             let rows = w.rows;
-            written::rows(out, w.at, least(w.lent, 40), rows)
+            replies::rows(out, w.at, least(w.lent, 40), rows)
         }
-        Command::ShowState => written::state(out, w.at, state),
+        Command::ShowState => replies::state(out, w.at, state),
         Command::ShowUnit(unit) => named::unit(out, w.at, state, unit),
         _ => say_after(out, w.at, line, command, answer, buffer, w.good),
     }

@@ -13,7 +13,7 @@ use Rattle.header.specs.declared.Link.the-variants.{Nni}
 use Rattle.bus.specs.declared.Target.{Target}
 use Rattle.shelf.specs.declared.Settings.{Settings}
 use Rattle.line.specs.declared.Line.{Line}
-use Rattle.told.specs.Served.{Serving, by-vp, by-drop, by-vc, served}
+use Rattle.meaning.specs.Served.{Serving, by-vp, by-drop, by-vc, served}
 use Rattle.answer.specs.declared.Arrival as A
 use Rattle.answer.specs.declared.Arrival.the-variants.{Hec, Ignored, Misrouted, Inletfull, Queued}
 use Rattle.paper.specs.Counters.{arrivalCounts}

@@ -12,7 +12,7 @@ use Rattle.bus.specs.declared.Heard.the-variants as frame
 use Rattle.outlet.specs.Outlets.{capacity}
 use Rattle.outlet.specs.Hearing.{queueOf, limit, tooWide, busClp}
 use Rattle.line.specs.declared.Line.{Line}
-use Rattle.told.specs.Told.{hearsIn}
+use Rattle.meaning.specs.Told.{hearsIn}
 use Rattle.answer.specs.declared.Hearing as A
 use Rattle.answer.specs.declared.Hearing.the-variants.{Damaged, Other, Wide, Full, Clp, Queued}
 use Rattle.paper.specs.Counters.{hearingCounts}

@@ -16,7 +16,7 @@ use Rattle.bus.specs.declared.Heard.the-variants as sort
 use Rattle.bus.proofs.Wire.{heard-sealed}
 use Rattle.arbiter.specs.Arbitration.{nobody}
 use Rattle.line.specs.declared.Line.{Line}
-use Rattle.told.proofs.Grown.{decide}
+use Rattle.meaning.proofs.Grown.{decide}
 use Rattle.answer.specs.declared.Hearing as Q
 use Rattle.answer.specs.declared.Hearing.the-variants as hearing
 use Rattle.answer.specs.Answers.{isAddressed}

@@ -21,9 +21,9 @@ use Rattle.outlet.specs.Hearing.{busClp, tooWide}
 use Rattle.outlet.proofs.Fates.{wide-iff}
 use Rattle.line.specs.declared.Line.{Line}
 use Rattle.line.specs.declared.Line.the-variants.{Bus, Unit as L·Unit, Vp, Drop, Page, Vc, Mc}
-use Rattle.told.specs.Told.{only, either, hearsBy, hearsIn}
-use Rattle.told.proofs.Grown.{decide}
-use Rattle.told.specs.Served.{Serving, by-vp, by-drop, by-vc, serves, served}
+use Rattle.meaning.specs.Told.{only, either, hearsBy, hearsIn}
+use Rattle.meaning.proofs.Grown.{decide}
+use Rattle.meaning.specs.Served.{Serving, by-vp, by-drop, by-vc, serves, served}
 use Rattle.answer.specs.declared.Arrival as A
 use Rattle.answer.specs.declared.Arrival.the-variants as arrival
 use Rattle.answer.specs.declared.Hearing as Q

@@ -19,7 +19,7 @@ use Rattle.shelf.specs.Shelves.{placeFrom}
 use Rattle.shelf.specs.declared.Found as F
 use Rattle.shelf.specs.declared.Found.the-variants as found
 use Rattle.line.specs.declared.Line.{Line}
-use Rattle.told.proofs.Grown.{decide}
+use Rattle.meaning.proofs.Grown.{decide}
 use Rattle.answer.specs.declared.Answer.the-variants.{Framed}
 use Rattle.document.specs.Events.{frame, answers}
 use Rattle.document.specs.Shelf as D

@@ -21,8 +21,8 @@ use Rattle.outlet.proofs.Fates.{queue-lt}
 use Rattle.shelf.specs.Shelves.{placeFrom}
 use Rattle.shelf.specs.declared.Found.the-variants as found
 use Rattle.line.specs.declared.Line.{Line}
-use Rattle.told.proofs.Grown.{decide}
-use Rattle.told.specs.Served.{Serving, by-vp, by-drop, by-vc}
+use Rattle.meaning.proofs.Grown.{decide}
+use Rattle.meaning.specs.Served.{Serving, by-vp, by-drop, by-vc}
 use Rattle.answer.specs.declared.Arrival as A
 use Rattle.answer.specs.declared.Arrival.the-variants as arrival
 use Rattle.answer.specs.declared.Hearing as Q

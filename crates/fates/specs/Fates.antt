@@ -19,7 +19,7 @@ use Rattle.outlet.specs.Hearing.{queueOf, limit, busClp, TooWide}
 use Rattle.shelf.specs.declared.Found.the-variants.{At}
 use Rattle.line.specs.declared.Line.{Line}
 use Rattle.line.specs.declared.Line.the-variants.{Vp, Drop, Vc, Mc}
-use Rattle.told.specs.Served.{Serving, by-vp, by-drop, by-vc, served}
+use Rattle.meaning.specs.Served.{Serving, by-vp, by-drop, by-vc, served}
 use Rattle.answer.specs.declared.Arrival as A
 use Rattle.answer.specs.declared.Arrival.the-variants as arrival
 use Rattle.answer.specs.declared.Hearing as Q

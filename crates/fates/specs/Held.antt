@@ -12,7 +12,7 @@ use Rattle.bus.specs.declared.Heard.the-variants as sort
 use Rattle.outlet.specs.Hearing.{queueOf}
 use Rattle.shelf.specs.declared.Found.the-variants.{At}
 use Rattle.line.specs.declared.Line.{Line}
-use Rattle.told.specs.Served.{Serving, by-vp, by-drop, by-vc}
+use Rattle.meaning.specs.Served.{Serving, by-vp, by-drop, by-vc}
 use Rattle.answer.specs.declared.Arrival.the-variants as arrival
 use Rattle.answer.specs.declared.Hearing.the-variants as hearing
 use Rattle.answer.specs.declared.Answer.the-variants.{Refused, Handed, Taken, Empty}

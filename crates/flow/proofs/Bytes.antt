@@ -15,7 +15,7 @@ use Rattle.outlet.specs.declared.Leaving as L
 use Rattle.outlet.specs.declared.Leaving.the-variants as leaves
 use Rattle.shelf.specs.declared.Found as F
 use Rattle.shelf.specs.declared.Found.the-variants.{At, Nothing}
-use Rattle.told.proofs.Grown.{decide}
+use Rattle.meaning.proofs.Grown.{decide}
 use Rattle.answer.specs.declared.Answer.the-variants.{Taken}
 use Rattle.document.specs.Events.{Event, arrive, frame, hear, take-cell, count, hand, collect, answers}
 use Rattle.document.specs.Shelf.{Cell, Unit, Shelf, numberOf, queueAt, held, findIn, unitAt}

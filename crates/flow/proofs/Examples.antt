@@ -13,8 +13,8 @@ use Rattle.outlet.specs.Hearing.{queueOf, limit, tooWide}
 use Rattle.outlet.specs.Taking.{lowest, marked, outgoing}
 use Rattle.arbiter.specs.Arbitration.{asking, due, renewedFrom, run, cyclic, next, someAsks, highest, first, granted}
 use Rattle.shelf.specs.Shelves.{placeFrom}
-use Rattle.told.specs.Told.{hearsBy, hearsIn}
-use Rattle.told.specs.Served.{serves, served}
+use Rattle.meaning.specs.Told.{hearsBy, hearsIn}
+use Rattle.meaning.specs.Served.{serves, served}
 use Rattle.document.specs.Take.{lineCell}
 use Rattle.answer.specs.Answers.{queuedOne, isAddressed}
 use Rattle.paper.specs.Counters.{arrivalCounts, hearingCounts, sentCounts}

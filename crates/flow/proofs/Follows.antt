@@ -21,9 +21,9 @@ use Rattle.bus.specs.declared.Target.{Target}
 use Rattle.shelf.specs.declared.Settings.{Settings}
 use Rattle.line.specs.declared.Line.{Line}
 use Rattle.line.specs.declared.Line.the-variants.{Bus, Unit as L·Unit, Vp, Drop, Page, Vc, Mc}
-use Rattle.told.specs.Told.{only, either}
+use Rattle.meaning.specs.Told.{only, either}
 use Rattle.paper.specs.Words.{InRange, AllInRange}
-use Rattle.told.specs.Served.{Serving, by-vp, by-drop, by-vc, serves, served}
+use Rattle.meaning.specs.Served.{Serving, by-vp, by-drop, by-vc, serves, served}
 use Rattle.answer.specs.declared.Arrival.the-variants.{Hec, Ignored, Misrouted}
 use Rattle.document.specs.Shelf.{Routed}
 use Rattle.document.specs.Arrival.{Way, goes, lost, routed, wayBy, wayFor, wayOf, headerOf}

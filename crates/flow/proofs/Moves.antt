@@ -25,8 +25,8 @@ use Rattle.outlet.specs.declared.Leaving.the-variants as leaves
 use Rattle.outlet.proofs.Fates.{queue-lt}
 use Rattle.shelf.specs.declared.Settings.{Settings}
 use Rattle.line.specs.declared.Line.{Line}
-use Rattle.told.proofs.Grown.{decide}
-use Rattle.told.specs.Served.{Serving, by-vp, by-drop, by-vc, served}
+use Rattle.meaning.proofs.Grown.{decide}
+use Rattle.meaning.specs.Served.{Serving, by-vp, by-drop, by-vc, served}
 use Rattle.answer.specs.declared.Arrival as N
 use Rattle.answer.specs.declared.Arrival.the-variants as arrival
 use Rattle.answer.specs.declared.Hearing as A

@@ -10,8 +10,8 @@ use lib.ListN.{length, getD}
 use borrow.Author.Tests.{eqb-false}
 use Rattle.line.specs.declared.Line.{Line}
 use Rattle.line.specs.declared.Line.the-variants.{Bus, Unit as L·Unit, Vp, Drop, Page, Vc, Mc}
-use Rattle.told.specs.Told.{ofUnit, same, opens, only, either, topOf}
-use Rattle.told.proofs.Fits.{fine-unit}
+use Rattle.meaning.specs.Told.{ofUnit, same, opens, only, either, topOf}
+use Rattle.meaning.proofs.Fits.{fine-unit}
 use Rattle.paper.specs.Words.{AllInRange}
 use Rattle.document.specs.Shelf.{Unit, numberOf, blank, freshUnit, unitsOf}
 use Rattle.flow.specs.Lost.{Different, NumbersOnce}

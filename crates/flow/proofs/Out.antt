@@ -32,7 +32,7 @@ use Rattle.outlet.proofs.Headers.{outgoing-fields, vpi-kept, outgoing-lt}
 use Rattle.document.specs.Take.{lineCell}
 use Rattle.arbiter.specs.Arbitration.{nobody}
 use Rattle.line.specs.declared.Line.{Line}
-use Rattle.told.proofs.Grown.{decide}
+use Rattle.meaning.proofs.Grown.{decide}
 use Rattle.document.specs.Arrival.{headerOf}
 use Rattle.document.specs.Events.{Event, take-cell}
 use Rattle.document.specs.Shelf.{Cell, Unit, Shelf, numberOf, queueAt, held, unitAt, unitsOf, opened}

@@ -20,7 +20,7 @@ use Rattle.shelf.specs.Shelves.{placeFrom}
 use Rattle.shelf.specs.declared.Found as F
 use Rattle.shelf.specs.declared.Found.the-variants.{At, Nothing}
 use Rattle.store.proofs.Slots.{by-lt}
-use Rattle.told.proofs.Grown.{decide}
+use Rattle.meaning.proofs.Grown.{decide}
 use Rattle.lookup.specs.Record.{usable}
 use Rattle.line.specs.declared.Line.{Line}
 use Rattle.promise.proofs.Faults.{good-iff}

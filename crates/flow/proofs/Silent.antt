@@ -12,7 +12,7 @@ use Rattle.bus.specs.Frame.{returned}
 use Rattle.bus.specs.declared.Heard as H
 use Rattle.bus.specs.declared.Heard.the-variants as frames
 use Rattle.line.specs.declared.Line.{Line}
-use Rattle.told.proofs.Grown.{decide}
+use Rattle.meaning.proofs.Grown.{decide}
 use Rattle.paper.specs.Counters.{taken}
 use Rattle.document.specs.Counters.{entries}
 use Rattle.document.specs.Events.{Event}

@@ -26,7 +26,7 @@ use Rattle.line.specs.declared.Line.{Line}
 use Rattle.answer.specs.declared.Hearing as A
 use Rattle.answer.specs.declared.Hearing.the-variants as hearing
 use Rattle.answer.specs.Answers.{queuedOne}
-use Rattle.told.proofs.Grown.{decide}
+use Rattle.meaning.proofs.Grown.{decide}
 use Rattle.document.specs.Events.{Event, arrive, hear, hand}
 use Rattle.document.specs.Shelf.{Cell, Routed, Unit, Shelf, numberOf, unitAt, unitsOf, opened}
 use Rattle.document.specs.Arrival.{Way, goes, lost, wayOf}

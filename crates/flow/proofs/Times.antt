@@ -11,7 +11,7 @@ use borrow.Author.Tests.{eqb-true, eq-eqb, ne-eqb, ltb-true, ltb-false}
 use Rattle.shelf.specs.Shelves.{placeFrom}
 use Rattle.shelf.specs.declared.Found.the-variants.{At}
 use Rattle.line.specs.declared.Line.{Line}
-use Rattle.told.proofs.Grown.{decide}
+use Rattle.meaning.proofs.Grown.{decide}
 use Rattle.paper.specs.Counters.{Counter, placeOf, hearingCounts, occurs}
 use Rattle.document.specs.Counters.{Entry, entries, matches, times}
 use Rattle.document.specs.Shelf.{Unit, numberOf, blank, findIn}

@@ -22,7 +22,7 @@ use Rattle.outlet.specs.declared.Leaving.the-variants as leaves
 use Rattle.shelf.specs.declared.Found as F
 use Rattle.shelf.specs.declared.Found.the-variants.{At, Nothing}
 use Rattle.line.specs.declared.Line.{Line}
-use Rattle.told.specs.Told.{hearsIn}
+use Rattle.meaning.specs.Told.{hearsIn}
 use Rattle.answer.specs.declared.Hearing.the-variants as hearing
 use Rattle.answer.specs.Answers.{isAddressed}
 use Rattle.document.specs.Events.{Event, arrive, frame, hear, take-cell, count, hand, collect, answers, counts}

@@ -5,7 +5,7 @@ use mathlib.Core.List.{List}
 use lib.ListN.{length, getD}
 use Rattle.line.specs.declared.Line.{Line}
 use Rattle.card.specs.declared.Card.{Card}
-use Rattle.told.specs.Lines.{Good}
+use Rattle.meaning.specs.Lines.{Good}
 use Rattle.document.specs.Events.{Event}
 use Rattle.paper.specs.Counters.{Counter, arrived, hec, ignored, misrouted, inletfull, sent, queued, taken}
 use Rattle.document.specs.Counters.{times}

@@ -14,7 +14,7 @@ fn put_column(out: &mut [u8], at: usize, name: &[u8], s: &[u8], column: usize, i
     requires { ⌜ (length (now s) ≡ 2048) × (column < 32) × (i < 32) × (at + length (now name) + 21 ≤ length (now out)) ⌝ }
     ensures { λ r. ⌜ Wrote (now (out .entry)) at (now (name .entry) ++ numberField (col (now (s .entry)) i column)) r (now (out .exit)) × (r ≤ at + length (now (name .entry)) + 21) ⌝ }
 {
-    written::say(out, at, name, state::at(s, column, i) as u64)
+    replies::say(out, at, name, state::at(s, column, i) as u64)
 }
 
 // The byte of a column alone.
@@ -32,7 +32,7 @@ fn put_link(out: &mut [u8], at: usize, byte: u8) -> usize
     match byte {
         0 => text::put(out, at, b"\tlink\tuni"),
         1 => text::put(out, at, b"\tlink\tnni"),
-        _ => written::say(out, at, b"\tlink", byte as u64),
+        _ => replies::say(out, at, b"\tlink", byte as u64),
     }
 }
 
@@ -43,7 +43,7 @@ fn put_mode(out: &mut [u8], at: usize, byte: u8) -> usize
     match byte {
         0 => text::put(out, at, b"\tmode\tone"),
         1 => text::put(out, at, b"\tmode\tfour"),
-        _ => written::say(out, at, b"\tmode", byte as u64),
+        _ => replies::say(out, at, b"\tmode", byte as u64),
     }
 }
 
@@ -60,7 +60,7 @@ fn put_settings(out: &mut [u8], at: usize, s: &[u8], i: usize) -> usize
 {
     let numbered = put_column(out, at, b"show\tunit", s, 0, i);
     let linked = put_link(out, numbered, state::at(s, 1, i));
-    let topped = written::say(out, linked, b"\ttop", top_at(s, i) as u64);
+    let topped = replies::say(out, linked, b"\ttop", top_at(s, i) as u64);
     put_column(out, topped, b"\tpriority", s, 4, i)
 }
 
@@ -86,7 +86,7 @@ fn put_inlet(out: &mut [u8], at: usize, s: &[u8], i: usize) -> usize
     requires { ⌜ (length (now s) ≡ 2048) × (i < 32) × (at + 100 ≤ length (now out)) ⌝ }
     ensures { λ r. ⌜ Wrote (now (out .entry)) at (inletText (col (now (s .entry)) i)) r (now (out .exit)) × (r ≤ at + 100) ⌝ }
 {
-    let placed = written::say(out, at, b"\tplace", state::place_at(s, i) as u64);
+    let placed = replies::say(out, at, b"\tplace", state::place_at(s, i) as u64);
     let headed = put_column(out, placed, b"\tinlethead", s, 14, i);
     put_column(out, headed, b"\tinletcount", s, 15, i)
 }

@@ -31,9 +31,9 @@ use Rattle.soundness.specs.Admission.{admitted, admittedIn, decided, formedOr, 
 use Rattle.soundness.proofs.Facts.{sound-iff}
 use Rattle.soundness.proofs.InPlace.{in-place, came-in, kept-out, row-there}
 use Rattle.lookup.specs.Record.{usable}
-use Rattle.told.specs.Told.{shelfOf}
-use Rattle.told.specs.Lines.{Ran, done, stopped}
-use Rattle.told.proofs.Shelved.{shelved}
+use Rattle.meaning.specs.Told.{shelfOf}
+use Rattle.meaning.specs.Lines.{Ran, done, stopped}
+use Rattle.meaning.proofs.Shelved.{shelved}
 use Rattle.table.specs.Load.{ranOf, tooLittle, loadingOf, memoryRan, load, loaded}
 use Rattle.table.specs.Loading.{Loading}
 use Rattle.table.specs.Loads.{doneOf}

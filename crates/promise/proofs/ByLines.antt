@@ -23,13 +23,13 @@ use Rattle.lookup.specs.declared.Looked.{Looked}
 use Rattle.lookup.specs.declared.Looked.the-variants.{Ignored, Misrouted}
 use Rattle.line.specs.declared.Line.{Line}
 use Rattle.line.specs.declared.Line.the-variants.{Bus, Unit as L·Unit, Vp, Drop, Page, Vc, Mc}
-use Rattle.told.specs.Told.{Whose, ofUnit, ofPage, same, gives, topOf, recordOf, memoryOf}
-use Rattle.told.specs.Lines.{Good}
-use Rattle.told.proofs.Regions.{start, both-left, both-right}
-use Rattle.told.proofs.Fits.{fine-page, fine-vc}
-use Rattle.told.proofs.Grown.{decide, grown, page-new}
-use Rattle.told.proofs.Memory.{AllRanged, records-hold, stands-at}
-use Rattle.told.specs.Served.{serves, served}
+use Rattle.meaning.specs.Told.{Whose, ofUnit, ofPage, same, gives, topOf, recordOf, memoryOf}
+use Rattle.meaning.specs.Lines.{Good}
+use Rattle.meaning.proofs.Regions.{start, both-left, both-right}
+use Rattle.meaning.proofs.Fits.{fine-page, fine-vc}
+use Rattle.meaning.proofs.Grown.{decide, grown, page-new}
+use Rattle.meaning.proofs.Memory.{AllRanged, records-hold, stands-at}
+use Rattle.meaning.specs.Served.{serves, served}
 use Rattle.promise.specs.Served.{become, lookedUp}
 
 -- what becomes of a cell by the record of its VPI and by that of its VCI in the page

@@ -29,12 +29,12 @@ use Rattle.judge.specs.declared.Verdict.{Verdict}
 use Rattle.judge.specs.declared.Verdict.the-variants.{Fine, Order, Twice, Wide}
 use Rattle.judge.specs.Verdicts.{asked, roomFor, offBus, taken, pageIn}
 use Rattle.judge.specs.Judge.{inPage, judgeBus, judgeUnit, judgeVp, judgeVc}
-use Rattle.told.specs.Told.{ofUnit, ofPage, topOf, total, recordOf, shelfOf, memoryOf}
-use Rattle.told.specs.Lines.{started, isFirst, owned, isDeclared, judge, Good}
-use Rattle.told.proofs.Fits.{order-fine, twice-fine, wide-fine}
-use Rattle.told.proofs.Grown.{decide}
-use Rattle.told.proofs.Memory.{AllRanged}
-use Rattle.told.proofs.Shelved.{shelved}
+use Rattle.meaning.specs.Told.{ofUnit, ofPage, topOf, total, recordOf, shelfOf, memoryOf}
+use Rattle.meaning.specs.Lines.{started, isFirst, owned, isDeclared, judge, Good}
+use Rattle.meaning.proofs.Fits.{order-fine, twice-fine, wide-fine}
+use Rattle.meaning.proofs.Grown.{decide}
+use Rattle.meaning.proofs.Memory.{AllRanged}
+use Rattle.meaning.proofs.Shelved.{shelved}
 use Rattle.table.specs.declared.Outcome.the-variants.{Refused}
 use Rattle.table.specs.Load.{load, loaded}
 use Rattle.promise.specs.Served.{lookedUp, lookupAt, saidBy}

@@ -33,13 +33,13 @@ use Rattle.judge.specs.declared.Verdict.{Verdict}
 use Rattle.judge.specs.declared.Verdict.the-variants.{Fine, Form, Order, Twice, Wide, Room}
 use Rattle.judge.specs.Verdicts.{numberOf, asked, roomFor, offBus, taken, pageIn}
 use Rattle.judge.specs.Judge.{inPage, judgeBus, judgeUnit, judgeVp, judgeDrop, judgePage, judgeVc, judgeMc}
-use Rattle.told.specs.Told.{ofUnit, ofPage, topOf, total, recordOf, hearsIn, shelfOf}
-use Rattle.told.specs.Lines.{started, isFirst, owned, isDeclared, judge, Good, verdictOn}
-use Rattle.told.proofs.Tabulate.{some-inj, none-some}
-use Rattle.told.proofs.Regions.{start}
-use Rattle.told.proofs.Grown.{Grown, decide, grown}
-use Rattle.told.proofs.Memory.{fits-room}
-use Rattle.told.proofs.Members.{heard-in, in-heard, first-is, bus-in, in-bus, below-bus}
+use Rattle.meaning.specs.Told.{ofUnit, ofPage, topOf, total, recordOf, hearsIn, shelfOf}
+use Rattle.meaning.specs.Lines.{started, isFirst, owned, isDeclared, judge, Good, verdictOn}
+use Rattle.meaning.proofs.Tabulate.{some-inj, none-some}
+use Rattle.meaning.proofs.Regions.{start}
+use Rattle.meaning.proofs.Grown.{Grown, decide, grown}
+use Rattle.meaning.proofs.Memory.{fits-room}
+use Rattle.meaning.proofs.Members.{heard-in, in-heard, first-is, bus-in, in-bus, below-bus}
 use Rattle.promise.specs.Says.{Declares, Uses, HasUnit, IsUnit, HasTarget, HasVpi, Gives, IsVc, IsWide, recordsBy, recordsOf}
 use Rattle.paper.specs.Words.{wordsOf, InRange}
 use Rattle.paper.proofs.Readings.{reads-iff, words-only, form-iff}

@@ -29,11 +29,11 @@ use Rattle.line.specs.Ranges.{Given as LineGiven, InRange as LineIn}
 use Rattle.line.specs.declared.Line.{Line}
 use Rattle.line.specs.declared.Line.the-variants.{Bus, Unit as L·Unit, Vp, Drop, Page, Vc, Mc}
 use Rattle.judge.specs.declared.Verdict.the-variants.{Fine}
-use Rattle.told.specs.Told.{total, declare, hearing, joinAt, shelfBy, shelfOf}
-use Rattle.told.specs.Lines.{judge, Good}
-use Rattle.told.proofs.Fits.{fine-unit}
-use Rattle.told.proofs.Grown.{decide}
-use Rattle.told.proofs.Shelved.{Shelved, shelved, declared-more, place-left}
+use Rattle.meaning.specs.Told.{total, declare, hearing, joinAt, shelfBy, shelfOf}
+use Rattle.meaning.specs.Lines.{judge, Good}
+use Rattle.meaning.proofs.Fits.{fine-unit}
+use Rattle.meaning.proofs.Grown.{decide}
+use Rattle.meaning.proofs.Shelved.{Shelved, shelved, declared-more, place-left}
 use Rattle.table.specs.Load.{load}
 use Rattle.promise.specs.Refusals.{Accepts, Refuses}
 use Rattle.promise.specs.Loads.{LoadSound}

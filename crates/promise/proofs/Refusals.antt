@@ -17,10 +17,10 @@ use Rattle.shelf.specs.Shelf.{Shelf}
 use Rattle.judge.specs.declared.Verdict.{Verdict}
 use Rattle.judge.specs.declared.Verdict.the-variants.{Fine, Form, Order, Twice, Wide, Room}
 use Rattle.judge.specs.Verdicts.{numberOf}
-use Rattle.told.specs.Told.{total, shelfOf, memoryOf}
-use Rattle.told.specs.Lines.{Good, Ran, done, stopped, verdictOn}
-use Rattle.told.proofs.Memory.{AllRanged}
-use Rattle.told.proofs.Grown.{decide}
+use Rattle.meaning.specs.Told.{total, shelfOf, memoryOf}
+use Rattle.meaning.specs.Lines.{Good, Ran, done, stopped, verdictOn}
+use Rattle.meaning.proofs.Memory.{AllRanged}
+use Rattle.meaning.proofs.Grown.{decide}
 use Rattle.table.specs.declared.Outcome.the-variants.{Loaded, Refused}
 use Rattle.table.specs.Loading.{Loading}
 use Rattle.table.specs.Load.{ranOf, refusal, tooLittle, loadingOf, memoryRan, load, loaded}

@@ -15,9 +15,9 @@ use Rattle.line.specs.Ranges.{InRange}
 use Rattle.judge.specs.declared.Verdict.{Verdict}
 use Rattle.judge.specs.declared.Verdict.the-variants.{Fine}
 use Rattle.judge.specs.Verdicts.{isFine}
-use Rattle.told.specs.Lines.{judge, Good, Ran, done, stopped, verdictOn, run}
-use Rattle.told.proofs.Grown.{decide}
-use Rattle.told.proofs.Memory.{AllRanged}
+use Rattle.meaning.specs.Lines.{judge, Good, Ran, done, stopped, verdictOn, run}
+use Rattle.meaning.proofs.Grown.{decide}
+use Rattle.meaning.proofs.Memory.{AllRanged}
 use Rattle.table.specs.Load.{ranOf}
 use Rattle.table.proofs.Leaves.{fine-is}
 use Rattle.table.proofs.Turns.{ranged}

@@ -1,4 +1,4 @@
--- What `told` reads off the lines is what some line before says. Assumes nothing.
+-- What `meaning` reads off the lines is what some line before says. Assumes nothing.
 use mathlib.Core.Path.{_≡_, refl, sym, ap, ap₂, _∙_}
 use mathlib.Core.Bool.{Bool, true, false, _&&_, false≢true}
 use mathlib.Core.List.{List, [], _∷_, List·Memᴰ as In, Memᴰ·cast}
@@ -19,13 +19,13 @@ use Rattle.shelf.specs.declared.Found.the-variants.{At, Nothing}
 use Rattle.line.specs.declared.Line.{Line}
 use Rattle.line.specs.declared.Line.the-variants.{Bus, Unit as L·Unit, Vp, Drop, Page, Vc, Mc}
 use Rattle.judge.specs.Verdicts.{taken}
-use Rattle.told.specs.Told.{ofUnit, ofPage, same, opens, gives, only, topBy, topOf, takes, total, givenBy, recordOf, declare, joinAt, shelfBy, shelfOf}
-use Rattle.told.specs.Lines.{Good}
-use Rattle.told.proofs.Tabulate.{none-some, only-true, only-is}
-use Rattle.told.proofs.Regions.{start, same-self, both-left, both-right}
-use Rattle.told.proofs.Fits.{free, fine-bus}
-use Rattle.told.proofs.Grown.{Grown}
-use Rattle.told.proofs.Members.{top-in, in-top, given-in, in-given, first-is}
+use Rattle.meaning.specs.Told.{ofUnit, ofPage, same, opens, gives, only, topBy, topOf, takes, total, givenBy, recordOf, declare, joinAt, shelfBy, shelfOf}
+use Rattle.meaning.specs.Lines.{Good}
+use Rattle.meaning.proofs.Tabulate.{none-some, only-true, only-is}
+use Rattle.meaning.proofs.Regions.{start, same-self, both-left, both-right}
+use Rattle.meaning.proofs.Fits.{free, fine-bus}
+use Rattle.meaning.proofs.Grown.{Grown}
+use Rattle.meaning.proofs.Members.{top-in, in-top, given-in, in-given, first-is}
 use Rattle.promise.specs.Says.{Declares, Gives, IsVc, recordsBy, recordsOf, unitLines}
 use Rattle.promise.specs.Faults.{Before}
 

@@ -17,7 +17,7 @@ use Rattle.line.specs.declared.Line.{Line}
 use Rattle.line.specs.declared.Reading.{Reading}
 use Rattle.line.specs.declared.Reading.the-variants.{Good as Read, Bad}
 use Rattle.table.specs.Load.{readingsOf}
-use Rattle.told.proofs.Grown.{decide}
+use Rattle.meaning.proofs.Grown.{decide}
 use Rattle.paper.specs.Words.{wordsOf, textOf, AllInRange}
 use Rattle.promise.specs.Refusals.{Ends, newline, no-newline, empty-text}
 use Rattle.paper.proofs.Fields.{Cut, cut, split-last, split-front, words-without}

@@ -12,8 +12,8 @@ use Rattle.line.specs.Ranged.{ranged, aimOf}
 use Rattle.line.specs.Units.{settingsOn, settingsOf, limitsIn, limitsOf}
 use Rattle.line.specs.Lines.{busLine, unitLine, keyOf, wayOf, vpLine, lineOf, wordOf, spoken, readingOf}
 use Rattle.judge.specs.Judge.{judgeBus, judgeUnit, judgeVp}
-use Rattle.told.specs.Told.{same as same-whose, opens, gives, topOf, total, recordOf, declare, shelfBy, shelfOf}
-use Rattle.told.specs.Lines.{judge, run}
+use Rattle.meaning.specs.Told.{same as same-whose, opens, gives, topOf, total, recordOf, declare, shelfBy, shelfOf}
+use Rattle.meaning.specs.Lines.{judge, run}
 use Rattle.table.specs.Load.{readingsOf, ranOf, loadingOf, load}
 use Rattle.promise.specs.Starred.{same, path, holds, all-hold, starred}
 

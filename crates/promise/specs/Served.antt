@@ -15,7 +15,7 @@ use Rattle.lookup.specs.declared.Looked.{Looked}
 use Rattle.lookup.specs.declared.Looked.the-variants.{Ignored, Misrouted}
 use Rattle.shelf.specs.declared.Unit as U
 use Rattle.line.specs.declared.Line.{Line}
-use Rattle.told.specs.Served.{Serving, by-vp, by-drop, by-vc, served}
+use Rattle.meaning.specs.Served.{Serving, by-vp, by-drop, by-vc, served}
 
 -- what becomes of a cell: by a `vp` line its VCI is kept, by a `vc` line it is the line's; PT and CLP are kept
 abbrev pub become : Option Serving → H.Header → Looked

@@ -21,7 +21,7 @@ use Rattle.shelf.specs.declared.Side.{Side}
 use Rattle.shelf.specs.declared.Unit as U
 use Rattle.shelf.specs.Shelf.{Shelf}
 use Rattle.line.specs.declared.Line.{Line}
-use Rattle.told.specs.Told.{hearsIn}
+use Rattle.meaning.specs.Told.{hearsIn}
 use Rattle.promise.specs.Served.{lookupAt, saidBy}
 use Rattle.promise.proofs.Runs.{AllInRange}
 use Rattle.answer.specs.Counting.{value, zeros}

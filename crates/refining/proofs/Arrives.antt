@@ -30,8 +30,8 @@ use Rattle.shelf.specs.Shelf.{Shelf}
 use Rattle.line.specs.Ranges.{WayIn}
 use Rattle.line.specs.declared.Line.{Line}
 use Rattle.line.specs.declared.Line.the-variants.{Bus as L·Bus, Unit as L·Unit, Vp, Drop, Page, Vc, Mc}
-use Rattle.told.proofs.Grown.{decide}
-use Rattle.told.specs.Served.{Serving, by-vp, by-drop, by-vc, serves, served}
+use Rattle.meaning.proofs.Grown.{decide}
+use Rattle.meaning.specs.Served.{Serving, by-vp, by-drop, by-vc, serves, served}
 use Rattle.promise.specs.Served.{become, lookedUp}
 use Rattle.promise.proofs.Runs.{AllInRange}
 use Rattle.answer.specs.Answers.{arrivalRises, row}

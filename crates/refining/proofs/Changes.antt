@@ -12,7 +12,7 @@ use Rattle.card.specs.declared.Card.{Card}
 use Rattle.shelf.specs.Shelves as S
 use Rattle.shelf.specs.declared.Unit as U
 use Rattle.shelf.specs.Shelf.{Shelf}
-use Rattle.told.proofs.Grown.{decide}
+use Rattle.meaning.proofs.Grown.{decide}
 use Rattle.soundness.specs.Admission.{unitAt, withUnit}
 use Rattle.document.specs.Counters.{Entry}
 use Rattle.document.specs.Shelf as D

@@ -35,7 +35,7 @@ use Rattle.store.proofs.Queues.{length-cells, cells-pushed, outlet-pushed, outl
 use Rattle.shelf.specs.declared.Unit as U
 use Rattle.shelf.specs.Shelf.{Shelf}
 use Rattle.line.specs.declared.Line.{Line}
-use Rattle.told.specs.Told.{hearsIn}
+use Rattle.meaning.specs.Told.{hearsIn}
 use Rattle.soundness.specs.State.{soundOf}
 use Rattle.answer.specs.declared.Hearing as A
 use Rattle.answer.specs.declared.Hearing.the-variants.{Other, Wide, Full, Clp, Queued}

@@ -24,12 +24,12 @@ use Rattle.line.specs.declared.Line.{Line}
 use Rattle.line.specs.declared.Line.the-variants.{Bus, Unit as L·Unit, Vp, Drop, Page, Vc, Mc}
 use Rattle.soundness.specs.State.{soundOf}
 use Rattle.soundness.proofs.Facts.{sound-find}
-use Rattle.told.specs.Told.{ofUnit, topOf, total, hearsIn, declare, hearing, joinAt, shelfBy, shelfOf, memoryOf}
-use Rattle.told.specs.Lines.{isFirst, Good}
-use Rattle.told.proofs.Regions.{start}
-use Rattle.told.proofs.Fits.{fine-bus, fine-unit}
-use Rattle.told.proofs.Memory.{AllRanged}
-use Rattle.told.proofs.Shelved.{Stands, shelved, declared-more, room-for-one}
+use Rattle.meaning.specs.Told.{ofUnit, topOf, total, hearsIn, declare, hearing, joinAt, shelfBy, shelfOf, memoryOf}
+use Rattle.meaning.specs.Lines.{isFirst, Good}
+use Rattle.meaning.proofs.Regions.{start}
+use Rattle.meaning.proofs.Fits.{fine-bus, fine-unit}
+use Rattle.meaning.proofs.Memory.{AllRanged}
+use Rattle.meaning.proofs.Shelved.{Stands, shelved, declared-more, room-for-one}
 use Rattle.table.specs.Load.{load, loaded as loadedMemory}
 use Rattle.promise.specs.Served.{lookedUp}
 use Rattle.promise.specs.Refusals.{Accepts}

@@ -12,7 +12,7 @@ use Rattle.lookup.specs.Record.{most, usable}
 use Rattle.line.specs.declared.Line.{Line}
 use Rattle.answer.specs.Counting.{zeros}
 use Rattle.answer.specs.declared.Counters as C
-use Rattle.told.specs.Lines.{Good}
+use Rattle.meaning.specs.Lines.{Good}
 use Rattle.table.specs.declared.Outcome.the-variants.{Loaded, Refused}
 use Rattle.table.specs.Load.{load}
 use Rattle.table.specs.Loads.{answerOf}

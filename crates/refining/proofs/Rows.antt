@@ -19,7 +19,7 @@ use Rattle.answer.specs.declared.Counters as C
 use Rattle.answer.proofs.Settling.{raised-value, settled-row, settled-ahead, settled-behind}
 use Rattle.framing.specs.Sending.{sentRises}
 use Rattle.framing.proofs.Bits.{takenIf, bit-joined, moved-heard, sent-low, bit-three}
-use Rattle.told.proofs.Grown.{decide}
+use Rattle.meaning.proofs.Grown.{decide}
 use Rattle.paper.proofs.Counters.{placed, tallies, Agree, agree, agree-hearing}
 use Rattle.paper.specs.Counters.{Counter, sent, unheard, placeOf, hearingCounts, sentCounts, occurs}
 use Rattle.document.specs.Counters.{Entry, entries, matches, times, counterOf}

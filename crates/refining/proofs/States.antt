@@ -14,8 +14,8 @@ use Rattle.bus.specs.declared.Heard as H
 use Rattle.store.specs.Places.{Cell}
 use Rattle.lookup.specs.Record.{usable, recordAt}
 use Rattle.line.specs.declared.Line.{Line}
-use Rattle.told.specs.Told.{shelfOf}
-use Rattle.told.specs.Lines.{done}
+use Rattle.meaning.specs.Told.{shelfOf}
+use Rattle.meaning.specs.Lines.{done}
 use Rattle.lookup.specs.Lookup.{soundHeader, translated}
 use Rattle.lookup.specs.declared.Looked as L
 use Rattle.lookup.specs.declared.Looked.the-variants as looked

@@ -50,7 +50,7 @@ use Rattle.document.specs.Steps as document
 use Rattle.running.specs.Events.{World, Outcome, ended, countSaid, happens}
 use Rattle.refining.proofs.Alike.{Alike, RowAlike, WorldAlike}
 use Rattle.document.proofs.Fixed.{givenOf, left-kept, framed-kept}
-use Rattle.told.proofs.Grown.{decide}
+use Rattle.meaning.proofs.Grown.{decide}
 use Rattle.framing.specs.Moves as framing·
 use Rattle.framing.specs.Frames as framing
 use Rattle.framing.specs.Sending.{sentRises}

@@ -24,7 +24,7 @@ use Rattle.store.specs.Rings.{popped}
 use Rattle.store.proofs.Queues.{length-cells, outlet-popped}
 use Rattle.shelf.specs.declared.Unit as U
 use Rattle.shelf.specs.Shelf.{Shelf}
-use Rattle.told.proofs.Grown.{decide}
+use Rattle.meaning.proofs.Grown.{decide}
 use Rattle.answer.specs.Answers.{#taken}
 use Rattle.answer.specs.declared.Answer.the-variants.{Empty}
 use Rattle.soundness.specs.Admission.{unitAt, withQueue}

@@ -23,13 +23,13 @@ use Rattle.line.specs.declared.Line.{Line}
 use Rattle.line.specs.declared.Line.the-variants.{Bus, Unit as L·Unit, Vp, Drop, Page, Vc, Mc}
 use Rattle.judge.specs.declared.Verdict.the-variants.{Fine}
 use Rattle.judge.specs.Verdicts.{taken}
-use Rattle.told.specs.Told.{Whose, ofUnit, ofPage, same, Opening, opens, gives, total, else, givenBy, recordOf, regionBy, regions, records, memoryOf}
-use Rattle.told.specs.Lines.{judge, Good}
-use Rattle.told.proofs.Tabulate.{tabulate-at, tabulate-length, some-inj, none-some, only-true, only-is}
-use Rattle.told.proofs.Regions.{regions-length, same-is, both-left, both-right}
-use Rattle.told.proofs.Fits.{free, fine-vp, fine-drop, fine-page, fine-vc}
-use Rattle.told.proofs.Grown.{decide}
-use Rattle.told.proofs.Memory.{fits-room}
+use Rattle.meaning.specs.Told.{Whose, ofUnit, ofPage, same, Opening, opens, gives, total, else, givenBy, recordOf, regionBy, regions, records, memoryOf}
+use Rattle.meaning.specs.Lines.{judge, Good}
+use Rattle.meaning.proofs.Tabulate.{tabulate-at, tabulate-length, some-inj, none-some, only-true, only-is}
+use Rattle.meaning.proofs.Regions.{regions-length, same-is, both-left, both-right}
+use Rattle.meaning.proofs.Fits.{free, fine-vp, fine-drop, fine-page, fine-vc}
+use Rattle.meaning.proofs.Grown.{decide}
+use Rattle.meaning.proofs.Memory.{fits-room}
 use Rattle.paper.specs.Words.{TargetIn, InRange, AllInRange}
 use Rattle.paper.proofs.Ranges.{sayable-iff}
 use Rattle.paper.proofs.Cells.{routing-of}

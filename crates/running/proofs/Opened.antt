@@ -24,12 +24,12 @@ use Rattle.soundness.specs.State.{soundOf}
 use Rattle.soundness.proofs.Facts.{sound-find}
 use Rattle.line.specs.declared.Line.{Line}
 use Rattle.line.specs.declared.Line.the-variants.{Bus, Unit as L·Unit, Vp, Drop, Page, Vc, Mc}
-use Rattle.told.specs.Told.{ofUnit, topOf, total, hearsIn, hearing, declare, joinAt, shelfBy, shelfOf}
-use Rattle.told.specs.Lines.{isFirst, Good}
-use Rattle.told.proofs.Fits.{fine-bus}
-use Rattle.told.proofs.Memory.{AllRanged}
-use Rattle.told.proofs.Members.{in-bus, heard-in, in-heard}
-use Rattle.told.proofs.Shelved.{Shelved, shelved, place-left}
+use Rattle.meaning.specs.Told.{ofUnit, topOf, total, hearsIn, hearing, declare, joinAt, shelfBy, shelfOf}
+use Rattle.meaning.specs.Lines.{isFirst, Good}
+use Rattle.meaning.proofs.Fits.{fine-bus}
+use Rattle.meaning.proofs.Memory.{AllRanged}
+use Rattle.meaning.proofs.Members.{in-bus, heard-in, in-heard}
+use Rattle.meaning.proofs.Shelved.{Shelved, shelved, place-left}
 use Rattle.promise.specs.Says.{recordsOf, unitLines}
 use Rattle.promise.proofs.Said.{records-total, units-count}
 use Rattle.running.specs.Opened.{noUnit, emptyBus, Declared, Opened}

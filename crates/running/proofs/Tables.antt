@@ -12,8 +12,8 @@ use Rattle.lookup.specs.Record.{usable, cleared}
 use Rattle.line.specs.declared.Line.{Line}
 use Rattle.shelf.specs.Shelves.{fresh}
 use Rattle.soundness.specs.State.{soundOf}
-use Rattle.told.specs.Told.{shelfOf}
-use Rattle.told.proofs.Shelved.{shelved}
+use Rattle.meaning.specs.Told.{shelfOf}
+use Rattle.meaning.proofs.Shelved.{shelved}
 use Rattle.answer.specs.Counting as C·
 use Rattle.answer.specs.declared.Counters as C
 use Rattle.answer.proofs.Settling.{settled-next}

@@ -22,11 +22,11 @@ use Rattle.text.specs.Text.{split}
 use Rattle.judge.specs.declared.Verdict.{Verdict}
 use Rattle.judge.specs.declared.Verdict.the-variants.{Form}
 use Rattle.judge.specs.Verdicts.{numberOf, isFine}
-use Rattle.told.specs.Told.{total, recordOf, records, shelfOf, memoryOf}
-use Rattle.told.specs.Lines.{judge, verdictOn, with, Ran, done, stopped, run, Good}
-use Rattle.told.proofs.Regions.{regions-length}
-use Rattle.told.proofs.Grown.{decide}
-use Rattle.told.proofs.Memory.{Ranged, AllRanged, fits-room}
+use Rattle.meaning.specs.Told.{total, recordOf, records, shelfOf, memoryOf}
+use Rattle.meaning.specs.Lines.{judge, verdictOn, with, Ran, done, stopped, run, Good}
+use Rattle.meaning.proofs.Regions.{regions-length}
+use Rattle.meaning.proofs.Grown.{decide}
+use Rattle.meaning.proofs.Memory.{Ranged, AllRanged, fits-room}
 use Rattle.table.specs.Load.{readingsOf, ranOf, progressOf, toldIn, tooLittle, refusal, loadingOf, memoryRan, load, loaded}
 use Rattle.table.specs.InPlace.{stateOf, stateRan, stateLoaded}
 use Rattle.table.specs.declared.Outcome.the-variants.{Loaded, Refused}

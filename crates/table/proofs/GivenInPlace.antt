@@ -35,8 +35,8 @@ use Rattle.soundness.proofs.Sounding.{lanes-at, lanes-all}
 use Rattle.judge.proofs.Owning.{found-in}
 use Rattle.line.specs.declared.Line.{Line}
 use Rattle.line.specs.declared.Line.the-variants.{Bus, Unit as L·Unit, Vp, Drop, Page, Vc, Mc}
-use Rattle.told.specs.Told.{declare, hearing, joinAt, shelfBy}
-use Rattle.told.proofs.Memory.{Ranged}
+use Rattle.meaning.specs.Told.{declare, hearing, joinAt, shelfBy}
+use Rattle.meaning.proofs.Memory.{Ranged}
 use Rattle.table.specs.GivenInPlace.{joinedAt, stateBy}
 
 -- there is a place for a unit that a line declares

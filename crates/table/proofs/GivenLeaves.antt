@@ -10,7 +10,7 @@ use Rattle.lookup.specs.declared.Record as R
 use Rattle.judge.specs.declared.Owner.{Owner}
 use Rattle.judge.specs.Verdicts.{pageIn}
 use Rattle.judge.specs.Owners.{spot}
-use Rattle.told.specs.Enact.{putBy, putIn, putVc}
+use Rattle.meaning.specs.Enact.{putBy, putIn, putVc}
 
 module _ (card : Card) (memory : List ℕ) (o : Owner) (vpi : ℕ) (r : R.Record) where
   pub path-none : not (o .known) ≡ true → memory ≡ putBy card memory o vpi r

@@ -6,9 +6,9 @@ use Rattle.card.specs.declared.Card.{Card}
 use Rattle.lookup.specs.Record.{usable}
 use Rattle.state.specs.Bytes.{shelfIn}
 use Rattle.state.proofs.Afresh.{fresh-shelf}
-use Rattle.told.specs.Told.{shelfOf}
-use Rattle.told.specs.Lines.{Ran, done, stopped}
-use Rattle.told.proofs.Grown.{decide}
+use Rattle.meaning.specs.Told.{shelfOf}
+use Rattle.meaning.specs.Lines.{Ran, done, stopped}
+use Rattle.meaning.proofs.Grown.{decide}
 use Rattle.table.proofs.GivenInPlace.{Well, fresh-well}
 use Rattle.table.specs.Load.{ranOf, tooLittle, loadingOf, isLong, load}
 use Rattle.table.specs.InPlace.{stateRan, stateLoaded}

@@ -10,8 +10,8 @@ use Rattle.card.specs.declared.Card.{Card}
 use Rattle.lookup.specs.Record.{usable}
 use Rattle.table.specs.Loading.{Loading}
 use Rattle.table.specs.Load.{ranOf, tooLittle, loadingOf, isLong, load}
-use Rattle.told.specs.Told.{shelfOf}
-use Rattle.told.specs.Lines.{Ran, done, stopped}
+use Rattle.meaning.specs.Told.{shelfOf}
+use Rattle.meaning.specs.Lines.{Ran, done, stopped}
 
 chosen : (P : Loading → Type 0) (b : Bool) {x y : Loading} → (b ≡ true → P x) → (b ≡ false → P y) → P (cond b x y)
 chosen P true px py = px refl

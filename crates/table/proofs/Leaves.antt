@@ -9,7 +9,7 @@ use Rattle.line.specs.declared.Reading.{Reading}
 use Rattle.judge.specs.declared.Verdict.{Verdict}
 use Rattle.judge.specs.declared.Verdict.the-variants.{Fine, Form, Order, Twice, Wide, Room}
 use Rattle.judge.specs.Verdicts.{isFine}
-use Rattle.told.specs.Enact.{usedIn, memoryIn}
+use Rattle.meaning.specs.Enact.{usedIn, memoryIn}
 use Rattle.table.specs.Load.{progressBy, memoryAfter}
 use Rattle.table.specs.InPlace.{stateRead, stateAfter}
 use Rattle.table.specs.declared.Progress.{Progress}

@@ -10,10 +10,10 @@ use Rattle.state.proofs.Afresh.{fresh-shelf}
 use Rattle.line.specs.declared.Line.{Line}
 use Rattle.line.specs.declared.Line.the-variants.{Bus, Unit as L·Unit, Vp, Drop, Page, Vc, Mc}
 use Rattle.judge.specs.declared.Verdict.the-variants.{Fine}
-use Rattle.told.specs.Told.{total, shelfBy, shelfOf}
-use Rattle.told.specs.Lines.{judge, Good}
-use Rattle.told.proofs.Memory.{Ranged, AllRanged}
-use Rattle.told.proofs.Shelved.{shelved, place-left}
+use Rattle.meaning.specs.Told.{total, shelfBy, shelfOf}
+use Rattle.meaning.specs.Lines.{judge, Good}
+use Rattle.meaning.proofs.Memory.{Ranged, AllRanged}
+use Rattle.meaning.proofs.Shelved.{shelved, place-left}
 use Rattle.table.proofs.GivenInPlace.{Roomy, Well, fresh-well, state-well, state-decodes}
 use Rattle.table.specs.InPlace.{stateOf}
 

@@ -26,15 +26,15 @@ use Rattle.line.proofs.Ranges.{read-in-range}
 use Rattle.judge.specs.declared.Verdict.{Verdict}
 use Rattle.judge.specs.declared.Verdict.the-variants.{Fine}
 use Rattle.judge.specs.Verdicts.{isFine}
-use Rattle.told.specs.Told.{Whose, total, opens, takes, shelfOf, recordOf, memoryOf}
-use Rattle.told.specs.Lines.{isFirst, judge, verdictOn, run, done, stopped, Good}
+use Rattle.meaning.specs.Told.{Whose, total, opens, takes, shelfOf, recordOf, memoryOf}
+use Rattle.meaning.specs.Lines.{isFirst, judge, verdictOn, run, done, stopped, Good}
 use Rattle.judge.specs.Owners.{unitOf, ownerOf}
-use Rattle.told.specs.Enact.{verdictAt, memoryBy, Places}
+use Rattle.meaning.specs.Enact.{verdictAt, memoryBy, Places}
 use Rattle.table.specs.GivenInPlace.{stateBy}
-use Rattle.told.proofs.Grown.{decide, grown}
-use Rattle.told.proofs.Memory.{Ranged, AllRanged, fits-room, records-hold, memory-none}
-use Rattle.told.proofs.Shelved.{shelved, place-left}
-use Rattle.told.proofs.Agree.{judge-agree, memory-agree}
+use Rattle.meaning.proofs.Grown.{decide, grown}
+use Rattle.meaning.proofs.Memory.{Ranged, AllRanged, fits-room, records-hold, memory-none}
+use Rattle.meaning.proofs.Shelved.{shelved, place-left}
+use Rattle.meaning.proofs.Agree.{judge-agree, memory-agree}
 use Rattle.table.specs.Load.{readingsOf, ranOf, progressBy, memoryAfter, verdictIn, progressOf, toldIn}
 use Rattle.table.specs.InPlace.{stateAfter, stateOf}
 use Rattle.table.specs.declared.Progress.{Progress}

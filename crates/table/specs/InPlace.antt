@@ -10,8 +10,8 @@ use Rattle.line.specs.declared.Reading.{Reading}
 use Rattle.line.specs.declared.Reading.the-variants.{Good, Bad}
 use Rattle.judge.specs.declared.Verdict.{Verdict}
 use Rattle.judge.specs.Verdicts.{isFine}
-use Rattle.told.specs.Told.{total, shelfOf}
-use Rattle.told.specs.Lines.{Ran, done, stopped}
+use Rattle.meaning.specs.Told.{total, shelfOf}
+use Rattle.meaning.specs.Lines.{Ran, done, stopped}
 use Rattle.table.specs.GivenInPlace.{stateBy}
 use Rattle.table.specs.Load.{ranOf, tooLittle, isLong}
 use Rattle.table.specs.declared.Progress.{Progress}

@@ -20,9 +20,9 @@ use Rattle.table.specs.declared.Outcome.{Outcome}
 use Rattle.table.specs.declared.Outcome.the-variants.{Loaded, Refused}
 use Rattle.table.specs.Loading.{Loading}
 use Rattle.judge.specs.Verdicts.{numberOf, isFine}
-use Rattle.told.specs.Told.{total, shelfOf, memoryOf}
-use Rattle.told.specs.Enact.{verdictAt, usedIn, memoryIn}
-use Rattle.told.specs.Lines.{Ran, done, stopped, run}
+use Rattle.meaning.specs.Told.{total, shelfOf, memoryOf}
+use Rattle.meaning.specs.Enact.{verdictAt, usedIn, memoryIn}
+use Rattle.meaning.specs.Lines.{Ran, done, stopped, run}
 
 -- one line more: the bytes used, the lines read, and the verdict on it
 unfoldable pub progressBy : Verdict → Progress → Reading → Progress

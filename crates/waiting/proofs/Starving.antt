@@ -11,8 +11,8 @@ use Rattle.header.specs.Fields.{fields, topOf, word}
 use Rattle.header.specs.Check.{check as header-check}
 use Rattle.arbiter.specs.Arbitration.{nobody, asking, due, renewedFrom, run, cyclic, someAsks, highest, first, granted}
 use Rattle.shelf.specs.Shelves.{placeFrom}
-use Rattle.told.specs.Told.{hearsBy, hearsIn, same as same-whose, opens, gives as gives-record, recordOf, total, declare, joinAt, shelfBy, shelfOf, topOf as top-told}
-use Rattle.told.specs.Served.{serves, served}
+use Rattle.meaning.specs.Told.{hearsBy, hearsIn, same as same-whose, opens, gives as gives-record, recordOf, total, declare, joinAt, shelfBy, shelfOf, topOf as top-told}
+use Rattle.meaning.specs.Served.{serves, served}
 use Rattle.answer.specs.Answers.{queuedOne, isAddressed}
 use Rattle.answer.specs.declared.Arrival.the-variants as arrival
 use Rattle.answer.specs.declared.Answer.the-variants.{Refused, Arrived, Framed}
@@ -27,7 +27,7 @@ use Rattle.answer.specs.Counting.{zeros}
 use Rattle.card.specs.declared.Card.{Card}
 use Rattle.lookup.specs.Record.{usable}
 use Rattle.line.specs.declared.Line.{Line}
-use Rattle.told.specs.Lines.{Good, judge}
+use Rattle.meaning.specs.Lines.{Good, judge}
 use Rattle.paper.specs.Words.{textOf, AllInRange, numeralTo, numeral, fieldsOf, parted, wordsOf}
 use Rattle.promise.specs.Says.{unitLines}
 use Rattle.promise.specs.Refusals.{Accepts}

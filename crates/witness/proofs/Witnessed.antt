@@ -18,8 +18,8 @@ use Rattle.line.specs.Ranged.{ranged, aimOf}
 use Rattle.line.specs.Units.{settingsOn, settingsOf, limitsIn, limitsOf}
 use Rattle.line.specs.Lines.{busLine, unitLine, keyOf, wayOf, vpLine, dropLine, pageLine, vcOn, vcLine, mcLine, lineOf, wordOf, spoken, readingOf}
 use Rattle.judge.specs.Judge.{judgeBus, judgeUnit, judgeVp, judgeDrop, judgePage, judgeVc, judgeMc}
-use Rattle.told.specs.Told.{same as same-whose, opens, gives as gives-record, hearsBy, topOf, total, recordOf, hearsIn, declare, joinAt, shelfBy, shelfOf}
-use Rattle.told.specs.Lines.{judge, run, Good}
+use Rattle.meaning.specs.Told.{same as same-whose, opens, gives as gives-record, hearsBy, topOf, total, recordOf, hearsIn, declare, joinAt, shelfBy, shelfOf}
+use Rattle.meaning.specs.Lines.{judge, run, Good}
 use Rattle.table.specs.declared.Outcome.the-variants as outcome
 use Rattle.line.specs.declared.Line.the-variants.{Bus}
 use Rattle.promise.specs.Narrow.{FirstWide}

@@ -1,6 +1,6 @@
 -- `table::begin` meets its contract. Assumes nothing.
 use mathlib.Core.Path.{refl}
-use Rattle.told.specs.Told.{total}
+use Rattle.meaning.specs.Told.{total}
 use Rattle.table.proofs.begin.Statement.{statement}
 use Rattle.table.proofs.begin.Tie as tie
 

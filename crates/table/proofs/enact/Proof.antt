@@ -7,7 +7,7 @@ use Rattle.lookup.specs.Record.{size, recordAt}
 use Rattle.state.specs.Bytes.{shelfIn}
 use Rattle.line.specs.declared.Reading.the-variants.{Good}
 use Rattle.judge.specs.Standing.{judgeBy}
-use Rattle.told.specs.Enact.{memoryBy}
+use Rattle.meaning.specs.Enact.{memoryBy}
 use Rattle.table.proofs.Leaves.{step-stopped, memory-kept, state-kept, step-fine, memory-enacted, state-enacted, fine-is}
 use borrow.Author.Needs.{needs}
 use Rattle.table.proofs.enact.Statement.{statement}

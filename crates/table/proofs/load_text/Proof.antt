@@ -2,7 +2,7 @@
 use mathlib.Core.Path.{sym, ap, ap₂, _∙_}
 use borrow.Author.Tests.{not-true, not-false}
 use Rattle.lookup.specs.Record.{usable, cleared}
-use Rattle.told.specs.Told.{memoryOf}
+use Rattle.meaning.specs.Told.{memoryOf}
 use Rattle.table.specs.Load.{progressOf, toldIn, ranOf}
 use Rattle.table.specs.InPlace.{stateOf}
 use Rattle.table.specs.declared.Outcome.the-variants.{Refused}

@@ -11,9 +11,9 @@ use Rattle.state.specs.Bytes.{shelfIn}
 use Rattle.line.specs.declared.Line.{Line}
 use Rattle.judge.specs.declared.Verdict.the-variants.{Fine}
 use Rattle.judge.specs.Verdicts.{isFine}
-use Rattle.told.specs.Told.{total, memoryOf}
-use Rattle.told.specs.Enact.{Places}
-use Rattle.told.proofs.Memory.{memory-none}
+use Rattle.meaning.specs.Told.{total, memoryOf}
+use Rattle.meaning.specs.Enact.{Places}
+use Rattle.meaning.proofs.Memory.{memory-none}
 use Rattle.table.specs.Load.{progressBy, memoryAfter, verdictIn, progressOf, toldIn, ranOf}
 use Rattle.table.specs.InPlace.{stateAfter, stateOf}
 use Rattle.table.proofs.Turns.{Between, at-start, at-end, used-most, lines-most, state-long, step-places, stop-progress, stop-memory, stop-state, on}

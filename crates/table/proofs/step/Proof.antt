@@ -2,7 +2,7 @@
 use mathlib.Core.Path.{_≡_, sym, ap, subst, _∙_}
 use Rattle.state.specs.Bytes.{shelfIn}
 use Rattle.judge.specs.declared.Verdict.the-variants.{Fine}
-use Rattle.told.specs.Enact.{Places}
+use Rattle.meaning.specs.Enact.{Places}
 use Rattle.table.specs.Load.{progressBy, memoryAfter, verdictIn}
 use Rattle.table.specs.InPlace.{stateAfter}
 use borrow.Author.Needs.{needs}

@@ -1,5 +1,5 @@
 -- `table::takes` meets its contract. Assumes nothing.
-use Rattle.told.specs.Told.{opens}
+use Rattle.meaning.specs.Told.{opens}
 use native.Mathlib.Omega.{arith}
 use borrow.Author.Needs.{needs}
 use Rattle.table.proofs.takes.Statement.{statement}

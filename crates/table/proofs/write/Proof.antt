@@ -1,7 +1,7 @@
 -- `table::write` meets its contract. Assumes nothing.
 use mathlib.Core.Path.{ap, _∙_}
 use Rattle.lookup.specs.declared.Record.the-variants.{Route}
-use Rattle.told.specs.Enact.{putBy, putVc, memoryBy}
+use Rattle.meaning.specs.Enact.{putBy, putVc, memoryBy}
 use borrow.Author.Needs.{needs}
 use Rattle.table.proofs.write.Statement.{statement}
 use Rattle.table.proofs.write.Tie as tie
