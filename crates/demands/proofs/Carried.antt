@@ -41,6 +41,9 @@ use Rattle.fates.proofs.Holding.{held-means-held}
 use Rattle.fates.proofs.Going.{frames-go-on}
 use Rattle.fates.proofs.Cleaned.{clean-table-clean-bus}
 use Rattle.fates.proofs.Isolated.{isolation}
+use Rattle.waiting.proofs.Requests.{same-requests}
+use Rattle.waiting.proofs.Bound.{waits-at-most, waits-its-turn}
+use Rattle.waiting.proofs.Starving.{no-bound-below, bound-attained}
 use Rattle.witness.proofs.Witnessed.{listing-prints, bus-alone, all-run, refusals, spoiled-state, link-byte, beyond-loaded, control-asks}
 use Rattle.demands.specs.Demands.{Demand1, Demand2, Demand3, Witnessed}
 
@@ -90,6 +93,10 @@ demand-2 =
       counters-true = counters-true;
       numbers-once = numbers-once;
       frames-go-on = frames-go-on;
+      waits-at-most = waits-at-most;
+      waits-its-turn = waits-its-turn;
+      same-requests = same-requests;
+      no-bound-below = no-bound-below;
       clean-table-clean-bus = clean-table-clean-bus;
       in-order = in-order;
       taken-handed = taken-handed;
@@ -114,4 +121,4 @@ pub demand-3 : Demand3
 demand-3 = record { too-wide = too-wide; wide-or-not = wide-or-not; same-card = same-card }
 
 pub witnessed : Witnessed
-witnessed = record { listing-prints = listing-prints; bus-alone = bus-alone; all-run = all-run; refusals = refusals; spoiled = spoiled-state; link-byte = link-byte; beyond-loaded = beyond-loaded; control-asks = control-asks }
+witnessed = record { listing-prints = listing-prints; bus-alone = bus-alone; all-run = all-run; bound-attained = bound-attained; refusals = refusals; spoiled = spoiled-state; link-byte = link-byte; beyond-loaded = beyond-loaded; control-asks = control-asks }

@@ -74,7 +74,7 @@ no-requests n = by-lt n 32 (getD-replicate 32 n 0 0) (λ h. List·getD-eq-defaul
 
 -- when a request is renewed
 module _ (d : D.Shelf) (n : ℕ) where
-  is-due : Renewed d n → due (d .bus) (d .frame) n ≡ true
+  pub is-due : Renewed d n → due (d .bus) (d .frame) n ≡ true
   unfolding due
   is-due r =
       decide (eqb (d .bus) 32)
@@ -84,7 +84,7 @@ module _ (d : D.Shelf) (n : ℕ) where
       (λ t. rw t)
 
   -- on a 32 bus only so
-  is-renewed : (d .bus ≡ 16) ⊎ (d .bus ≡ 32) → due (d .bus) (d .frame) n ≡ true → Renewed d n
+  pub is-renewed : (d .bus ≡ 16) ⊎ (d .bus ≡ 32) → due (d .bus) (d .frame) n ≡ true → Renewed d n
   unfolding due
   is-renewed bus e =
       ⊎-elim inl
@@ -107,7 +107,7 @@ module _ (d : D.Shelf) where
       renewed-at (d .bus) (d .frame) asksAll 0 (d .arbiter .asks) n h
       ∙ ap (λ k. cond (due (d .bus) (d .frame) k) (getD asksAll k 0) (getD (d .arbiter .asks) n 0)) (sym z)
 
-  beyond : (n : ℕ) → length (d .arbiter .asks) ≤ n → getD (asksOf d) n 0 ≡ 0
+  pub beyond : (n : ℕ) → length (d .arbiter .asks) ≤ n → getD (asksOf d) n 0 ≡ 0
   beyond n h = let many = renewed-many (d .bus) (d .frame) asksAll 0 (d .arbiter .asks) in List·getD-eq-default (asksOf d) 0 {n = n} (omega arith)
 
   -- a request that is not due stands
@@ -135,7 +135,7 @@ module _ (d : D.Shelf) where
     rested none = ap (λ s. s .shelf .arbiter) (let-in d buffer whole) ∙ ap arbiterOf (not-granted (d .arbiter .last) (asksOf d) none)
 
 -- a cell waits when the cells have moved, if one did before; and one is then in turn
-waits-moved : (u : D.Unit) → D.waiting u ≤ D.waiting (movedUnit u)
+pub waits-moved : (u : D.Unit) → D.waiting u ≤ D.waiting (movedUnit u)
 waits-moved u =
     let a = ap length (moved-by (λ v. v .inlet) u (λ back out. refl)) in
     let b = ap length (moved-by (λ v. v .side .controlin) u (λ back out. refl)) in

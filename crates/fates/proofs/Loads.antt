@@ -72,6 +72,13 @@ module _ (card : Card) (told : List Line) (es : List Event) (w : World) (a : Wor
             ap length (t .bytes) ∙ length-returned (t .before) (omega (arith, b)) ∙ b;
       }
 
+  -- State refuses a request at another priority
+  own-ask : (i : ℕ) → i < length (d .units) → (getD (d .arbiter .asks) (D.numberOf (D.unitAt d i)) 0 ≡ 0 → ⊥) → getD (d .arbiter .asks) (D.numberOf (D.unitAt d i)) 0 ≡ D.unitAt d i .settings .priority
+  own-ask i h some =
+      let same = ap (λ u. u .settings) (declared-is card (w .shelf) (w .memory) (w .store) d (a .shelf) i h) ∙ a .shelf .units i h .settings in
+      let ask : getD (d .arbiter .asks) (D.numberOf (D.unitAt d i)) 0 ≡ getD (w .shelf .arbiter .asks) (getD (S.declared (w .shelf)) i S.blank .settings .number) 0 = λ t. getD (sym (a .shelf .arbiter) t .asks) (sym same t .number) 0 in
+      ⊎-elim (λ z. absurd (some (ask ∙ z))) (λ e. ask ∙ e .0 ∙ ap (λ x. x .priority) same) (facts .units i (omega (arith, h, a .shelf .many)) .ask)
+
   stands : Stands d
   stands =
       let same = a .shelf .bus in
@@ -82,6 +89,7 @@ module _ (card : Card) (told : List Line) (es : List Event) (w : World) (a : Wor
         backed = backed (D.opened told) es (backed-first told);
         fours = four-queues;
         units = unit-stands;
+        own = own-ask;
       }
 
 -- what follows from that holds from a good load on

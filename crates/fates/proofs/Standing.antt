@@ -5,7 +5,7 @@ use mathlib.Core.Logic.{_⊎_}
 use mathlib.Core.Bool.{Bool, true, false, cond}
 use mathlib.Core.List.{List, [], _∷_, List·Memᴰ as In}
 use lib.Dec.{eqb}
-use lib.ListN.{length, replicate}
+use lib.ListN.{length, getD, replicate}
 use Rattle.bus.specs.Frame.{heard}
 use Rattle.arbiter.proofs.Requests.{renewed-many}
 use Rattle.arbiter.specs.declared.Arbiter.{Arbiter}
@@ -27,7 +27,7 @@ use Rattle.flow.proofs.Senders.{Backed}
 
 -- there are three last units granted and 32 requests, for ever
 module _ (P : document.Step → Type 0) where
-  at-unit : (f : F.Found) (right : Bool) (inside outside : ℕ → document.Step) → ((place : ℕ) → P (inside place)) → ((number : ℕ) → P (outside number)) → P (document.admitted f right inside outside)
+  pub at-unit : (f : F.Found) (right : Bool) (inside outside : ℕ → document.Step) → ((place : ℕ) → P (inside place)) → ((number : ℕ) → P (outside number)) → P (document.admitted f right inside outside)
   unfolding document.admitted
   at-unit (found.At place) true inside outside h k = h place
   at-unit (found.At place) false inside outside h k = k 10
@@ -49,18 +49,18 @@ unfolding T.takesFrom
 took-from [] d place q buffer = refl
 took-from (c ∷ cells) d place q buffer = refl
 
-took : (l : L.Leaving) (d : D.Shelf) (place : ℕ) (buffer : List ℕ) → T.takesBy l d place buffer .shelf .arbiter ≡ d .arbiter
+pub took : (l : L.Leaving) (d : D.Shelf) (place : ℕ) (buffer : List ℕ) → T.takesBy l d place buffer .shelf .arbiter ≡ d .arbiter
 unfolding T.takesBy
 took (leaves.Queue q) d place buffer = took-from (D.queueAt (D.unitAt d place) q) d place q buffer
 took leaves.Empty d place buffer = refl
 
 -- so do a hand-in and a collect
-handed : (cells : List (List ℕ)) (d : D.Shelf) (place : ℕ) (c : List ℕ) → P.handsInto cells d place c .shelf .arbiter ≡ d .arbiter
+pub handed : (cells : List (List ℕ)) (d : D.Shelf) (place : ℕ) (c : List ℕ) → P.handsInto cells d place c .shelf .arbiter ≡ d .arbiter
 unfolding P.handsInto
 handed [] d place c = refl
 handed (b ∷ others) d place c = refl
 
-collected : (cells : List (List ℕ)) (d : D.Shelf) (place : ℕ) (buffer : List ℕ) → P.collectsFrom cells d place buffer .shelf .arbiter ≡ d .arbiter
+pub collected : (cells : List (List ℕ)) (d : D.Shelf) (place : ℕ) (buffer : List ℕ) → P.collectsFrom cells d place buffer .shelf .arbiter ≡ d .arbiter
 unfolding P.collectsFrom
 collected [] d place buffer = refl
 collected (c ∷ rest) d place buffer = refl
@@ -117,3 +117,5 @@ pub record Stands (d : D.Shelf) : Type 0 where
   pub backed : Backed d
   pub fours : (j : ℕ) → length (D.unitAt d j .queues) ≡ 4
   pub units : (i : ℕ) → i < length (d .units) → UnitStands (D.unitAt d i)
+  -- who asks does so at its own priority
+  pub own : (i : ℕ) → i < length (d .units) → (getD (d .arbiter .asks) (D.numberOf (D.unitAt d i)) 0 ≡ 0 → ⊥) → getD (d .arbiter .asks) (D.numberOf (D.unitAt d i)) 0 ≡ D.unitAt d i .settings .priority
