@@ -44,7 +44,7 @@ use Rattle.fates.specs.Held.{HeldMeansHeld}
 use Rattle.fates.specs.Frames.{FramesGoOn}
 use Rattle.fates.specs.Clean.{CleanTableCleanBus}
 use Rattle.fates.specs.Isolation.{Isolation}
-use Rattle.waiting.specs.Waiting.{WaitsAtMost, WaitsItsTurn, SameRequests, NoBoundBelow, BoundAttained}
+use Rattle.waiting.specs.Waiting.{atThree, WaitsAtMost, WaitsItsTurn, SameRequests, NoBoundBelow, BoundAttained}
 use Rattle.witness.specs.Witness.{ListingPrints, BusAlone, AllRun, Refusals, Spoiled, LinkByte, BeyondLoaded, ControlAsks}
 
 -- 1. "Every entry point takes every input, finishes, and does nothing undefined. A bad table, frame, cell, buffer or shelf state is refused with a fixed number. A refused table leaves
@@ -138,9 +138,9 @@ pub record Demand2 : Type 0 where
   pub frames-go-on : FramesGoOn
   -- 02, W10: "from the frame in which a priority 3 unit's request is taken up, it is granted by the end of the n-th frame, that frame counted as first, n being the number of declared units at
   -- priority 3. It holds on both buses, with any arrivals": in what our shelf gives back, on either card, whatever comes between the frames but a load
-  pub waits-at-most : WaitsAtMost
+  pub waits-at-most : WaitsAtMost atThree
   -- and sharper: only those count that stand in cyclic order after the last one granted at 3, up to the unit itself
-  pub waits-its-turn : WaitsItsTurn
+  pub waits-its-turn : WaitsItsTurn atThree
   -- the requests and the last units granted that both go by are those of our state's bytes
   pub same-requests : SameRequests
   -- "Show too, on a 16 bus, that no such number holds for priority 1 beside a busy priority 3."

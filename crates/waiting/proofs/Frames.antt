@@ -90,7 +90,7 @@ listed (u ∷ us) (suc i) h e =
     let rest = listed us i (omega arith) e in
     decide (eqb (u .settings .priority) 3) (λ t. rw t (List·Memᴰ·tail rest)) (λ t. rw t rest)
 
--- so much holds of the units at priority 3
+-- all that the bound asks of a shelf holds of the units at priority 3
 pub holds : (told : List Line) (d : D.Shelf) → given d ≡ given (D.opened told) → Stands d → GoesOn d → Holds (atThree told) d
 holds told d same s g =
     record {

@@ -2,7 +2,6 @@
 use Prim.Native.Nat.{ℕ, _<_}
 use native.Mathlib.Omega.{arith}
 use mathlib.Core.Path.{ap, _∙_}
-use mathlib.Core.List.{List}
 use lib.ListN.{length}
 use Rattle.soundness.specs.Admission.{unitAt, Housed}
 use Rattle.soundness.proofs.Laws.{sound-housed}

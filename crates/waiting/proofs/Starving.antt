@@ -41,12 +41,18 @@ use Rattle.refining.proofs.Refined.{refines}
 use Rattle.flow.specs.Parts.{among}
 use Rattle.waiting.specs.Waiting.{framesIn, isFrame, TakesUp, saidAt, atThree, Ungranted, NoBoundBelow, BoundAttained}
 use Rattle.waiting.proofs.Bound.{gives-after}
+use Rattle.waiting.specs.Arbiters.{grants, WrongArbiters}
 use Rattle.waiting.specs.Streets.{beside, three, arrives, tick, filled, busy, each, Examples}
 
 -- how the bound counts
 pub examples : Examples
 unfolding framesIn isFrame among unitsOf beside
 examples = record { from-0 = refl; after-0 = refl; after-2 = refl; itself = refl; between = refl; listed = refl; frames = refl }
+
+-- and of which arbiters it is false
+pub wrong-arbiters : WrongArbiters
+unfolding grants run cyclic someAsks highest first granted
+wrong-arbiters = record { right = refl; never-kept = refl; from-last = refl; by-number = refl; lowest-first = refl; dropped = refl }
 
 -- the shelf once the unit of priority 3 is granted for the first time and has a cell more, with any frame number and history
 unfoldable started : Shelf

@@ -82,7 +82,7 @@ fewer-up-to last v unit low few other before may there =
     v may there (lt-leb (turn v v) (turn v unit) (steps v unit low (λ a. omega arith) (λ p a. by-lt unit v (λ l. omega arith) (λ l. absurd (other (omega arith))))))
     (le-leb (turn last v) (turn last unit) before)
 
--- so much for a grant in turn: it is the unit's own, or the unit asks on and is nearer
+-- what comes of a grant in turn: it is the unit's own, or the unit asks on and is nearer
 pub data Turned (may last : List ℕ) (unit : ℕ) (after : Grant) : Type 0 where
   its-own : after .unit ≡ unit → 0 < length (upTo (lastAt last 3) unit may) → Turned may last unit after
   asks-on : getD (after .asks) unit 0 ≡ 3 → length (upTo (lastAt (after .last) 3) unit may) < length (upTo (lastAt last 3) unit may) → Turned may last unit after

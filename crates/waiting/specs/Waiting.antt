@@ -77,6 +77,12 @@ pub record Holds (may : List ℕ) (d : Shelf) : Type 0 where
   pub stand : (n : ℕ) → getD (d .arbiter .asks) n 0 ≡ 3 → getD (asksOf d) n 0 ≡ 3
   pub one : getD (asksOf d) (grantedNow d) 0 ≡ 3 → In (grantedNow d) may
 
+-- from a good load on, of the units that these lines let ask at 3
+abbrev pub HoldsFor : (List Line → List ℕ) → Type 0
+HoldsFor may =
+    (card : Card) (text memory store : List ℕ) (rows : List C.Counters) (told : List Line) →
+    Accepts card text memory (length store) (length rows) told → (es : List Event) → Holds (may told) (becomes (opened told) es)
+
 -- a unit that asks at 3 is granted within so many frames: from a good load on, on either card, in what our shelf gives back after any events, from the frame that takes its request up on, with
 -- any events between the frames; data, control and loopback cells ask
 abbrev pub Within : (List Line → Shelf → ℕ → ℕ) → Type 0
@@ -97,13 +103,13 @@ SameRequests =
     (card : Card) (text memory store : List ℕ) (rows : List C.Counters) (told : List Line) →
     Accepts card text memory (length store) (length rows) told → (es : List Event) → Same (runIn card (loadedIn card text memory store rows) es) (becomes (opened told) es)
 
--- "n being the number of declared units at priority 3"
-abbrev pub WaitsAtMost : Type 0
-WaitsAtMost = Within (λ told d unit. length (atThree told))
+-- of the units that may ask at 3: "n being the number of declared units at priority 3"
+abbrev pub WaitsAtMost : (List Line → List ℕ) → Type 0
+WaitsAtMost may = Within (λ told d unit. length (may told))
 
 -- and sharper: only those count that stand in cyclic order after the last one granted at 3, up to the unit itself
-abbrev pub WaitsItsTurn : Type 0
-WaitsItsTurn = Within (λ told d unit. length (upTo (lastAt (d .arbiter .last) 3) unit (atThree told)))
+abbrev pub WaitsItsTurn : (List Line → List ℕ) → Type 0
+WaitsItsTurn may = Within (λ told d unit. length (upTo (lastAt (d .arbiter .last) 3) unit (may told)))
 
 -- a table and events with which a unit that asks at a priority is not granted in so many frames
 pub record Ungranted (card : Card) (priority n : ℕ) : Type 0 where
