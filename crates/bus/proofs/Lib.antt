@@ -1,4 +1,3 @@
-pub mod Reduced
 pub mod RoutingLaws
 pub mod Laws
 pub mod Wire

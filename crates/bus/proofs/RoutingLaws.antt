@@ -1,21 +1,14 @@
--- The routing header's check four bits at a time; and a routing header says the target and the class that it was made of. Assumes nothing.
-use mathlib.Core.Path.{_≡_, refl, sym, ap, _∙_}
-use mathlib.Core.List.{[], _∷_}
+-- A routing header says the target and the class that it was made of. Assumes nothing.
+use mathlib.Core.Path.{_≡_, sym, ap, _∙_}
 use Prim.Native.Nat.{ℕ, _+_, _*_, _/_, _%_, _<_}
-use native.Mathlib.Nat.{div-one, mod-eq-of-lt}
+use native.Mathlib.Nat.{mod-eq-of-lt}
 use native.Mathlib.Omega.{arith}
 use borrow.Author.Tests.{eq-eqb, ne-eqb, le-leb}
-use Rattle.remainder.specs.Division.{residue}
-use Rattle.remainder.proofs.Laws.{passed, by-symbols, residue-lt}
+use Rattle.remainder.proofs.Laws.{residue-lt}
 use Rattle.bus.specs.Routing.{Sayable, divisor, check, upper, routing, controlling, kindIn, classIn, numberIn, said, address}
 use Rattle.bus.specs.declared.Target.{Target}
 use Rattle.bus.specs.declared.Target.the-variants.{Unit as U·, Session, All}
 use Rattle.bus.specs.declared.Address.the-variants.{Bad, To, Third}
-
--- the check, four bits at a time
-pub check-nibbles : (u : ℕ) → check u ≡ passed (residue divisor 4) 0 (u / 256 % 16 ∷ u / 16 % 16 ∷ u % 16 ∷ [])
-unfolding check
-check-nibbles u = by-symbols divisor 4 refl 2 u ∙ ap (λ n. passed (residue divisor 4) 0 (u / 256 % 16 ∷ u / 16 % 16 ∷ n % 16 ∷ [])) (div-one u)
 
 -- a routing header put together of kind k, class q, number n and check c, and taken apart
 module _ (k q n c : ℕ) (hk : k < 4) (hq : q < 4) (hn : n < 256) (hc : c < 16) where

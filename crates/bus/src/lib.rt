@@ -2,9 +2,8 @@
 // frame is.
 ghost use mathlib.Core.Path.{_≡_};
 ghost use Prim.Native.Nat.{_<_, _≤_};
-ghost use lib.Bits.{bitXor};
 ghost use lib.ListN.{length};
-ghost use Rattle.remainder.specs.Division.{residue};
+ghost use Rattle.remainder.specs.Division.{advance};
 ghost use Rattle.bus.specs.Routing.{divisor, check as checkOf, upper as upperOf, routing as headerOf, controlling, address as addressOf};
 ghost use Rattle.bus.specs.Frame.{parity as parityOf, cell, sealed, third as thirdOf, carried as carriedIn, heard as heardOf, returned as returnedAs};
 
@@ -22,24 +21,27 @@ pub enum Address {
     Third { class: u8, number: u8 },
 }
 
-// What four bits more make of the remainder so far. x^4 leaves x+1, so four bits times x^4 leave themselves times x+1: five bits at most. What
-// stands above the fourth is times x^4 again, and leaves in the same way.
-fn pass(rest: u8, nibble: u8) -> u8
-    ensures { λ r. ⌜ r ≡ residue divisor 4 (bitXor rest nibble) ⌝ }
+// What three bits more make of the remainder so far. x^4 leaves x+1: each of the three, with the bit of the remainder that stands above it, is struck out
+// and leaves itself 0 and 1 places up. Three are as many as go side by side: none of them comes above the fourth bit.
+fn pass(rest: u8, three: u8) -> u8
+    requires { ⌜ (rest < 16) × (three < 8) ⌝ }
+    ensures { λ r. ⌜ r ≡ advance divisor 3 1 rest three ⌝ }
 {
-    let mixed = (rest ^ nibble) % 16;
-    let product = mixed ^ (mixed * 2);
-    let over = product / 16;
-    (product ^ over ^ (over * 2)) % 16
+    let struck = (rest / 2) ^ three;
+    struck ^ (struck * 2) ^ (rest % 2 * 8)
 }
 
-// The check of a routing header's upper 12 bits.
+// The check of a routing header's upper 12 bits, from the highest bit down, with no table.
 pub fn check(upper: u16) -> u8
     ensures { λ r. ⌜ r ≡ checkOf upper ⌝ }
 {
-    let a = pass(0, (upper / 256 % 16) as u8);
-    let b = pass(a, (upper / 16 % 16) as u8);
-    pass(b, (upper % 16) as u8)
+    let mut rest: u8 = 0;
+    let mut left: u16 = 12;
+    while 0 < left {
+        left -= 3;
+        rest = pass(rest, ((upper >> left) % 8) as u8);
+    }
+    rest
 }
 
 // The upper 12 bits of a routing header. A class keeps its two low bits.

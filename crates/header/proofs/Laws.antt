@@ -1,14 +1,9 @@
--- Reading undoes writing and writing undoes reading, at either link; and the check byte by byte. Assumes nothing.
-use mathlib.Core.Path.{_≡_, refl, ap, _∙_}
-use mathlib.Core.List.{[], _∷_}
+-- Reading undoes writing and writing undoes reading, at either link. Assumes nothing.
+use mathlib.Core.Path.{_≡_, ap, _∙_}
 use Prim.Native.Nat.{ℕ, _+_, _*_, _/_, _%_, _^_, _<_}
-use native.Mathlib.Nat.{mod-lt, mod-eq-of-lt, div-one}
+use native.Mathlib.Nat.{mod-lt, mod-eq-of-lt}
 use native.Mathlib.Omega.{arith}
-use lib.Bits.{bitXor}
-use Rattle.remainder.specs.Division.{residue}
-use Rattle.remainder.proofs.Laws.{passed, by-symbols}
 use Rattle.header.specs.Fields.{pathsOf, fields, topOf, word}
-use Rattle.header.specs.Check.{divisor, check}
 use Rattle.header.specs.declared.Link.{Link}
 use Rattle.header.specs.declared.Link.the-variants.{Uni, Nni}
 use Rattle.header.specs.declared.Header.{Header}
@@ -93,11 +88,3 @@ fields-word link h f =
       pt = join-pt t (h .vci) (h .pt) (h .clp) ht (f .vci) (f .pt) (f .clp) i;
       clp = join-clp t (h .vci) (h .pt) (h .clp) ht (f .vci) (f .pt) (f .clp) i;
     })
-
--- the check, byte by byte
-pub check-bytes : (w : ℕ) → check w ≡ bitXor (passed (residue divisor 8) 0 (w / 16777216 % 256 ∷ w / 65536 % 256 ∷ w / 256 % 256 ∷ w % 256 ∷ [])) 0x55
-unfolding check
-check-bytes w =
-    ap (λ r. bitXor r 0x55)
-    (by-symbols divisor 8 refl 3 w
-    ∙ ap (λ n. passed (residue divisor 8) 0 (w / 16777216 % 256 ∷ w / 65536 % 256 ∷ w / 256 % 256 ∷ n % 256 ∷ [])) (div-one w))

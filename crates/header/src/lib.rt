@@ -1,7 +1,7 @@
 // The cell header of I.361 at a UNI and at an NNI, and the header check of I.432.1. A header goes by the number that its four bytes say.
 ghost use mathlib.Core.Path.{_≡_};
-ghost use Rattle.remainder.specs.Division.{residue};
-ghost use lib.Bits.{bitXor};
+ghost use Prim.Native.Nat.{_<_};
+ghost use Rattle.remainder.specs.Division.{advance};
 ghost use Rattle.header.specs.Fields.{highest as highestOn, topOf, fields, word};
 ghost use Rattle.header.specs.Check.{divisor, check as checkOf};
 
@@ -82,24 +82,25 @@ pub fn write(link: Link, h: Header) -> u32
         + (h.clp as u32) % 2
 }
 
-// What one byte more makes of the remainder so far. x^8 leaves x^2+x+1, so the byte times x^8 leaves the byte times x^2+x+1: ten bits at most.
-// What stands above the eighth is times x^8 again, and leaves in the same way.
-fn pass(rest: u8, byte: u8) -> u8
-    ensures { λ r. ⌜ r ≡ residue divisor 8 (bitXor rest byte) ⌝ }
+// What six bits more make of the remainder so far. x^8 leaves x^2+x+1: each of the six, with the bit of the remainder that stands above it, is struck
+// out and leaves itself 0, 1 and 2 places up. Six are as many as go side by side: none of them comes above the eighth bit.
+fn pass(rest: u8, six: u8) -> u8
+    requires { ⌜ six < 64 ⌝ }
+    ensures { λ r. ⌜ r ≡ advance divisor 6 2 rest six ⌝ }
 {
-    let mixed = (rest ^ byte) as u16;
-    let product = mixed ^ (mixed * 2) ^ (mixed * 4);
-    let over = product / 256;
-    ((product ^ over ^ (over * 2) ^ (over * 4)) % 256) as u8
+    let struck = (rest / 4) ^ six;
+    struck ^ (struck * 2) ^ (struck * 4) ^ (rest % 4 * 64)
 }
 
-// The header check.
+// The header check, from the highest bit down, with no table.
 pub fn check(word: u32) -> u8
     ensures { λ r. ⌜ r ≡ checkOf word ⌝ }
 {
-    let a = pass(0, (word / 16777216 % 256) as u8);
-    let b = pass(a, (word / 65536 % 256) as u8);
-    let c = pass(b, (word / 256 % 256) as u8);
-    let d = pass(c, (word % 256) as u8);
-    d ^ 0x55
+    let mut rest: u8 = 0;
+    let mut left: u32 = 36;
+    while 0 < left {
+        left -= 6;
+        rest = pass(rest, ((word >> left) % 64) as u8);
+    }
+    rest ^ 0x55
 }

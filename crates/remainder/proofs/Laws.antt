@@ -4,57 +4,17 @@ use mathlib.Core.Path.{_≡_, refl, sym, ap, ap₂, _∙_}
 use mathlib.Core.Bool.{Bool, true, false, cond}
 use mathlib.Core.List.{List, [], _∷_, _++_, append-assoc, append-nil}
 use Prim.Native.Nat.{ℕ, zero, suc, _+_, _*_, _/_, _%_, _^_, _<_, _≤_}
-use native.Mathlib.Nat.{suc-add, zero-add, le-of-suc-le-suc, not-suc-le-zero, mul-zero, mul-suc, add-comm}
+use native.Mathlib.Nat.{suc-add, zero-add, le-of-suc-le-suc, not-suc-le-zero, add-comm, mul-mod-left, mod-lt, zero-div, div-eq-of-lt}
 use native.Mathlib.Omega.{arith}
 use lib.ListN.{length, length-append, length-replicate}
-use lib.Bits.{bitXor}
-use Rattle.remainder.specs.Bits.{bits, number, bitsOf}
-use Rattle.remainder.specs.Division.{less, minus, divide, zeros, remainder, residue}
+use lib.Bits.{bitXor, xor-lt}
+use lib.Dec.{eqb}
+use lib.Pow.{pow-pos, shl-shr, shl-lt, shr-shr}
+use Rattle.remainder.specs.Bits.{bits, number}
+use Rattle.remainder.specs.Division.{less, minus, divide, zeros, remainder, residue, advance}
+use Rattle.remainder.proofs.Minus.{minus-minus, minus-length, minus-append, minus-heads, minus-zeros, minus-twice, minus-assoc, zeros-add, below}
 use Rattle.remainder.proofs.Digits.{bits-length, bits-xor, bits-append, bits-mod, number-of, number-lt, bits-number}
 
--- subtracting
-less-less : (a b c : Bool) → less (less a b) c ≡ less (less a c) b
-less-less a true true = refl
-less-less a true false = refl
-less-less a false true = refl
-less-less a false false = refl
-
-pub minus-minus : (p q r : List Bool) → minus (minus p q) r ≡ minus (minus p r) q
-unfolding minus
-minus-minus [] q r = refl
-minus-minus (a ∷ p) [] [] = refl
-minus-minus (a ∷ p) [] (c ∷ r) = refl
-minus-minus (a ∷ p) (b ∷ q) [] = refl
-minus-minus (a ∷ p) (b ∷ q) (c ∷ r) = ap₂ _∷_ (less-less a b c) (minus-minus p q r)
-
-pub minus-length : (p q : List Bool) → length (minus p q) ≡ length p
-unfolding minus
-minus-length [] q = refl
-minus-length (a ∷ p) [] = refl
-minus-length (a ∷ p) (b ∷ q) = ap suc (minus-length p q)
-
-minus-append : (p q r : List Bool) → length q ≤ length p → minus (p ++ r) q ≡ minus p q ++ r
-unfolding minus
-minus-append [] [] [] h = refl
-minus-append [] [] (c ∷ r) h = refl
-minus-append [] (b ∷ q) r h = absurd (not-suc-le-zero h)
-minus-append (a ∷ p) [] r h = refl
-minus-append (a ∷ p) (b ∷ q) r h = ap (λ l. less a b ∷ l) (minus-append p q r (le-of-suc-le-suc h))
-
--- zeros less q is q
-pub zeros-minus : (q : List Bool) → minus (zeros (length q)) q ≡ q
-unfolding minus
-zeros-minus [] = refl
-zeros-minus (true ∷ q) = ap (λ l. true ∷ l) (zeros-minus q)
-zeros-minus (false ∷ q) = ap (λ l. false ∷ l) (zeros-minus q)
-
--- s with q below it, as a subtraction from s with zeros below it
-below : (s q : List Bool) → s ++ q ≡ minus (s ++ zeros (length q)) (zeros (length s) ++ q)
-unfolding minus
-below [] q = sym (zeros-minus q)
-below (a ∷ s) q = ap (λ l. a ∷ l) (below s q)
-
--- dividing
 pub divide-length : (g p : List Bool) (n m : ℕ) → length p ≡ n + m → length (divide g n p) ≡ m
 unfolding divide
 divide-length g p zero m h = h ∙ zero-add m
@@ -90,83 +50,130 @@ divide-append g (suc n) (true ∷ p) r h =
     ap (divide g n) (minus-append p g r (omega arith)) ∙ divide-append g n (minus p g) r (omega (arith, minus-length p g))
 divide-append g (suc n) (false ∷ p) r h = divide-append g n p r (omega arith)
 
--- a symbol struck out leaves its own remainder in the next one
-symbol : (g s y r : List Bool) → length g ≡ length y → divide g (length s) (s ++ (y ++ r)) ≡ minus (divide g (length s) (s ++ zeros (length y))) y ++ r
-symbol g s y r e =
-    ap (divide g (length s)) (sym (append-assoc s y r))
-    ∙ divide-append g (length s) (s ++ y) r (omega (arith, length-append s y))
-    ∙ ap (λ p. divide g (length s) p ++ r) (below s y)
-    ∙ ap (λ p. p ++ r) (divide-minus g (length s) (s ++ zeros (length y)) y)
+-- digits p struck out with q below them: as if there were zeros below, less q
+upon : (g p q : List Bool) → divide g (length p) (p ++ q) ≡ minus (divide g (length p) (p ++ zeros (length q))) q
+upon g p q = ap (divide g (length p)) (below p q) ∙ divide-minus g (length p) (p ++ zeros (length q)) q
 
 pub remainder-length : (g p : List Bool) → length (remainder g p) ≡ length g
 unfolding remainder
 remainder-length g p = divide-length g (p ++ zeros (length g)) (length p) (length g) (simp (length-append, length-replicate))
 
--- two symbols are one, with the first one's remainder in it
-joined : (g a b m : List Bool) → length b ≡ length g → remainder g (a ++ (b ++ m)) ≡ remainder g (minus (remainder g a) b ++ m)
+-- digits more: what is left so far is h with t below it. The new ones s come below h, are struck out with it, and leave their own remainder
+further : (g p s h t : List Bool) → remainder g p ≡ h ++ t → length h ≡ length s → remainder g (p ++ s) ≡ minus (remainder g (minus h s)) (t ++ zeros (length s))
 unfolding remainder
-joined g a b m e =
+further g p s h t e l =
+    let n = length s in
     let z = zeros (length g) in
-    let left = minus (remainder g a) b in
-    ap₂ (divide g) (length-append a (b ++ m)) (append-assoc a (b ++ m) z ∙ ap (λ l. a ++ l) (append-assoc b m z))
-    ∙ divide-add g (length a) (length (b ++ m)) (a ++ (b ++ (m ++ z)))
-    ∙ ap (divide g (length (b ++ m))) (symbol g a b (m ++ z) (sym e) ∙ ap (λ k. minus (divide g (length a) (a ++ zeros k)) b ++ (m ++ z)) e)
-    ∙ ap₂ (divide g) (length-append b m ∙ ap (λ k. k + length m) (e ∙ sym (minus-length (remainder g a) b ∙ remainder-length g a)) ∙ sym (length-append left m)) (sym (append-assoc left m z))
-
--- a message of symbols of w bits, from what the symbols before it left
-abbrev pub passed : (ℕ → ℕ) → ℕ → List ℕ → ℕ
-passed t r [] = r
-passed t r (x ∷ xs) = passed t (t (bitXor r x)) xs
+    let q = minus h s in
+    let m : length q ≡ n = minus-length h s ∙ l in
+    let w : length (t ++ zeros n) ≡ length g =
+    length-append t (zeros n) ∙ ap (λ k. length t + k) (length-replicate n false ∙ sym l) ∙ add-comm (length t) (length h)
+    ∙ sym (length-append h t) ∙ ap length (sym e) ∙ remainder-length g p
+    in
+    let so-far : divide g (length p) (p ++ (s ++ z)) ≡ q ++ (t ++ zeros n) =
+    upon g p (s ++ z)
+    ∙ (λ i. minus (divide g (length p) (p ++ (ap zeros (length-append s z ∙ ap (λ k. n + k) (length-replicate (length g) false) ∙ add-comm n (length g)) ∙ zeros-add (length g) n) i)) (s ++ z))
+    ∙ ap (λ r. minus r (s ++ z)) (ap (divide g (length p)) (sym (append-assoc p z (zeros n))) ∙ divide-append g (length p) (p ++ z) (zeros n) (omega (arith, length-append p z, length-replicate (length g) false)) ∙ ap (λ r. r ++ zeros n) e ∙ append-assoc h t (zeros n))
+    ∙ minus-heads h s (t ++ zeros n) z l ∙ ap (λ r. q ++ r) (minus-zeros (t ++ zeros n) (length g))
+    in
+    ap₂ (divide g) (length-append p s) (append-assoc p s z) ∙ divide-add g (length p) n (p ++ (s ++ z)) ∙ ap (divide g n) so-far
+    ∙ ap (λ k. divide g k (q ++ (t ++ zeros n))) (sym m) ∙ upon g q (t ++ zeros n) ∙ ap (λ k. minus (divide g (length q) (q ++ zeros k)) (t ++ zeros n)) w
 
 -- a remainder has as many bits as the divisor's lower part
 pub residue-lt : (g : List Bool) (v n : ℕ) → residue g v n < 2 ^ length g
 unfolding residue
 residue-lt g v n = rw (remainder-length g (bits v n)) at (number-lt (remainder g (bits v n)))
 
--- the k symbols of w bits that a number has, the highest first
-abbrev pub symbols : ℕ → ℕ → ℕ → List ℕ
-symbols w zero n = []
-symbols w (suc k) n = n / 2 ^ (w * k) % 2 ^ w ∷ symbols w k n
+residue-bits : (g : List Bool) (v x : ℕ) → bits (length g) (residue g v x) ≡ remainder g (bits v x)
+unfolding residue
+residue-bits g v x = ap (λ k. bits k (number (remainder g (bits v x)))) (sym (remainder-length g (bits v x))) ∙ bits-number (remainder g (bits v x))
 
-bits-symbols : (w k n : ℕ) → bits (w * k) n ≡ bitsOf w (symbols w k n)
-unfolding bits bitsOf
-bits-symbols w zero n = ap (λ j. bits j n) (mul-zero w)
-bits-symbols w (suc k) n =
-    ap (λ j. bits j n) (mul-suc w k ∙ add-comm (w * k) w) ∙ bits-append w (w * k) n
-    ∙ ap₂ _++_ (sym (bits-mod w (n / 2 ^ (w * k)))) (bits-symbols w k n)
+-- zeros less the digits of zero, and digits with zeros below
+bits-zero : (n : ℕ) → bits n 0 ≡ zeros n
+unfolding bits
+bits-zero zero = refl
+bits-zero (suc n) = ap₂ _∷_ (ap (λ k. eqb (k % 2) 1) (zero-div (2 ^ n))) (bits-zero n)
 
-module _ (g : List Bool) (w : ℕ) (e : length g ≡ w) where
-  residue-bits : (x : ℕ) → bits w (residue g w x) ≡ remainder g (bits w x)
-  unfolding residue
-  residue-bits x = ap (λ k. bits k (number (remainder g (bits w x)))) (sym e ∙ sym (remainder-length g (bits w x))) ∙ bits-number (remainder g (bits w x))
+bits-raised : (d n x : ℕ) → bits (d + n) (x % 2 ^ d * 2 ^ n) ≡ bits d x ++ zeros n
+bits-raised d n x =
+    let y = x % 2 ^ d in
+    bits-append d n (y * 2 ^ n)
+    ∙ ap₂ _++_ (ap (bits d) (shl-shr y n) ∙ bits-mod d x) (sym (bits-mod n (y * 2 ^ n)) ∙ ap (bits n) (mul-mod-left y (2 ^ n)) ∙ bits-zero n)
 
-  residue-below : (x : ℕ) → residue g w x < 2 ^ w
-  residue-below x = rw e at (residue-lt g w x)
+-- zeros in front do not count
+remainder-ahead : (g : List Bool) (j : ℕ) (p : List Bool) → remainder g (zeros j ++ p) ≡ remainder g p
+unfolding remainder divide
+remainder-ahead g zero p = refl
+remainder-ahead g (suc j) p = remainder-ahead g j p
 
-  pub passed-lt : (r : ℕ) (xs : List ℕ) → r < 2 ^ w → passed (residue g w) r xs < 2 ^ w
-  passed-lt r [] h = h
-  passed-lt r (x ∷ xs) h = passed-lt (residue g w (bitXor r x)) xs (residue-below (bitXor r x))
+pub residue-ahead : (g : List Bool) (j v n : ℕ) → n < 2 ^ v → residue g (j + v) n ≡ residue g v n
+unfolding residue
+residue-ahead g j v n h =
+    ap (λ b. number (remainder g b)) (bits-append j v n ∙ ap (λ b. b ++ bits v n) (ap (bits j) (div-eq-of-lt h) ∙ bits-zero j))
+    ∙ ap number (remainder-ahead g j (bits v n))
 
-  two-symbols : (x y : ℕ) (m : List Bool) → remainder g (bits w x ++ (bits w y ++ m)) ≡ remainder g (bits w (bitXor (residue g w x) y) ++ m)
-  two-symbols x y m =
-      joined g (bits w x) (bits w y) m (bits-length w y ∙ sym e)
-      ∙ ap (λ p. remainder g (p ++ m)) (ap (λ q. minus q (bits w y)) (sym (residue-bits x)) ∙ sym (bits-xor w (residue g w x) y))
+-- the number that two numbers' digits leave, one less the other
+number-minus : (w a b : ℕ) → a < 2 ^ w → b < 2 ^ w → number (minus (bits w a) (bits w b)) ≡ bitXor a b
+number-minus w a b ha hb = ap number (sym (bits-xor w a b)) ∙ number-of w (bitXor a b) (xor-lt w a b ha hb)
 
-  message : (x : ℕ) (xs : List ℕ) → remainder g (bitsOf w (x ∷ xs)) ≡ bits w (passed (residue g w) (residue g w x) xs)
-  unfolding bitsOf
-  message x [] = ap (remainder g) (append-nil (bits w x)) ∙ sym (residue-bits x)
-  message x (y ∷ ys) = two-symbols x y (bitsOf w ys) ∙ message (bitXor (residue g w x) y) ys
+-- the remainder of k + n bits, from that of the k high ones
+pub advances : (g : List Bool) (n d : ℕ) → length g ≡ n + d → (k m : ℕ) → residue g (k + n) m ≡ advance g n d (residue g k (m / 2 ^ n)) (m % 2 ^ n)
+unfolding residue advance
+advances g n d e k m =
+    let r = residue g k (m / 2 ^ n) in
+    let h = bitXor (r / 2 ^ d) (m % 2 ^ n) in
+    let s = bits n m in
+    let so-far : remainder g (bits k (m / 2 ^ n)) ≡ bits n (r / 2 ^ d) ++ bits d r =
+    sym (residue-bits g k (m / 2 ^ n)) ∙ ap (λ w. bits w r) e ∙ bits-append n d r
+    in
+    let struck : minus (bits n (r / 2 ^ d)) s ≡ bits n h =
+    ap (minus (bits n (r / 2 ^ d))) (sym (bits-mod n m)) ∙ sym (bits-xor n (r / 2 ^ d) (m % 2 ^ n))
+    in
+    let left : remainder g (bits n h) ≡ bits (n + d) (residue g n h) = sym (residue-bits g n h) ∙ ap (λ w. bits w (residue g n h)) e in
+    let under : bits d r ++ zeros (length s) ≡ bits (n + d) (r % 2 ^ d * 2 ^ n) =
+    ap (λ l. bits d r ++ zeros l) (bits-length n m) ∙ sym (bits-raised d n r) ∙ ap (λ w. bits w (r % 2 ^ d * 2 ^ n)) (add-comm d n)
+    in
+    ap (λ b. number (remainder g b)) (bits-append k n m)
+    ∙ ap number (further g (bits k (m / 2 ^ n)) s (bits n (r / 2 ^ d)) (bits d r) so-far (bits-length n (r / 2 ^ d) ∙ sym (bits-length n m)) ∙ ap₂ minus (ap (remainder g) struck ∙ left) under)
+    ∙ number-minus (n + d) (residue g n h) (r % 2 ^ d * 2 ^ n) (rw e at (residue-lt g n h)) (rw (add-comm d n) at (shl-lt d n (mod-lt r (pow-pos d))))
 
-  -- the remainder of a number of k + 1 symbols is worked out symbol by symbol
-  pub by-symbols : (k n : ℕ) → residue g (w * suc k) n ≡ passed (residue g w) 0 (symbols w (suc k) n)
-  unfolding residue
-  by-symbols k n =
-      let x = n / 2 ^ (w * k) % 2 ^ w in
-      let xs = symbols w k n in
-      ap (λ b. number (remainder g b)) (bits-symbols w (suc k) n)
-      ∙ ap number (message x xs) ∙ number-of w (passed (residue g w) (residue g w x) xs) (passed-lt (residue g w x) xs (residue-below x))
+-- the same of a number's bits from place j up: what a loop from the highest bit down does
+pub advances-from : (g : List Bool) (n d : ℕ) → length g ≡ n + d → (k j m : ℕ) → residue g (k + n) (m / 2 ^ j) ≡ advance g n d (residue g k (m / 2 ^ (j + n))) (m / 2 ^ j % 2 ^ n)
+advances-from g n d e k j m = advances g n d e k (m / 2 ^ j) ∙ ap (λ x. advance g n d (residue g k x) (m / 2 ^ j % 2 ^ n)) (shr-shr m j n)
 
-  -- what stands above a symbol does not count
-  pub residue-mod : (n : ℕ) → residue g w (n % 2 ^ w) ≡ residue g w n
-  unfolding residue
-  residue-mod n = ap (λ b. number (remainder g b)) (bits-mod w n)
+-- the remainder is linear: a step on what is left of two, one less the other
+step-linear : (a b : Bool) (g p q : List Bool) → length p ≡ length q → cond (less a b) (minus (minus p q) g) (minus p q) ≡ minus (cond a (minus p g) p) (cond b (minus q g) q)
+step-linear true true g p q e =
+    sym (minus-assoc (minus p g) q g (minus-length p g ∙ e) ∙ ap (λ r. minus r g) (minus-minus p g q) ∙ minus-twice (minus p q) g)
+step-linear true false g p q e = minus-minus p q g
+step-linear false true g p q e = sym (minus-assoc p q g e)
+step-linear false false g p q e = refl
+
+stepped-length : (a : Bool) (g p : List Bool) → length (cond a (minus p g) p) ≡ length p
+stepped-length true g p = minus-length p g
+stepped-length false g p = refl
+
+divide-linear : (g : List Bool) (n : ℕ) (p q : List Bool) → length p ≡ length q → divide g n (minus p q) ≡ minus (divide g n p) (divide g n q)
+unfolding divide minus
+divide-linear g zero p q e = refl
+divide-linear g (suc n) [] q e = refl
+divide-linear g (suc n) (a ∷ p) [] e = absurd (not-suc-le-zero {n = length p} (omega arith))
+divide-linear g (suc n) (a ∷ p) (b ∷ q) e =
+    let l : length p ≡ length q = omega arith in
+    ap (divide g n) (step-linear a b g p q l)
+    ∙ divide-linear g n (cond a (minus p g) p) (cond b (minus q g) q) (stepped-length a g p ∙ l ∙ sym (stepped-length b g q))
+
+remainder-linear : (g p q : List Bool) → length p ≡ length q → remainder g (minus p q) ≡ minus (remainder g p) (remainder g q)
+unfolding remainder
+remainder-linear g p q e =
+    let z = zeros (length g) in
+    ap₂ (divide g) (minus-length p q) (ap (λ l. minus p q ++ l) (sym (minus-zeros z (length g))) ∙ sym (minus-heads p q z z e))
+    ∙ divide-linear g (length p) (p ++ z) (q ++ z) (length-append p z ∙ ap (λ k. k + length z) e ∙ sym (length-append q z))
+    ∙ ap (λ k. minus (divide g (length p) (p ++ z)) (divide g k (q ++ z))) e
+
+pub residue-linear : (g : List Bool) (v a b : ℕ) → residue g v (bitXor a b) ≡ bitXor (residue g v a) (residue g v b)
+unfolding residue
+residue-linear g v a b =
+    let w = length g in
+    ap (λ p. number (remainder g p)) (bits-xor v a b) ∙ ap number (remainder-linear g (bits v a) (bits v b) (bits-length v a ∙ sym (bits-length v b)))
+    ∙ ap₂ (λ p q. number (minus p q)) (sym (residue-bits g v a)) (sym (residue-bits g v b)) ∙ number-minus w (residue g v a) (residue g v b) (residue-lt g v a) (residue-lt g v b)

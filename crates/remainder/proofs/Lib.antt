@@ -1,4 +1,5 @@
 pub mod Digits
+pub mod Minus
 pub mod Laws
 pub mod Meant
 pub mod Every

@@ -7,7 +7,8 @@ use native.Mathlib.Nat.{not-suc-le-zero, zero-add}
 use native.Mathlib.Omega.{arith}
 use lib.ListN.{length, drop, getD, length-append, length-replicate}
 use Rattle.remainder.specs.Division.{less, minus, divide, zeros, remainder, times, IsRemainder}
-use Rattle.remainder.proofs.Laws.{minus-minus, minus-length, zeros-minus, remainder-length}
+use Rattle.remainder.proofs.Minus.{minus-minus, minus-length, minus-twice, minus-nil, zeros-minus}
+use Rattle.remainder.proofs.Laws.{remainder-length}
 
 -- the digits that long division strikes out
 quotient : List Bool → ℕ → List Bool → List Bool
@@ -20,24 +21,6 @@ unfolding quotient
 quotient-length g zero p = refl
 quotient-length g (suc n) [] = ap suc (quotient-length g n [])
 quotient-length g (suc n) (a ∷ p) = ap suc (quotient-length g n (cond a (minus p g) p))
-
--- subtracting twice is nothing
-less-twice : (a b : Bool) → less (less a b) b ≡ a
-less-twice true true = refl
-less-twice true false = refl
-less-twice false true = refl
-less-twice false false = refl
-
-minus-twice : (p q : List Bool) → minus (minus p q) q ≡ p
-unfolding minus
-minus-twice [] q = refl
-minus-twice (a ∷ p) [] = refl
-minus-twice (a ∷ p) (b ∷ q) = ap₂ _∷_ (less-twice a b) (minus-twice p q)
-
-minus-nil : (p : List Bool) → minus p [] ≡ p
-unfolding minus
-minus-nil [] = refl
-minus-nil (a ∷ p) = refl
 
 -- what a step subtracts
 struck : (a : Bool) (g p : List Bool) → cond a (minus p g) p ≡ minus p (cond a g [])

@@ -1,9 +1,10 @@
 -- Long division of polynomials over two elements. A polynomial is the list of its coefficients, the highest first; to subtract is to
 -- exclusive-or. Assumes nothing.
-use Prim.Native.Nat.{ℕ, zero, suc}
+use Prim.Native.Nat.{ℕ, zero, suc, _*_, _/_, _%_, _^_}
 use mathlib.Core.Path.{_≡_}
 use mathlib.Core.Bool.{Bool, true, false, cond}
 use mathlib.Core.List.{List, [], _∷_, _++_}
+use lib.Bits.{bitXor}
 use lib.ListN.{length, replicate}
 use Rattle.remainder.specs.Bits.{bits, number}
 
@@ -48,3 +49,8 @@ pub record IsRemainder (g p r : List Bool) : Type 0 where
 -- the same of a number of w bits, as a number
 unfoldable pub residue : List Bool → ℕ → ℕ → ℕ
 residue g w n = number (remainder g (bits w n))
+
+-- what n bits more make of the remainder so far, of n + d bits: its n highest bits and the new ones are struck out together and leave their own remainder, and its
+-- other bits come n places higher
+unfoldable pub advance : List Bool → ℕ → ℕ → ℕ → ℕ → ℕ
+advance g n d rest next = bitXor (residue g n (bitXor (rest / 2 ^ d) next)) (rest % 2 ^ d * 2 ^ n)
