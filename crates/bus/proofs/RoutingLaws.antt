@@ -4,7 +4,8 @@ use Prim.Native.Nat.{ℕ, _+_, _*_, _/_, _%_, _<_}
 use native.Mathlib.Nat.{mod-eq-of-lt}
 use native.Mathlib.Omega.{arith}
 use borrow.Author.Tests.{eq-eqb, ne-eqb, le-leb}
-use Rattle.remainder.proofs.Laws.{residue-lt}
+use lib.Bits.{bitXor}
+use Rattle.remainder.proofs.Laws.{residue-lt, residue-linear}
 use Rattle.bus.specs.Routing.{Sayable, divisor, check, upper, routing, controlling, kindIn, classIn, numberIn, said, address}
 use Rattle.bus.specs.declared.Target.{Target}
 use Rattle.bus.specs.declared.Target.the-variants.{Unit as U·, Session, All}
@@ -73,3 +74,8 @@ address-controlling unit h = said-by 3 0 unit (omega arith) (omega arith) h
 pub controlling-lt : (unit : ℕ) → unit < 256 → controlling unit < 65536
 unfolding controlling check
 controlling-lt unit h = omega (arith, residue-lt divisor 12 (3 * 1024 + unit))
+
+-- the check is linear
+pub check-linear : (a b : ℕ) → check (bitXor a b) ≡ bitXor (check a) (check b)
+unfolding check
+check-linear a b = residue-linear divisor 12 a b

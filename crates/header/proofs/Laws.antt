@@ -1,9 +1,13 @@
 -- Reading undoes writing and writing undoes reading, at either link. Assumes nothing.
-use mathlib.Core.Path.{_≡_, ap, _∙_}
+use mathlib.Core.Path.{_≡_, sym, ap, _∙_}
 use Prim.Native.Nat.{ℕ, _+_, _*_, _/_, _%_, _^_, _<_}
 use native.Mathlib.Nat.{mod-lt, mod-eq-of-lt}
 use native.Mathlib.Omega.{arith}
+use lib.Bits.{bitXor}
+use Rattle.remainder.specs.Division.{residue}
+use Rattle.remainder.proofs.Laws.{residue-lt, residue-linear, xor-both}
 use Rattle.header.specs.Fields.{pathsOf, fields, topOf, word}
+use Rattle.header.specs.Check.{divisor, check}
 use Rattle.header.specs.declared.Link.{Link}
 use Rattle.header.specs.declared.Link.the-variants.{Uni, Nni}
 use Rattle.header.specs.declared.Header.{Header}
@@ -88,3 +92,9 @@ fields-word link h f =
       pt = join-pt t (h .vci) (h .pt) (h .clp) ht (f .vci) (f .pt) (f .clp) i;
       clp = join-clp t (h .vci) (h .pt) (h .clp) ht (f .vci) (f .pt) (f .clp) i;
     })
+
+-- the check is linear, the 55 taken off: two checks differ by the remainder of what the headers differ in
+pub check-linear : (a b : ℕ) → bitXor (check a) (check b) ≡ residue divisor 32 (bitXor a b)
+unfolding check
+check-linear a b =
+    xor-both 8 (residue divisor 32 a) (residue divisor 32 b) 0x55 (residue-lt divisor 32 a) (residue-lt divisor 32 b) (omega arith) ∙ sym (residue-linear divisor 32 a b)

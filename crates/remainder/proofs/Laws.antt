@@ -12,7 +12,7 @@ use lib.Dec.{eqb}
 use lib.Pow.{pow-pos, shl-shr, shl-lt, shr-shr}
 use Rattle.remainder.specs.Bits.{bits, number}
 use Rattle.remainder.specs.Division.{less, minus, divide, zeros, remainder, residue, advance}
-use Rattle.remainder.proofs.Minus.{minus-minus, minus-length, minus-append, minus-heads, minus-zeros, minus-twice, minus-assoc, zeros-add, below}
+use Rattle.remainder.proofs.Minus.{minus-minus, minus-length, minus-append, minus-heads, minus-zeros, minus-both, minus-assoc, zeros-add, below}
 use Rattle.remainder.proofs.Digits.{bits-length, bits-xor, bits-append, bits-mod, number-of, number-lt, bits-number}
 
 pub divide-length : (g p : List Bool) (n m : ℕ) → length p ≡ n + m → length (divide g n p) ≡ m
@@ -116,6 +116,13 @@ residue-ahead g j v n h =
 number-minus : (w a b : ℕ) → a < 2 ^ w → b < 2 ^ w → number (minus (bits w a) (bits w b)) ≡ bitXor a b
 number-minus w a b ha hb = ap number (sym (bits-xor w a b)) ∙ number-of w (bitXor a b) (xor-lt w a b ha hb)
 
+-- what is taken off both does not count
+pub xor-both : (w a b k : ℕ) → a < 2 ^ w → b < 2 ^ w → k < 2 ^ w → bitXor (bitXor a k) (bitXor b k) ≡ bitXor a b
+xor-both w a b k ha hb hk =
+    let e = bits-length w a ∙ sym (bits-length w b) in
+    sym (number-minus w (bitXor a k) (bitXor b k) (xor-lt w a k ha hk) (xor-lt w b k hb hk))
+    ∙ ap number (ap₂ minus (bits-xor w a k) (bits-xor w b k) ∙ minus-both (bits w a) (bits w b) (bits w k) e) ∙ number-minus w a b ha hb
+
 -- the remainder of k + n bits, from that of the k high ones
 pub advances : (g : List Bool) (n d : ℕ) → length g ≡ n + d → (k m : ℕ) → residue g (k + n) m ≡ advance g n d (residue g k (m / 2 ^ n)) (m % 2 ^ n)
 unfolding residue advance
@@ -143,8 +150,7 @@ advances-from g n d e k j m = advances g n d e k (m / 2 ^ j) ∙ ap (λ x. advan
 
 -- the remainder is linear: a step on what is left of two, one less the other
 step-linear : (a b : Bool) (g p q : List Bool) → length p ≡ length q → cond (less a b) (minus (minus p q) g) (minus p q) ≡ minus (cond a (minus p g) p) (cond b (minus q g) q)
-step-linear true true g p q e =
-    sym (minus-assoc (minus p g) q g (minus-length p g ∙ e) ∙ ap (λ r. minus r g) (minus-minus p g q) ∙ minus-twice (minus p q) g)
+step-linear true true g p q e = sym (minus-both p q g e)
 step-linear true false g p q e = minus-minus p q g
 step-linear false true g p q e = sym (minus-assoc p q g e)
 step-linear false false g p q e = refl

@@ -97,3 +97,6 @@ minus-assoc [] q r e = refl
 minus-assoc (a ∷ p) [] r e = absurd (not-suc-le-zero {n = length p} (omega arith))
 minus-assoc (a ∷ p) (b ∷ q) [] e = refl
 minus-assoc (a ∷ p) (b ∷ q) (c ∷ r) e = ap₂ _∷_ (less-assoc a b c) (minus-assoc p q r (omega arith))
+
+pub minus-both : (p q r : List Bool) → length p ≡ length q → minus (minus p r) (minus q r) ≡ minus p q
+minus-both p q r e = minus-assoc (minus p r) q r (minus-length p r ∙ e) ∙ ap (λ l. minus l r) (minus-minus p r q) ∙ minus-twice (minus p q) r

@@ -48,11 +48,16 @@ loop-again c =
     let inv = c .before .before .loop .inv in
     let some : 3 ≤ l = search needs in
     let again : (12 - l) + 3 ≡ 12 - (l - 3) = omega arith in
-    let above : l ≡ (l - 3) + 3 = omega arith in
-    (search needs, (search needs, (c .pass .ensures
-    ∙ ap (λ r. advance divisor 3 1 r (u / 2 ^ (l - 3) % 8)) (inv .1 .1 ∙ ap (λ x. residue divisor (12 - l) (u / 2 ^ x)) above)
-    ∙ sym (advances-from divisor 3 1 refl (12 - l) (l - 3) u)
-    ∙ ap (λ k. residue divisor k (u / 2 ^ (l - 3))) again)))
+    let above : l ≡ (l - 3) + 3 = omega arith in (
+      search needs,
+      (
+        search needs,
+        (c .pass .ensures
+            ∙ ap (λ r. advance divisor 3 1 r (u / 2 ^ (l - 3) % 8)) (inv .1 .1 ∙ ap (λ x. residue divisor (12 - l) (u / 2 ^ x)) above)
+            ∙ sym (advances-from divisor 3 1 refl (12 - l) (l - 3) u)
+            ∙ ap (λ k. residue divisor k (u / 2 ^ (l - 3))) again),
+      ),
+    )
 
 returns : tie.Need-returns Inv-loop μ-loop
 unfolding check

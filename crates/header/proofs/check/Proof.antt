@@ -46,11 +46,16 @@ loop-again c =
     let inv = c .before .before .loop .inv in
     let some : 6 ≤ l = search needs in
     let again : (36 - l) + 6 ≡ 36 - (l - 6) = omega arith in
-    let above : l ≡ (l - 6) + 6 = omega arith in
-    (search needs, (search needs, (c .pass .ensures
-    ∙ ap (λ r. advance divisor 6 2 r (w / 2 ^ (l - 6) % 64)) (inv .1 .1 ∙ ap (λ x. residue divisor (36 - l) (w / 2 ^ x)) above)
-    ∙ sym (advances-from divisor 6 2 refl (36 - l) (l - 6) w)
-    ∙ ap (λ k. residue divisor k (w / 2 ^ (l - 6))) again)))
+    let above : l ≡ (l - 6) + 6 = omega arith in (
+      search needs,
+      (
+        search needs,
+        (c .pass .ensures
+            ∙ ap (λ r. advance divisor 6 2 r (w / 2 ^ (l - 6) % 64)) (inv .1 .1 ∙ ap (λ x. residue divisor (36 - l) (w / 2 ^ x)) above)
+            ∙ sym (advances-from divisor 6 2 refl (36 - l) (l - 6) w)
+            ∙ ap (λ k. residue divisor k (w / 2 ^ (l - 6))) again),
+      ),
+    )
 
 returns : tie.Need-returns Inv-loop μ-loop
 unfolding check
