@@ -70,13 +70,20 @@ static void line_in(const struct report *r) {
         say_refused("arrive", answer);
 }
 
+/* What the card's driver does with a frame: here the last one is kept. */
+static uint8_t on_bus[PLEVANDOR_FRAME_BYTES];
+
+static void send_on_bus(const uint8_t frame[PLEVANDOR_FRAME_BYTES]) { memcpy(on_bus, frame, sizeof on_bus); }
+
 static void bus_clock(void) {
-    uint8_t bus[PLEVANDOR_FRAME_BYTES]; /* goes to the bus where somebody sends */
-    uint64_t answer = plevandor_frame(CARD, state, store, sizeof store, rows, UNITS, bus, sizeof bus);
+    uint8_t frame[PLEVANDOR_FRAME_BYTES];
+    uint64_t answer = plevandor_frame(CARD, state, store, sizeof store, rows, UNITS, frame, sizeof frame);
     if (plevandor_answer_kind(answer) != PLEVANDOR_FRAMED) {
         say_refused("frame", answer);
         return;
     }
+    if (plevandor_answer_sender(answer) != PLEVANDOR_NOBODY) /* else the buffer is as it was */
+        send_on_bus(frame);
     fprintf(out, "frame\t%u", (unsigned)plevandor_answer_frame_number(answer));
     say_unit(plevandor_answer_sender(answer));
     say_unit(plevandor_answer_granted(answer));
@@ -117,7 +124,7 @@ static void processor_out(const struct report *r) {
     if (plevandor_answer_kind(answer) == PLEVANDOR_HANDED)
         fprintf(out, "hand\t%u\tok\n", r->unit);
     else
-        say_refused("hand", answer);
+        say_refused("hand", answer); /* PLEVANDOR_REFUSAL_BUSY: to be handed in again after a frame */
 }
 
 static void processor_in(const struct report *r) {
@@ -158,5 +165,5 @@ int main(void) {
     printf("table\tok\t%lu\n", (unsigned long)plevandor_answer_used(answer));
     for (size_t i = 0; i < sizeof reports / sizeof reports[0]; i++)
         serve(&reports[i]);
-    return 0;
+    return fflush(stdout) != 0;
 }

@@ -319,8 +319,31 @@ static void names(void) {
     NAME(queued, QUEUED), NAME(full, FULL), NAME(clp, CLP), NAME(wide, WIDE), NAME(taken, TAKEN);
 }
 
+/* Each part by its bits, on numbers that the library need not give: every bit as 0 and as 1. */
+static void parts(void) {
+    unsigned turn, kind;
+    uint64_t number = 0xFEDCBA9876543201u;
+    for (turn = 0; turn < 2; turn++, number = ~number) {
+        unsigned low = turn ? 0xCD : 0x32;
+        uint32_t high = turn ? 0x01234567u : 0xFEDCBA98u;
+        expect("kind", plevandor_answer_kind(number), turn ? 0xFE : 0x01);
+        expect("fate", plevandor_answer_fate(number), low);
+        expect("copies", plevandor_answer_copies(number), low);
+        expect("sender", plevandor_answer_sender(number), turn ? 0xAB : 0x54);
+        expect("granted", plevandor_answer_granted(number), turn ? 0x89 : 0x76);
+        expect("frame number", plevandor_answer_frame_number(number), high);
+        expect("used", plevandor_answer_used(number), high);
+        expect("line", plevandor_answer_line(number), high);
+        expect("place", plevandor_answer_place(number), high);
+        for (kind = 0; kind < 256; kind++) {
+            int refused = kind == PLEVANDOR_UNLOADED || kind == PLEVANDOR_REFUSED;
+            expect("refusal", plevandor_answer_refusal((number & ~(uint64_t)255) + kind), refused ? low : 0);
+        }
+    }
+}
+
 int main(void) {
-    sizes(), most_units(), tables(), arrivals(), hearings(), frames(), refusals(), rubbish(), names();
+    sizes(), most_units(), tables(), arrivals(), hearings(), frames(), refusals(), rubbish(), names(), parts();
     printf("header: %u checks, %u wrong\n", checks, wrong);
     return wrong != 0;
 }

@@ -14,7 +14,8 @@
  *   - what is lent to one call does not overlap; what is const is not written by anybody while the call runs;
  *   - one call at a time for the same state, memory, store and rows (docs/FIRMWARE.md on interrupts and other cores).
  * Everything else is judged: any bytes in state, memory, store and rows, any text, any unit, any length. A wrong length
- * is refused with a number, and an event that is refused changes nothing.
+ * is refused with a number, and an event that is refused changes nothing. Units and cards are numbers of eight bits: C
+ * cuts a larger one before the call, so that 259 is unit 3.
  *
  * Each function answers one number, which the functions plevandor_answer_.. below take apart.
  */
@@ -87,7 +88,7 @@ enum plevandor_arrival {
 
 /* Fates of a frame that a unit hears. */
 enum plevandor_hearing {
-    PLEVANDOR_HEARING_DAMAGED = 0,    /* its parity, its check or its address is bad */
+    PLEVANDOR_HEARING_DAMAGED = 0,    /* its parity, its check, its address, or what kind 3 says is bad */
     PLEVANDOR_HEARING_OTHER = 1,      /* it is for others; not counted */
     PLEVANDOR_HEARING_WIDE = 2,       /* a VPI above 255 at a UNI unit */
     PLEVANDOR_HEARING_FULL = 3,       /* the queue is at its capacity */
@@ -119,48 +120,55 @@ struct plevandor_counters {
 
 /* A table is loaded: memory, state and rows start anew; of the store only the length is read. LOADED, UNLOADED. */
 uint64_t plevandor_load(uint8_t card, const uint8_t *text, size_t text_len, uint8_t *memory, size_t memory_len,
-                        uint8_t *state, const uint8_t *store, size_t store_len, struct plevandor_counters *rows,
-                        size_t rows_len);
+                        uint8_t state[PLEVANDOR_STATE_BYTES], const uint8_t *store, size_t store_len,
+                        struct plevandor_counters *rows, size_t rows_len);
 
 /* A line cell of PLEVANDOR_CELL_BYTES arrives at a unit. ARRIVED, REFUSED. */
-uint64_t plevandor_arrive(uint8_t card, uint8_t *state, const uint8_t *memory, size_t memory_len, uint8_t *store,
-                          size_t store_len, struct plevandor_counters *rows, size_t rows_len, uint8_t unit,
-                          const uint8_t *cell, size_t cell_len);
+uint64_t plevandor_arrive(uint8_t card, uint8_t state[PLEVANDOR_STATE_BYTES], const uint8_t *memory, size_t memory_len,
+                          uint8_t *store, size_t store_len, struct plevandor_counters *rows, size_t rows_len,
+                          uint8_t unit, const uint8_t *cell, size_t cell_len);
 
 /* The next frame on the bus, its PLEVANDOR_FRAME_BYTES put into the buffer if a unit sends. FRAMED, REFUSED. */
-uint64_t plevandor_frame(uint8_t card, uint8_t *state, uint8_t *store, size_t store_len,
+uint64_t plevandor_frame(uint8_t card, uint8_t state[PLEVANDOR_STATE_BYTES], uint8_t *store, size_t store_len,
                          struct plevandor_counters *rows, size_t rows_len, uint8_t *buffer, size_t buffer_len);
 
 /* A frame of PLEVANDOR_FRAME_BYTES from outside is heard by one unit. HEARD, REFUSED. */
-uint64_t plevandor_hear(uint8_t card, uint8_t *state, uint8_t *store, size_t store_len, struct plevandor_counters *rows,
-                        size_t rows_len, uint8_t unit, const uint8_t *frame, size_t frame_len);
+uint64_t plevandor_hear(uint8_t card, uint8_t state[PLEVANDOR_STATE_BYTES], uint8_t *store, size_t store_len,
+                        struct plevandor_counters *rows, size_t rows_len, uint8_t unit, const uint8_t *frame,
+                        size_t frame_len);
 
 /* The cell that leaves a unit next is put into the buffer of PLEVANDOR_CELL_BYTES. TAKEN, EMPTY, REFUSED. */
-uint64_t plevandor_take(uint8_t card, uint8_t *state, const uint8_t *store, size_t store_len,
+uint64_t plevandor_take(uint8_t card, uint8_t state[PLEVANDOR_STATE_BYTES], const uint8_t *store, size_t store_len,
                         struct plevandor_counters *rows, size_t rows_len, uint8_t unit, uint8_t *buffer,
                         size_t buffer_len);
 
 /* A unit's processor hands in a cell of PLEVANDOR_CONTROL_BYTES, to be sent as it is. HANDED, REFUSED. */
-uint64_t plevandor_hand(uint8_t card, uint8_t *state, uint8_t *store, size_t store_len,
+uint64_t plevandor_hand(uint8_t card, uint8_t state[PLEVANDOR_STATE_BYTES], uint8_t *store, size_t store_len,
                         const struct plevandor_counters *rows, size_t rows_len, uint8_t unit, const uint8_t *cell,
                         size_t cell_len);
 
 /* The oldest cell for a unit's processor is put into the buffer of PLEVANDOR_CONTROL_BYTES. TAKEN, EMPTY, REFUSED. */
-uint64_t plevandor_collect(uint8_t card, uint8_t *state, const uint8_t *store, size_t store_len,
+uint64_t plevandor_collect(uint8_t card, uint8_t state[PLEVANDOR_STATE_BYTES], const uint8_t *store, size_t store_len,
                            struct plevandor_counters *rows, size_t rows_len, uint8_t unit, uint8_t *buffer,
                            size_t buffer_len);
 
 /* Which row is the unit's. COUNTED, REFUSED. It writes nothing. */
-uint64_t plevandor_count(uint8_t card, const uint8_t *state, const uint8_t *store, size_t store_len,
-                         const struct plevandor_counters *rows, size_t rows_len, uint8_t unit);
+uint64_t plevandor_count(uint8_t card, const uint8_t state[PLEVANDOR_STATE_BYTES], const uint8_t *store,
+                         size_t store_len, const struct plevandor_counters *rows, size_t rows_len, uint8_t unit);
 
-/* The parts of an answer. Each is 0 where the kind has no such part; nobody is PLEVANDOR_NOBODY. */
+/*
+ * The parts of an answer. Look at its kind first: parts of different kinds stand in the same bits, so that a part which
+ * the kind has not reads as anything. Only the refusal can be asked of any answer. Nobody is PLEVANDOR_NOBODY.
+ */
 
 /* What it is, an enum plevandor_kind. */
 static inline unsigned plevandor_answer_kind(uint64_t answer) { return (unsigned)(answer & 255); }
 
-/* UNLOADED, REFUSED: why, an enum plevandor_refusal. */
-static inline unsigned plevandor_answer_refusal(uint64_t answer) { return (unsigned)(answer >> 8 & 255); }
+/* UNLOADED, REFUSED: why, an enum plevandor_refusal; 0 for every other kind. */
+static inline unsigned plevandor_answer_refusal(uint64_t answer) {
+    unsigned kind = plevandor_answer_kind(answer);
+    return kind == PLEVANDOR_UNLOADED || kind == PLEVANDOR_REFUSED ? (unsigned)(answer >> 8 & 255) : 0;
+}
 
 /* ARRIVED: an enum plevandor_arrival. HEARD: an enum plevandor_hearing. */
 static inline unsigned plevandor_answer_fate(uint64_t answer) { return (unsigned)(answer >> 8 & 255); }
@@ -188,7 +196,13 @@ static inline uint32_t plevandor_answer_place(uint64_t answer) { return (uint32_
 
 /* The counter of a number in a row, an enum plevandor_counter; the number is below PLEVANDOR_COUNTERS. */
 static inline uint32_t plevandor_counter_of(const struct plevandor_counters *row, unsigned number) {
-    return ((const uint32_t *)(const void *)row)[number];
+    const unsigned char *from = (const unsigned char *)row + number * sizeof(uint32_t);
+    uint32_t counter;
+    unsigned char *to = (unsigned char *)&counter;
+    size_t i;
+    for (i = 0; i < sizeof counter; i++)
+        to[i] = from[i];
+    return counter;
 }
 
 #ifdef __cplusplus

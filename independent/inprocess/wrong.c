@@ -32,7 +32,8 @@ static int wrong(int number) {
 static int is(uint64_t answer, unsigned kind) { return plevandor_answer_kind(answer) == kind; }
 
 uint64_t plevandor_load(uint8_t card, const uint8_t *text, size_t text_len, uint8_t *memory, size_t memory_len,
-                        uint8_t *state, const uint8_t *store, size_t store_len, row *rows, size_t rows_len) {
+                        uint8_t state[PLEVANDOR_STATE_BYTES], const uint8_t *store, size_t store_len, row *rows,
+                        size_t rows_len) {
     uint64_t answer = right_load(wrong(1) && card == 2 ? 1 : card, text,
                                  wrong(2) && text_len == PLEVANDOR_TEXT_MOST ? text_len + 1 : text_len, memory,
                                  memory_len, state, store, store_len, rows, rows_len);
@@ -44,13 +45,13 @@ uint64_t plevandor_load(uint8_t card, const uint8_t *text, size_t text_len, uint
     return answer;
 }
 
-uint64_t plevandor_arrive(uint8_t card, uint8_t *state, const uint8_t *memory, size_t memory_len, uint8_t *store,
-                          size_t store_len, row *rows, size_t rows_len, uint8_t unit, const uint8_t *cell,
-                          size_t cell_len) {
+uint64_t plevandor_arrive(uint8_t card, uint8_t state[PLEVANDOR_STATE_BYTES], const uint8_t *memory, size_t memory_len,
+                          uint8_t *store, size_t store_len, row *rows, size_t rows_len, uint8_t unit,
+                          const uint8_t *cell, size_t cell_len) {
     uint64_t answer = right_arrive(card, state, memory, memory_len, store, store_len, rows, rows_len,
                                    wrong(5) ? unit & 31 : unit, cell, cell_len);
     if (wrong(6))
-        state[PLEVANDOR_STATE_BYTES] = 0; /* behind the state */
+        *(uint8_t *)((size_t)state + PLEVANDOR_STATE_BYTES) = 0; /* behind the state */
     if (wrong(7) && memory_len > 0)
         ((uint8_t *)(size_t)memory)[memory_len - 1] ^= 1; /* the records are only lent to be read */
     if (wrong(8) && is(answer, PLEVANDOR_REFUSED))
@@ -58,8 +59,8 @@ uint64_t plevandor_arrive(uint8_t card, uint8_t *state, const uint8_t *memory, s
     return answer;
 }
 
-uint64_t plevandor_frame(uint8_t card, uint8_t *state, uint8_t *store, size_t store_len, row *rows, size_t rows_len,
-                         uint8_t *buffer, size_t buffer_len) {
+uint64_t plevandor_frame(uint8_t card, uint8_t state[PLEVANDOR_STATE_BYTES], uint8_t *store, size_t store_len,
+                         row *rows, size_t rows_len, uint8_t *buffer, size_t buffer_len) {
     uint64_t answer = right_frame(card, state, store, store_len, rows, rows_len, buffer, buffer_len);
     int sent = is(answer, PLEVANDOR_FRAMED) && plevandor_answer_sender(answer) != PLEVANDOR_NOBODY;
     if (wrong(9) && sent && plevandor_answer_copies(answer) > 2)
@@ -73,8 +74,8 @@ uint64_t plevandor_frame(uint8_t card, uint8_t *state, uint8_t *store, size_t st
     return answer;
 }
 
-uint64_t plevandor_hear(uint8_t card, uint8_t *state, uint8_t *store, size_t store_len, row *rows, size_t rows_len,
-                        uint8_t unit, const uint8_t *frame, size_t frame_len) {
+uint64_t plevandor_hear(uint8_t card, uint8_t state[PLEVANDOR_STATE_BYTES], uint8_t *store, size_t store_len, row *rows,
+                        size_t rows_len, uint8_t unit, const uint8_t *frame, size_t frame_len) {
     uint64_t answer = right_hear(card, state, store, store_len, rows, rows_len, unit, frame, frame_len);
     int queued = is(answer, PLEVANDOR_HEARD) && plevandor_answer_fate(answer) == PLEVANDOR_HEARING_QUEUED;
     if (wrong(13) && queued)
@@ -84,8 +85,8 @@ uint64_t plevandor_hear(uint8_t card, uint8_t *state, uint8_t *store, size_t sto
     return answer;
 }
 
-uint64_t plevandor_take(uint8_t card, uint8_t *state, const uint8_t *store, size_t store_len, row *rows,
-                        size_t rows_len, uint8_t unit, uint8_t *buffer, size_t buffer_len) {
+uint64_t plevandor_take(uint8_t card, uint8_t state[PLEVANDOR_STATE_BYTES], const uint8_t *store, size_t store_len,
+                        row *rows, size_t rows_len, uint8_t unit, uint8_t *buffer, size_t buffer_len) {
     uint64_t answer = right_take(card, state, store, store_len, rows, rows_len, unit, buffer, buffer_len);
     if (wrong(15) && is(answer, PLEVANDOR_TAKEN) && rows[0].taken > 0)
         rows[0].taken--; /* lost count */
@@ -94,24 +95,24 @@ uint64_t plevandor_take(uint8_t card, uint8_t *state, const uint8_t *store, size
     return answer;
 }
 
-uint64_t plevandor_hand(uint8_t card, uint8_t *state, uint8_t *store, size_t store_len, const row *rows,
-                        size_t rows_len, uint8_t unit, const uint8_t *cell, size_t cell_len) {
+uint64_t plevandor_hand(uint8_t card, uint8_t state[PLEVANDOR_STATE_BYTES], uint8_t *store, size_t store_len,
+                        const row *rows, size_t rows_len, uint8_t unit, const uint8_t *cell, size_t cell_len) {
     uint64_t answer = right_hand(card, state, store, store_len, rows, rows_len, unit, cell, cell_len);
     if (wrong(17) && is(answer, PLEVANDOR_REFUSED) && plevandor_answer_refusal(answer) == PLEVANDOR_REFUSAL_BUSY)
         answer = PLEVANDOR_HANDED; /* says so and holds nothing */
     return answer;
 }
 
-uint64_t plevandor_collect(uint8_t card, uint8_t *state, const uint8_t *store, size_t store_len, row *rows,
-                           size_t rows_len, uint8_t unit, uint8_t *buffer, size_t buffer_len) {
+uint64_t plevandor_collect(uint8_t card, uint8_t state[PLEVANDOR_STATE_BYTES], const uint8_t *store, size_t store_len,
+                           row *rows, size_t rows_len, uint8_t unit, uint8_t *buffer, size_t buffer_len) {
     uint64_t answer = right_collect(card, state, store, store_len, rows, rows_len, unit, buffer, buffer_len);
     if (wrong(18) && is(answer, PLEVANDOR_EMPTY))
         buffer[0] = 0; /* stays as it was */
     return answer;
 }
 
-uint64_t plevandor_count(uint8_t card, const uint8_t *state, const uint8_t *store, size_t store_len, const row *rows,
-                         size_t rows_len, uint8_t unit) {
+uint64_t plevandor_count(uint8_t card, const uint8_t state[PLEVANDOR_STATE_BYTES], const uint8_t *store,
+                         size_t store_len, const row *rows, size_t rows_len, uint8_t unit) {
     uint64_t answer = right_count(card, state, store, store_len, rows, rows_len, unit);
     if (wrong(19) && is(answer, PLEVANDOR_COUNTED) && plevandor_answer_place(answer) > 3)
         answer = PLEVANDOR_COUNTED; /* another unit's row */
