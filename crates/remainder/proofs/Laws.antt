@@ -3,7 +3,7 @@
 use mathlib.Core.Path.{_≡_, refl, sym, ap, ap₂, _∙_}
 use mathlib.Core.Bool.{Bool, true, false, cond}
 use mathlib.Core.List.{List, [], _∷_, _++_, append-assoc, append-nil}
-use Prim.Native.Nat.{ℕ, zero, suc, _+_, _*_, _/_, _%_, _^_, _<_, _≤_}
+use Prim.Native.Nat.{ℕ, zero, suc, _+_, _-_, _*_, _/_, _%_, _^_, _<_, _≤_}
 use native.Mathlib.Nat.{suc-add, zero-add, le-of-suc-le-suc, not-suc-le-zero, add-comm, mul-mod-left, mod-lt, zero-div, div-eq-of-lt}
 use native.Mathlib.Omega.{arith}
 use lib.ListN.{length, length-append, length-replicate}
@@ -144,9 +144,15 @@ advances g n d e k m =
     ∙ ap number (further g (bits k (m / 2 ^ n)) s (bits n (r / 2 ^ d)) (bits d r) so-far (bits-length n (r / 2 ^ d) ∙ sym (bits-length n m)) ∙ ap₂ minus (ap (remainder g) struck ∙ left) under)
     ∙ number-minus (n + d) (residue g n h) (r % 2 ^ d * 2 ^ n) (rw e at (residue-lt g n h)) (rw (add-comm d n) at (shl-lt d n (mod-lt r (pow-pos d))))
 
--- the same of a number's bits from place j up: what a loop from the highest bit down does
-pub advances-from : (g : List Bool) (n d : ℕ) → length g ≡ n + d → (k j m : ℕ) → residue g (k + n) (m / 2 ^ j) ≡ advance g n d (residue g k (m / 2 ^ (j + n))) (m / 2 ^ j % 2 ^ n)
-advances-from g n d e k j m = advances g n d e k (m / 2 ^ j) ∙ ap (λ x. advance g n d (residue g k x) (m / 2 ^ j % 2 ^ n)) (shr-shr m j n)
+-- a loop's turn from the highest of so many bits down: those from place `left` up are done, and n more are taken
+pub advances-down : (g : List Bool) (n d : ℕ) → length g ≡ n + d → (many left m : ℕ) → n ≤ left → left ≤ many →
+    advance g n d (residue g (many - left) (m / 2 ^ left)) (m / 2 ^ (left - n) % 2 ^ n) ≡ residue g (many - (left - n)) (m / 2 ^ (left - n))
+advances-down g n d e many left m more some =
+    let j = left - n in
+    let above : j + n ≡ left = omega arith in
+    let next : many - left + n ≡ many - j = omega arith in
+    ap (λ x. advance g n d (residue g (many - left) x) (m / 2 ^ j % 2 ^ n)) (ap (λ l. m / 2 ^ l) (sym above) ∙ sym (shr-shr m j n))
+    ∙ sym (advances g n d e (many - left) (m / 2 ^ j)) ∙ ap (λ k. residue g k (m / 2 ^ j)) next
 
 -- the remainder is linear: a step on what is left of two, one less the other
 step-linear : (a b : Bool) (g p q : List Bool) → length p ≡ length q → cond (less a b) (minus (minus p q) g) (minus p q) ≡ minus (cond a (minus p g) p) (cond b (minus q g) q)
