@@ -205,6 +205,9 @@ fn feed_some(
     let held = fed.held;
     let mut part = io::large_buffer();
     let got = libc::read(0, &mut part);
+    if got < 0 {
+        os::fail(b"the events");
+    }
     if got <= 0 {
         return Fed {
             tally,

@@ -137,13 +137,13 @@ pub record Demand2 : Type 0 where
   -- "a frame that sends once and then only numbers frames" is none of ours
   pub frames-go-on : FramesGoOn
   -- 02, W10: "from the frame in which a priority 3 unit's request is taken up, it is granted by the end of the n-th frame, that frame counted as first, n being the number of declared units at
-  -- priority 3. It holds on both buses, with any arrivals": in what our shelf gives back, on either card, whatever comes between the frames but a load
+  -- priority 3. It holds on both buses, with any arrivals, and while no table is loaded.": in what our shelf gives back, on either card, whatever comes between the frames but a load
   pub waits-at-most : WaitsAtMost atThree
   -- and sharper: only those count that stand in cyclic order after the last one granted at 3, up to the unit itself
   pub waits-its-turn : WaitsItsTurn atThree
   -- the requests and the last units granted that both go by are those of our state's bytes
   pub same-requests : SameRequests
-  -- "Show too, on a 16 bus, that no such number holds for priority 1 beside a busy priority 3."
+  -- "Show too, on a 16 bus, that no such number holds for priority 1 beside a busy priority 3.": one table for every number, and the wait begins in frame 0
   pub no-bound-below : NoBoundBelow
   -- no frame of a cell that arrived is damaged; "A sent cell addressing no declared unit also counts `unheard` at its sender"
   pub clean-table-clean-bus : CleanTableCleanBus

@@ -35,7 +35,7 @@ use Rattle.promise.proofs.Refusals.{all-fine, accepted, loaded-refused, refused
 use Rattle.promise.proofs.Texts.{line-read-iff}
 use Rattle.toowide.specs.Asks.{asked, askOf, beyond}
 use Rattle.toowide.specs.Listing.{Wide, ended, over, foundAt, nextIn, listAt, listIn, wideLines, onward, following}
-use Rattle.toowide.specs.Listed.{Asks, asksAt, askedAt, wideOf, NextByNext, WideIff, EveryLine, FirstNamed, NoneIfTaken, NamedFirst}
+use Rattle.toowide.specs.Listed.{Asks, asksAt, askedAt, wideOf, NextByNext, WideIff, AsksIff, EveryLine, FirstNamed, NoneIfTaken, NamedFirst}
 use Rattle.toowide.specs.declared.Asking.{Asking}
 use Rattle.toowide.specs.declared.Asking.the-variants.{Of, Nothing}
 use Rattle.toowide.specs.declared.Next.{Next}
@@ -181,6 +181,29 @@ test-iff (Mc u session) = (λ x. absurd (nothing-asked (x .0) (x .1)), λ e. abs
 
 pub wide-asks : WideIff
 wide-asks l = (λ x. wide-iff l .0 (test-iff l .0 x), λ w. test-iff l .1 (wide-iff l .1 w))
+
+-- and asks for what 01's Wide names
+beyond-is : (a ask : Ask) → (beyond (Of a) ≡ Of ask) ↔ ((not (narrowHolds a) ≡ true) × (ask ≡ a))
+unfolding beyond
+beyond-is a ask = go (narrowHolds a)
+  where
+    go : (b : Bool) → (cond b Nothing (Of a) ≡ Of ask) ↔ ((not b ≡ true) × (ask ≡ a))
+    go true = (λ e. absurd (nothing-asked ask e), λ x. absurd (false≢true (x .0)))
+    go false = (λ e. (refl, cc), λ x. ap Of (sym (x .1)))
+
+pub asks-iff : AsksIff
+unfolding beyond askOf tooWide
+asks-iff (Bus n) ask =
+    (λ e. let x = beyond-is (A·Bus n) ask .0 e in let w = wide-iff (Bus n) .0 (x .0) in (w, x .1 ∙ ap A·Bus w), λ y. beyond-is (A·Bus n) ask .1 (wide-iff (Bus n) .1 (y .0), y .1 ∙ ap A·Bus (sym (y .0))))
+asks-iff (L·Unit settings limits) ask =
+    (λ e. let x = beyond-is (On (settings .link)) ask .0 e in let w = wide-iff (L·Unit settings limits) .0 (x .0) in (w, x .1 ∙ ap On w), λ y. beyond-is (On (settings .link)) ask .1 (wide-iff (L·Unit settings limits) .1 (y .0), y .1 ∙ ap On (sym (y .0))))
+asks-iff (Vp u v target class outvpi) ask =
+    (λ e. let x = beyond-is (Out outvpi) ask .0 e in (wide-iff (Vp u v target class outvpi) .0 (x .0), x .1), λ y. beyond-is (Out outvpi) ask .1 (wide-iff (Vp u v target class outvpi) .1 (y .0), y .1))
+asks-iff (Drop u v) ask = (λ e. absurd (nothing-asked ask e), λ z. absurd z)
+asks-iff (Page u v topvci) ask = (λ e. absurd (nothing-asked ask e), λ z. absurd z)
+asks-iff (Vc u v w target class outvpi outvci) ask =
+    (λ e. let x = beyond-is (Out outvpi) ask .0 e in (wide-iff (Vc u v w target class outvpi outvci) .0 (x .0), x .1), λ y. beyond-is (Out outvpi) ask .1 (wide-iff (Vc u v w target class outvpi outvci) .1 (y .0), y .1))
+asks-iff (Mc u session) ask = (λ e. absurd (nothing-asked ask e), λ z. absurd z)
 
 asks-not : (l : Line) → (IsWide l → ⊥) → beyond (askOf l) ≡ Nothing
 asks-not l n = go (beyond (askOf l)) refl

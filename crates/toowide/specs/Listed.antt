@@ -5,10 +5,13 @@ use mathlib.Core.Bool.{true}
 use mathlib.Core.List.{List, [], _∷_, _++_, map}
 use mathlib.Core.Logic.{_↔_}
 use lib.ListN.{length, take, drop}
+use Rattle.header.specs.declared.Link.the-variants.{Nni}
 use Rattle.card.specs.declared.Ask.{Ask}
+use Rattle.card.specs.declared.Ask.the-variants.{Bus as A·Bus, On, Out}
 use Rattle.card.specs.declared.Card.the-variants.{Narrow, Wide as W}
 use Rattle.line.specs.Lines.{readingOf}
 use Rattle.line.specs.declared.Line.{Line}
+use Rattle.line.specs.declared.Line.the-variants.{Bus, Unit as L·Unit, Vp, Drop, Page, Vc, Mc}
 use Rattle.line.specs.declared.Reading.{Reading}
 use Rattle.line.specs.declared.Reading.the-variants.{Good}
 use Rattle.table.specs.declared.Outcome.the-variants.{Loaded, Refused}
@@ -46,6 +49,19 @@ wideOf (l ∷ told) = wideOf told ++ askedAt (length told + 1) (Good l) (beyond 
 -- a line asks for too much exactly if it is one of 01's Wide: "`bus` 32, `nni`, or outgoing VPI above 255"
 abbrev pub WideIff : Type 0
 WideIff = (l : Line) → ((ask : Ask) × (beyond (askOf l) ≡ Of ask)) ↔ IsWide l
+
+-- and what it asks is what 01's Wide names of it
+abbrev pub Names : Line → Ask → Type 0
+Names (Bus bus) ask = (bus ≡ 32) × (ask ≡ A·Bus 32)
+Names (L·Unit settings limits) ask = (settings .link ≡ Nni) × (ask ≡ On Nni)
+Names (Vp a b target class outvpi) ask = (255 < outvpi) × (ask ≡ Out outvpi)
+Names (Drop a b) ask = ⊥
+Names (Page a b top) ask = ⊥
+Names (Vc a b c target class outvpi outvci) ask = (255 < outvpi) × (ask ≡ Out outvpi)
+Names (Mc a session) ask = ⊥
+
+abbrev pub AsksIff : Type 0
+AsksIff = (l : Line) (ask : Ask) → (beyond (askOf l) ≡ Of ask) ↔ Names l ask
 
 -- of a text that the wide card takes
 module _ (text memory : List ℕ) (store rows : ℕ) (told : List Line) where

@@ -41,7 +41,7 @@ use Rattle.refining.proofs.Refined.{refines}
 use Rattle.flow.specs.Parts.{among}
 use Rattle.waiting.specs.Waiting.{framesIn, isFrame, TakesUp, saidAt, atThree, Ungranted, NoBoundBelow, BoundAttained}
 use Rattle.waiting.proofs.Bound.{gives-after}
-use Rattle.waiting.specs.Arbiters.{grants, WrongArbiters}
+use Rattle.waiting.specs.Arbiters.{played, isAmong, every, bounded, Arbiters}
 use Rattle.waiting.specs.Streets.{beside, three, arrives, tick, filled, busy, each, Examples}
 
 -- how the bound counts
@@ -50,9 +50,21 @@ unfolding framesIn isFrame among unitsOf beside
 examples = record { from-0 = refl; after-0 = refl; after-2 = refl; itself = refl; between = refl; listed = refl; frames = refl }
 
 -- and of which arbiters it is false
-pub wrong-arbiters : WrongArbiters
-unfolding grants run cyclic someAsks highest first granted
-wrong-arbiters = record { right = refl; never-kept = refl; from-last = refl; by-number = refl; lowest-first = refl; dropped = refl }
+pub arbiters : Arbiters
+unfolding played isAmong every bounded renewedFrom due run cyclic someAsks highest first granted
+arbiters =
+    record {
+      busy-holds = refl;
+      beside-holds = refl;
+      halves-hold = refl;
+      never-kept = refl;
+      from-last = refl;
+      by-number = refl;
+      lowest-first = refl;
+      drops = refl;
+      not-cleared = refl;
+      all-cleared = refl;
+    }
 
 -- the shelf once the unit of priority 3 is granted for the first time and has a cell more, with any frame number and history
 unfoldable started : Shelf
@@ -76,6 +88,7 @@ record Computed : Type 0 where
   says : (frame : ℕ) (history : List Entry) (es : List Event) → saidIn (steady frame history) (tick ∷ arrives 1 ∷ es) ≡ answers (Framed frame 1 1 0) ∷ answers (Arrived arrival.Queued) ∷ saidIn (again frame history) es
   stays : (frame : ℕ) (history : List Entry) → again frame history ≡ steady (again frame history .frame) (again frame history .history)
   bus-16 : busOf beside ≡ 16
+  two : length (unitsOf beside) ≡ 2
   one : length (atThree beside) ≡ 1
   -- the last of three
   last-asks : TakesUp (becomes (opened three) each) 2 3
@@ -91,6 +104,7 @@ computed =
       says = λ frame history es. refl;
       stays = λ frame history. refl;
       bus-16 = refl;
+      two = refl;
       one = refl;
       last-asks = refl;
       last-waits = refl;
@@ -173,15 +187,22 @@ all-good Wide = ((refl, (refl, (refl, (refl, (refl, tt))))), (refl, (refl, (refl
 -- so there is no such number for priority 1
 pub no-bound-below : NoBoundBelow
 unfolding beside textOf wordsOf parted fieldsOf numeral numeralTo unitLines framesIn isFrame ungranted
-no-bound-below card n =
+no-bound-below card =
     let good = accepted card beside 2 (let l : length (textOf beside) ≡ 89 = refl in omega arith) (λ e. let z : _≡_ {A = ℕ} 0 1 = cc in omega arith)
-    (omega arith, (omega arith, (omega arith, (omega arith, (inl refl, tt))))) (all-good card .0) refl in
-    record {
-      low = ungranted card beside 2 good filled (arrives 1 ∷ busy n) 0 1 n (computed .asks) (let f = busy-frames n in omega arith)
-          (subst (Never 0) (sym (computed .start (busy n))) (never-both 0 1 0 nobody 0 (saidIn started (busy n)) (λ e. omega arith) (never-granted n (started .frame) (started .history))));
-      bus = computed .bus-16;
-      one = computed .one;
-    }
+    (omega arith, (omega arith, (omega arith, (omega arith, (inl refl, tt))))) (all-good card .0) refl in (
+      beside,
+      λ n. (
+        record {
+          low = ungranted card beside 2 good filled (arrives 1 ∷ busy n) 0 1 n (computed .asks) (let f = busy-frames n in omega arith)
+              (subst (Never 0) (sym (computed .start (busy n))) (never-both 0 1 0 nobody 0 (saidIn started (busy n)) (λ e. omega arith) (never-granted n (started .frame) (started .history))));
+          bus = computed .bus-16;
+          two = computed .two;
+          one = computed .one;
+          first = refl;
+        },
+        refl,
+      ),
+    )
 
 -- and three units at priority 3 can need three frames
 pub bound-attained : BoundAttained

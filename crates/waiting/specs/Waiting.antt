@@ -128,14 +128,18 @@ pub record Ungranted (card : Card) (priority n : ℕ) : Type 0 where
   pub enough : n ≤ framesIn (frame buffer ∷ more)
   pub waits : GrantedBy unit n (frame buffer ∷ more) (gives card (runIn card (loadedIn card text memory store rows) es) (frame buffer ∷ more)) → ⊥
 
--- "on a 16 bus, that no such number holds for priority 1 beside a busy priority 3": for every n, and beside one unit of priority 3
+-- "on a 16 bus, that no such number holds for priority 1 beside a busy priority 3": of two units the other is at priority 3, and the frames begin with frame 0. That other one is busy: a
+-- frame in which somebody asks grants somebody (`frames-go-on`), and the unit itself it does not grant
 pub record Starves (card : Card) (n : ℕ) : Type 0 where
   pub low : Ungranted card 1 n
   pub bus : busOf (low .told) ≡ 16
+  pub two : length (unitsOf (low .told)) ≡ 2
   pub one : length (atThree (low .told)) ≡ 1
+  pub first : framesIn (low .es) ≡ 0
 
+-- with one table for every n
 abbrev pub NoBoundBelow : Type 0
-NoBoundBelow = (card : Card) (n : ℕ) → Starves card n
+NoBoundBelow = (card : Card) → (told : List Line) × ((n : ℕ) → (s : Starves card n) × (s .low .told ≡ told))
 
 -- and no lower number holds for priority 3: of three units one waits for the third frame
 pub record Attains (card : Card) : Type 0 where
