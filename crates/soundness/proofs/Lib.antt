@@ -8,3 +8,4 @@ pub mod Kept
 pub mod Laws
 pub mod InPlace
 pub mod Noted
+pub mod Words

@@ -1,5 +1,5 @@
 -- The declared units by their numbers: where and how each stands, 0 where none is declared. Assumes nothing.
-use Prim.Native.Nat.{ℕ, zero, suc, _+_, _*_, _/_, _%_, _≤_, _<_}
+use Prim.Native.Nat.{ℕ, zero, suc, _+_, _*_, _/_, _%_, _^_, _≤_, _<_}
 use mathlib.Core.Path.{_≡_}
 use mathlib.Core.Bool.{Bool, true, cond, _&&_, _||_}
 use mathlib.Core.List.{List, [], _∷_}
@@ -81,6 +81,11 @@ notedBy notes b held i (suc n) = set (notedBy notes b held (suc i) n) (col b i 0
 
 abbrev pub noteFrom : List ℕ → ℕ → ℕ
 noteFrom each i = getD each i 0
+
+-- n notes of an array from place `at` on as one number, the first lowest
+pub record Word (n : ℕ) (each : List ℕ) (at r : ℕ) : Type 0 where
+  pub small : r < 2 ^ (8 * n)
+  pub bytes : (k : ℕ) → k < n → r / 2 ^ (8 * k) % 256 ≡ getD each (at + k) 0
 
 abbrev pub notedIn : List ℕ → List ℕ
 notedIn b = notedBy (noteIn (getD b 803 0) b) b none 0 (getD b 805 0)

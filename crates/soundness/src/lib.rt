@@ -6,14 +6,14 @@ use shelf::Unit;
 ghost use mathlib.Core.Path.{_≡_};
 ghost use mathlib.Core.Bool.{true, _&&_, cond};
 ghost use mathlib.Core.Logic.{_⊎_};
-ghost use Prim.Native.Nat.{ℕ, _-_, _/_, _<_, _≤_};
+ghost use Prim.Native.Nat.{ℕ, _+_, _-_, _*_, _/_, _%_, _^_, _<_, _≤_};
 ghost use lib.Dec.{eqb, leb};
 ghost use lib.ListN.{length, getD};
 ghost use Rattle.outlet.specs.Outlets.{between, ringFits};
 ghost use Rattle.state.specs.Bytes.{col, ringBy};
 ghost use Rattle.soundness.specs.State.{roomy as roomyIn, nobodyOr};
 ghost use Rattle.soundness.specs.Lanes.{highestLink, lesser, settingsAt, limitsAt, ringsAt, fixedAt, laneAt, laneGood, lanes};
-ghost use Rattle.soundness.specs.Numbered.{standing as standingOf, noteAt, Notes, placeIn, marks, askIn, asksHeld, grantIn, cellsIn, howMany, noteFrom, notedBy, notedIn, none, heldIn, numbersGood};
+ghost use Rattle.soundness.specs.Numbered.{standing as standingOf, noteAt, Notes, placeIn, marks, askIn, asksHeld, grantIn, cellsIn, howMany, Word, notedBy, notedIn, none, heldIn, numbersGood};
 ghost use Rattle.soundness.specs.Soundings.{soundIn, looked};
 ghost use Rattle.soundness.specs.Admission.{admittedIn, toldApart, countedIn};
 
@@ -331,16 +331,45 @@ fn how_many(held: &[u8]) -> u8
     n
 }
 
-// Notes 16 places, each in its number's place, the last of them first. By 32, as the numbers are judged after it: until then the notes have reached
-// memory, and can be read in words.
-fn note_16(s: &[u8], each: &[u8; 32], from: usize, held: &mut [u8; 32])
-    requires { ⌜ (length (now s) ≡ 2048) × (from ≤ 16) ⌝ }
-    ensures { λ _. ⌜ now (held .exit) ≡ notedBy (noteFrom (now (each .entry))) (now (s .entry)) (now (held .entry)) from 16 ⌝ }
+// A note as a number of eight bytes.
+fn wide(note: u8) -> u64
+    ensures { λ r. ⌜ (r ≡ note) × (r < 256) ⌝ }
 {
-    let mut k: usize = 16;
+    note as u64
+}
+
+// Two notes as one number, the first lowest; so four, and so eight. What was written in words is best read in words: byte by byte each waits for the whole.
+fn two_of(each: &[u8; 32], at: usize) -> u64
+    requires { ⌜ at ≤ 30 ⌝ }
+    ensures { λ r. ⌜ Word 2 (now (each .entry)) at r ⌝ }
+{
+    wide(each[at]) | (wide(each[at + 1]) * 256)
+}
+
+fn four_of(each: &[u8; 32], at: usize) -> u64
+    requires { ⌜ at ≤ 28 ⌝ }
+    ensures { λ r. ⌜ Word 4 (now (each .entry)) at r ⌝ }
+{
+    two_of(each, at) | (two_of(each, at + 2) * 65536)
+}
+
+fn eight_of(each: &[u8; 32], at: usize) -> u64
+    requires { ⌜ at ≤ 24 ⌝ }
+    ensures { λ r. ⌜ Word 8 (now (each .entry)) at r ⌝ }
+{
+    four_of(each, at) | (four_of(each, at + 4) * 4294967296)
+}
+
+// Notes eight places, each in its number's place, the last of them first. By 32, as the numbers are judged after it: until then the notes have reached
+// memory, and can be read in words.
+fn note_8(s: &[u8], word: u64, from: usize, held: &mut [u8; 32])
+    requires { ⌜ (length (now s) ≡ 2048) × (from ≤ 24) ⌝ }
+    ensures { λ _. ⌜ ((notes : ℕ → ℕ) → ((k : ℕ) → k < 8 → word / 2 ^ (8 * k) % 256 ≡ notes (from + k)) → now (held .exit) ≡ notedBy notes (now (s .entry)) (now (held .entry)) from 8) ⌝ }
+{
+    let mut k: usize = 8;
     while 0 < k {
         k -= 1;
-        held[(state::at(s, 0, from + k) % 32) as usize] = each[from + k];
+        held[(state::at(s, 0, from + k) % 32) as usize] = ((word >> (8 * k)) % 256) as u8;
     }
 }
 
@@ -352,8 +381,8 @@ fn note_all(s: &[u8], held: &mut [u8; 32])
     let each = notes(s, s[803], s[805]);
     let mut from = reach(s[805]);
     while 0 < from {
-        from -= 16;
-        note_16(s, &each, from, held);
+        from -= 8;
+        note_8(s, eight_of(&each, from), from, held);
     }
 }
 

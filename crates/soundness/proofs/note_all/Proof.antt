@@ -11,7 +11,7 @@ use Rattle.soundness.proofs.note_all.Statement.{statement}
 use Rattle.soundness.proofs.note_all.Tie as tie
 
 abbrev Inv-loop : tie.InvT-loop
-Inv-loop s held₀ each from₀ held from = (from ≤ from₀) × (from₀ ≤ 32) × (from % 16 ≡ 0) × (held ≡ notedBy (noteFrom each) s held₀ from (from₀ - from))
+Inv-loop s held₀ each from₀ held from = (from ≤ from₀) × (from₀ ≤ 32) × (from % 8 ≡ 0) × (held ≡ notedBy (noteFrom each) s held₀ from (from₀ - from))
 
 abbrev μ-loop : tie.MeasureT-loop
 μ-loop s held₀ each from₀ held from = from
@@ -24,29 +24,29 @@ loop-holds c =
     let z : 0 ≡ end - end = omega arith in
     (omega arith, c .reach .ensures .0 .0, ⊎-elim (λ e. omega arith) (λ e. omega arith) (c .reach .ensures .1), ap (notedBy (noteFrom (c .before .before .notes .result)) (a .s .now) (a .held .now) end) z)
 
-note-16-requires : tie.Need-note-16-requires Inv-loop μ-loop
-note-16-requires c κs =
-    let l = c .before .before .before .loop in
+note-8-requires : tie.Need-note-8-requires Inv-loop μ-loop
+note-8-requires c κs =
+    let l = c .before .before .before .before .loop in
     let most = l .inv .1 in
-    (c .before .before .before .before .before .before .before .before .before .before .pre .0, omega (arith, most))
+    (c .before .before .before .before .before .before .before .before .before .before .before .pre .0, omega (arith, most))
 
 loop-again : tie.Need-loop-again Inv-loop μ-loop
 loop-again c =
-    let start = c .before .before .before .before in
+    let start = c .before .before .before .before .before in
     let l = start .loop in
     let end = start .before .reach .result in
     let a = start .before .before .before .before .before .before .before .args in
     let notes = noteFrom (start .before .before .before .notes .result) in
     let w = l .inv in
-    let there : l .from ≡ l .from - 16 + 16 = omega arith in
-    let many : 16 + (end - l .from) ≡ end - (l .from - 16) = omega arith in (
+    let there : l .from ≡ l .from - 8 + 8 = omega arith in
+    let many : 8 + (end - l .from) ≡ end - (l .from - 8) = omega arith in (
       omega arith,
       w .1,
       omega arith,
-      c .note-16 .ensures
-          ∙ ap (λ h. notedBy notes (a .s .now) h (l .from - 16) 16) (w .3 ∙ ap (λ k. notedBy notes (a .s .now) (a .held .now) k (end - l .from)) there)
-          ∙ by-before (a .s .now) notes (a .held .now) (l .from - 16) 16 (end - l .from)
-          ∙ ap (notedBy notes (a .s .now) (a .held .now) (l .from - 16)) many,
+      c .note-8 .ensures notes (c .before .before .eight-of .ensures .bytes)
+          ∙ ap (λ h. notedBy notes (a .s .now) h (l .from - 8) 8) (w .3 ∙ ap (λ k. notedBy notes (a .s .now) (a .held .now) k (end - l .from)) there)
+          ∙ by-before (a .s .now) notes (a .held .now) (l .from - 8) 8 (end - l .from)
+          ∙ ap (notedBy notes (a .s .now) (a .held .now) (l .from - 8)) many,
     )
 
 returns : tie.Need-returns Inv-loop μ-loop
@@ -77,7 +77,8 @@ note-all-spec =
     (λ c κs. search needs)
     loop-holds
     (λ c. search needs)
-    note-16-requires
+    (λ c κs. search needs)
+    note-8-requires
     (λ c. search needs)
     loop-again
     returns)
