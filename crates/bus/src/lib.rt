@@ -5,7 +5,7 @@ ghost use Prim.Native.Nat.{_<_, _≤_};
 ghost use lib.ListN.{length};
 ghost use Rattle.remainder.specs.Division.{advance};
 ghost use Rattle.bus.specs.Routing.{divisor, check as checkOf, upper as upperOf, routing as headerOf, controlling, address as addressOf};
-ghost use Rattle.bus.specs.Frame.{parity as parityOf, cell, sealed, third as thirdOf, carried as carriedIn, heard as heardOf, returned as returnedAs};
+ghost use Rattle.bus.specs.Frame.{parity as parityOf, cell, sealed, third as thirdOf, returned as returnedAs};
 
 // To whom a cell goes: a unit, a session, or every unit.
 pub enum Target {
@@ -167,38 +167,6 @@ pub fn third(class: u8, number: u8, tandem: u8) -> Heard
         return Heard::Loopback(number);
     }
     Heard::Damaged
-}
-
-// What a frame of these bytes is heard as, its parity being right.
-fn carried(bytes: &[u8]) -> Heard
-    requires { ⌜ 56 ≤ length (now bytes) ⌝ }
-    ensures { λ r. ⌜ r ≡ carriedIn (now (bytes .entry)) ⌝ }
-{
-    match read(octets::two(bytes, 0)) {
-        Address::Bad => Heard::Damaged,
-        Address::To { target, class } => {
-            let header = octets::four(bytes, 4);
-            Heard::Cell {
-                target,
-                class,
-                header,
-            }
-        }
-        Address::Third { class, number } => third(class, number, bytes[2]),
-    }
-}
-
-// What a heard frame is.
-pub fn hear(frame: &[u8]) -> Heard
-    ensures { λ r. ⌜ r ≡ heardOf (now (frame .entry)) ⌝ }
-{
-    if frame.len() != 57 {
-        return Heard::Length;
-    }
-    if parity(&frame[..56]) != frame[56] {
-        return Heard::Damaged;
-    }
-    carried(frame)
 }
 
 // A loopback cell becomes a control cell for the unit named in its first tandem byte.

@@ -62,6 +62,11 @@ pub lost-all : (u : U.Unit) (b : List ℕ) (i : ℕ) (store : List ℕ) (cell : 
 unfolding fateBy stateBy storeBy
 lost-all u b i store cell p fate e = (sym (ap fateBy e), (sym (ap (λ x. stateBy x b i) e), sym (ap (λ x. storeBy x u i store cell) e)))
 
+-- what is so by one plan is so by the same one
+pub by-plan : (u : U.Unit) (b : List ℕ) (i : ℕ) (store : List ℕ) (cell : Cell) (p q : Plan) (fate : A.Hearing) (bytes cells : List ℕ) → p ≡ q →
+    (fate ≡ fateBy p) × ((bytes ≡ stateBy p b i) × (cells ≡ storeBy p u i store cell)) → (fate ≡ fateBy q) × ((bytes ≡ stateBy q b i) × (cells ≡ storeBy q u i store cell))
+by-plan u b i store cell p q fate bytes cells e w = (w .0 ∙ ap fateBy e, (w .1 .0 ∙ ap (λ x. stateBy x b i) e, w .1 .1 ∙ ap (λ x. storeBy x u i store cell) e))
+
 -- a copy that is addressed to the unit, by what is read of the unit's bytes: its queue, and the ring of that
 module _ (b : List ℕ) (i class : ℕ) (limits : Limits) (q : ℕ) (limits-is : limits ≡ limitsBy (col b i)) (queue-is : q ≡ queueOf limits class) where
   own-queue : q ≡ queueOf (unitIn b i .outlet .limits) class

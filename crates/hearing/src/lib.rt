@@ -2,7 +2,7 @@
 use answer::Answer;
 use answer::Hearing;
 use answer::Single;
-use bus::Heard;
+use bus::Address;
 use bus::Target;
 use card::Card;
 use outlet::Fate;
@@ -10,9 +10,9 @@ use shelf::Unit;
 use soundness::Admitted;
 ghost use mathlib.Core.Path.{_≡_};
 ghost use Prim.Native.Nat.{_<_, _≤_};
-ghost use lib.ListN.{length, take};
+ghost use lib.ListN.{length, getD, take};
 ghost use Rattle.answer.specs.Answers.{outcomeBy};
-ghost use Rattle.bus.specs.Frame.{heard as heardOf};
+ghost use Rattle.bus.specs.Frame.{third, carried, heard as heardOf};
 ghost use Rattle.bus.specs.declared.Heard.the-variants.{Control, Loopback};
 ghost use Rattle.state.specs.Bytes.{unitIn};
 ghost use Rattle.soundness.specs.Admission.{Housed};
@@ -104,29 +104,56 @@ pub fn hear_loopback(s: &mut [u8], place: usize, unit: u8, cell: &[u8], store: &
     Hearing::Queued
 }
 
-// The unit in a place hears a frame of this cell. What is no frame is damaged.
-fn hear_one(s: &mut [u8], place: usize, heard: Heard, cell: &[u8], store: &mut [u8]) -> Hearing
+// A cell of kind 3 with this class and number is heard in a place.
+fn hear_third(
+    s: &mut [u8],
+    place: usize,
+    class: u8,
+    number: u8,
+    cell: &[u8],
+    store: &mut [u8],
+) -> Hearing
     requires { ⌜ (length (now s) ≡ 2048) × (length (now cell) ≡ 56) × Housed place (unitIn (now s) place) (length (now store)) ⌝ }
-    ensures { λ r. ⌜ r ≡ fateBy (planOf (unitIn (now (s .entry)) place) heard) ⌝ }
-    ensures kept { λ _. ⌜ (now (s .exit) ≡ stateBy (planOf (unitIn (now (s .entry)) place) heard) (now (s .entry)) place)
-        × (now (store .exit) ≡ storeOf (unitIn (now (s .entry)) place) heard place (now (store .entry)) (now (cell .entry))) ⌝ }
+    ensures { λ r. ⌜ r ≡ fateBy (planOf (unitIn (now (s .entry)) place) (third class number (getD (now (cell .entry)) 2 0))) ⌝ }
+    ensures kept { λ _. ⌜ (now (s .exit) ≡ stateBy (planOf (unitIn (now (s .entry)) place) (third class number (getD (now (cell .entry)) 2 0))) (now (s .entry)) place)
+        × (now (store .exit) ≡ storeOf (unitIn (now (s .entry)) place) (third class number (getD (now (cell .entry)) 2 0)) place (now (store .entry)) (now (cell .entry))) ⌝ }
 {
-    match heard {
-        Heard::Length => Hearing::Damaged,
-        Heard::Damaged => Hearing::Damaged,
-        Heard::Cell {
-            target,
-            class,
-            header,
-        } => {
+    if 31 < number {
+        return Hearing::Damaged;
+    }
+    if class == 0 {
+        return hear_control(s, place, number, cell, store);
+    }
+    if (class == 1) & (cell[2] <= 31) {
+        return hear_loopback(s, place, number, cell, store);
+    }
+    Hearing::Damaged
+}
+
+// The unit in a place hears a frame of this cell, its parity being right.
+fn hear_cell(s: &mut [u8], place: usize, cell: &[u8], store: &mut [u8]) -> Hearing
+    requires { ⌜ (length (now s) ≡ 2048) × (length (now cell) ≡ 56) × Housed place (unitIn (now s) place) (length (now store)) ⌝ }
+    ensures { λ r. ⌜ r ≡ fateBy (planOf (unitIn (now (s .entry)) place) (carried (now (cell .entry)))) ⌝ }
+    ensures kept { λ _. ⌜ (now (s .exit) ≡ stateBy (planOf (unitIn (now (s .entry)) place) (carried (now (cell .entry)))) (now (s .entry)) place)
+        × (now (store .exit) ≡ storeOf (unitIn (now (s .entry)) place) (carried (now (cell .entry))) place (now (store .entry)) (now (cell .entry))) ⌝ }
+{
+    match bus::read(octets::two(cell, 0)) {
+        Address::Bad => Hearing::Damaged,
+        Address::To { target, class } => {
             if !addressed_at(s, place, target) {
                 return Hearing::Other;
             }
-            accept(s, place, class, header, cell, store)
+            accept(s, place, class, octets::four(cell, 4), cell, store)
         }
-        Heard::Control(unit) => hear_control(s, place, unit, cell, store),
-        Heard::Loopback(unit) => hear_loopback(s, place, unit, cell, store),
+        Address::Third { class, number } => hear_third(s, place, class, number, cell, store),
     }
+}
+
+// What comes of this fate in a place.
+fn fated(place: usize, fate: Hearing) -> Single
+    ensures { λ r. ⌜ outcomeBy r ≡ outcomeAt place fate ⌝ }
+{
+    answer::counted(Answer::Heard(fate), place, answer::hearing_rises(fate))
 }
 
 // The unit in a place hears a frame handed in.
@@ -136,8 +163,10 @@ fn hear_at(s: &mut [u8], place: usize, store: &mut [u8], frame: &[u8]) -> Single
     ensures kept { λ _. ⌜ (now (s .exit) ≡ stateAt (now (s .entry)) place (now (frame .entry)))
         × (now (store .exit) ≡ storeOf (unitIn (now (s .entry)) place) (heardOf (now (frame .entry))) place (now (store .entry)) (take 56 (now (frame .entry)))) ⌝ }
 {
-    let fate = hear_one(s, place, bus::hear(frame), &frame[..56], store);
-    answer::counted(Answer::Heard(fate), place, answer::hearing_rises(fate))
+    if bus::parity(&frame[..56]) != frame[56] {
+        return fated(place, Hearing::Damaged);
+    }
+    fated(place, hear_cell(s, place, &frame[..56], store))
 }
 
 // Hearing of a frame by the unit with this number; everything but the counter rows, of which there are so many.
