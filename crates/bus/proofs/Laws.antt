@@ -11,7 +11,7 @@ use Rattle.octets.specs.Octets.{be2, be4, splice}
 use Rattle.octets.proofs.Parts.{written}
 use Rattle.bus.specs.Routing.{controlling}
 use Rattle.bus.specs.Frame.{cell, parity, sealed, carried, heard, returned}
-use Rattle.bus.specs.declared.Heard.the-variants.{Length, Damaged}
+use Rattle.bus.specs.Heard.{Length, Damaged}
 
 -- what is written one after the other is the cell
 pub composed : (r h : ℕ) (payload b : List ℕ) → length payload ≡ 48 → length b ≡ 56 → splice (splice (splice (splice b 0 (be2 r)) 2 (be2 0)) 4 (be4 h)) 8 payload ≡ cell r 0 h payload

@@ -16,7 +16,7 @@ use Rattle.bus.specs.declared.Target.the-variants.{Unit}
 use Rattle.bus.specs.Routing.{Sayable}
 use Rattle.bus.proofs.RoutingLaws.{address-routing, routing-lt, address-controlling, controlling-lt}
 use Rattle.bus.specs.Frame.{cell, parity, exclusiveOr, sealed, third, delivered, carried, heard, returned}
-use Rattle.bus.specs.declared.Heard.the-variants.{Cell, Control, Loopback, Damaged}
+use Rattle.bus.specs.Heard.{Cell, Control, Loopback, Damaged}
 use Rattle.bus.proofs.Laws.{heard-carried}
 
 -- what follows is not read

@@ -10,8 +10,7 @@ use Rattle.octets.specs.Octets.{be2, be4, two, four, part}
 use Rattle.bus.specs.Routing.{controlling, address}
 use Rattle.bus.specs.declared.Address.{Address}
 use Rattle.bus.specs.declared.Address.the-variants as said
-use Rattle.bus.specs.declared.Heard.{Heard}
-use Rattle.bus.specs.declared.Heard.the-variants.{Length, Damaged, Cell, Control, Loopback}
+use Rattle.bus.specs.Heard.{Heard, Length, Damaged, Cell, Control, Loopback}
 
 -- the 56 bytes before parity, with any tandem header
 unfoldable pub cell : ℕ → ℕ → ℕ → List ℕ → List ℕ
@@ -44,9 +43,12 @@ delivered said.Bad tandem header = Damaged
 delivered (said.To target class) tandem header = Cell target class header
 delivered (said.Third class number) tandem header = third class number tandem
 
--- what a frame of these bytes is heard as, its parity being right
+-- what a frame of these bytes is heard as, its parity being right: with this address, and with its own
+abbrev pub heardAs : Address → List ℕ → Heard
+heardAs said bytes = delivered said (getD bytes 2 0) (four bytes 4)
+
 unfoldable pub carried : List ℕ → Heard
-carried bytes = delivered (address (two bytes 0)) (getD bytes 2 0) (four bytes 4)
+carried bytes = heardAs (address (two bytes 0)) bytes
 
 -- "Bad parity, bad check, unicast above 31 or broadcast address not 0 is `damaged`." What has not 57 bytes is no frame
 unfoldable pub heard : List ℕ → Heard

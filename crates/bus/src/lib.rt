@@ -1,11 +1,10 @@
-// The bus: the routing header, which takes a cell over it, with its check; the 56 bytes of a cell before parity, the frame of 57, and what a heard
-// frame is.
+// The bus: the routing header, which takes a cell over it, with its check; the 56 bytes of a cell before parity, and the frame of 57.
 ghost use mathlib.Core.Path.{_≡_};
 ghost use Prim.Native.Nat.{_<_, _≤_};
 ghost use lib.ListN.{length};
 ghost use Rattle.remainder.specs.Division.{advance};
 ghost use Rattle.bus.specs.Routing.{divisor, check as checkOf, upper as upperOf, routing as headerOf, controlling, address as addressOf};
-ghost use Rattle.bus.specs.Frame.{parity as parityOf, cell, sealed, third as thirdOf, returned as returnedAs};
+ghost use Rattle.bus.specs.Frame.{parity as parityOf, cell, sealed, returned as returnedAs};
 
 // To whom a cell goes: a unit, a session, or every unit.
 pub enum Target {
@@ -104,19 +103,6 @@ pub fn read(routing: u16) -> Address
     Address::Third { class, number }
 }
 
-// What a heard frame is: no frame, damaged, a data cell, or a control or a loopback cell for a unit. A data cell's payload is the frame's bytes 8 to 55.
-pub enum Heard {
-    Length,
-    Damaged,
-    Cell {
-        target: Target,
-        class: u8,
-        header: u32,
-    },
-    Control(u8),
-    Loopback(u8),
-}
-
 // The exclusive-or of some bytes.
 pub fn parity(bytes: &[u8]) -> u8
     ensures { λ r. ⌜ r ≡ parityOf (now (bytes .entry)) ⌝ }
@@ -151,22 +137,6 @@ pub fn seal(bytes: &[u8], frame: &mut [u8])
     octets::copy(&bytes[..56], &mut cell, 0);
     octets::copy(&cell, frame, 0);
     frame[56] = parity(bytes);
-}
-
-// What a cell of kind 3 is heard as, by its class, its address and its first tandem byte.
-pub fn third(class: u8, number: u8, tandem: u8) -> Heard
-    ensures { λ r. ⌜ r ≡ thirdOf class number tandem ⌝ }
-{
-    if 31 < number {
-        return Heard::Damaged;
-    }
-    if class == 0 {
-        return Heard::Control(number);
-    }
-    if (class == 1) & (tandem <= 31) {
-        return Heard::Loopback(number);
-    }
-    Heard::Damaged
 }
 
 // A loopback cell becomes a control cell for the unit named in its first tandem byte.

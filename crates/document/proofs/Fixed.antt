@@ -8,8 +8,7 @@ use mathlib.Core.Option.{Option, none, some}
 use lib.Dec.{eqb}
 use lib.ListN.{length, set}
 use lib.Seq.{map-set-same}
-use Rattle.bus.specs.declared.Heard as B
-use Rattle.bus.specs.declared.Heard.the-variants as sort
+use Rattle.bus.specs.Heard as sort
 use Rattle.outlet.specs.declared.Limits.{Limits}
 use Rattle.outlet.specs.declared.Leaving as L
 use Rattle.outlet.specs.declared.Leaving.the-variants as leaves
@@ -40,7 +39,7 @@ abbrev pub given : Shelf → List Given
 given d = map givenOf (d .units)
 
 -- hearing a frame
-placed : (u : Unit) (x : OnBus) (h : B.Heard) → givenOf (placing u x h) ≡ givenOf u
+placed : (u : Unit) (x : OnBus) (h : sort.Heard) → givenOf (placing u x h) ≡ givenOf u
 unfolding placing
 placed u x sort.Length = refl
 placed u x sort.Damaged = refl

@@ -7,7 +7,7 @@ use lib.ListN.{drop, set, replicate}
 use Rattle.octets.specs.Octets.{part}
 use Rattle.bus.specs.Routing.{routing}
 use Rattle.bus.specs.Frame.{cell as onBus, sealed, carried, returned}
-use Rattle.bus.specs.declared.Heard.the-variants as frame
+use Rattle.bus.specs.Heard as frame
 use Rattle.arbiter.specs.Arbitration.{asksNow, renewed, grantedBy}
 use Rattle.arbiter.specs.declared.Arbiter.{Arbiter}
 use Rattle.arbiter.specs.declared.Granted.{Granted}

@@ -7,8 +7,7 @@ use lib.ListN.{length, take}
 use Rattle.bus.specs.declared.Target as T
 use Rattle.bus.specs.declared.Target.the-variants as target
 use Rattle.bus.specs.Frame.{heard, payload}
-use Rattle.bus.specs.declared.Heard as H
-use Rattle.bus.specs.declared.Heard.the-variants as frame
+use Rattle.bus.specs.Heard as frame
 use Rattle.outlet.specs.Outlets.{capacity}
 use Rattle.outlet.specs.Hearing.{queueOf, limit, tooWide, busClp}
 use Rattle.line.specs.declared.Line.{Line}
@@ -37,7 +36,7 @@ unfoldable pub roomIn : ℕ → List (List ℕ) → A.Hearing
 roomIn most cells = cond (leb most (length cells)) Full Queued
 
 -- "Bad parity .. is `damaged`. Not addressed: `other`". "Routing kind 3 now means control or loopback to one unit"
-unfoldable pub hearingOf : List Line → Unit → H.Heard → A.Hearing
+unfoldable pub hearingOf : List Line → Unit → frame.Heard → A.Hearing
 hearingOf lines u frame.Length = Damaged
 hearingOf lines u frame.Damaged = Damaged
 hearingOf lines u (frame.Cell target class header) = cond (addressed lines u target) (fateIn u (queueOf (u .limits) class) header) Other
@@ -46,12 +45,12 @@ hearingOf lines u (frame.Loopback unit) = cond (eqb (numberOf u) unit) (roomIn 1
 
 -- a cell on the bus: what it is heard as, its payload, and its 56 bytes before parity
 pub record OnBus : Type 0 where
-  pub heard : H.Heard
+  pub heard : frame.Heard
   pub payload : List ℕ
   pub bytes : List ℕ
 
 -- a queued copy stands behind the others in its queue: a data cell in that of its class, a control cell in the control outlet, a loopback cell in the loopback outlet
-unfoldable pub placing : Unit → OnBus → H.Heard → Unit
+unfoldable pub placing : Unit → OnBus → frame.Heard → Unit
 placing u x frame.Length = u
 placing u x frame.Damaged = u
 placing u x (frame.Cell target class header) =

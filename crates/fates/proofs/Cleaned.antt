@@ -11,8 +11,7 @@ use lib.Seq.{take-at}
 use borrow.Author.Tests.{eqb-true, eqb-false, eq-eqb}
 use Rattle.bus.specs.Routing.{routing}
 use Rattle.bus.specs.Frame.{cell, parity, sealed, heard, payload}
-use Rattle.bus.specs.declared.Heard as B
-use Rattle.bus.specs.declared.Heard.the-variants as sort
+use Rattle.bus.specs.Heard as sort
 use Rattle.bus.proofs.Wire.{heard-sealed}
 use Rattle.arbiter.specs.Arbitration.{nobody}
 use Rattle.line.specs.declared.Line.{Line}
@@ -107,10 +106,10 @@ module _ (lines : List Line) (x : OnBus) where
       omega arith
 
 -- 2. whether a unit is addressed, as a fact
-abbrev IsFor : List Line → D·Unit → B.Heard → Type 0
+abbrev IsFor : List Line → D·Unit → sort.Heard → Type 0
 IsFor lines u h = SoundWith u h (λ target class header. Addressed lines u target) (λ unit cells most. numberOf u ≡ unit)
 
-for-iff : (lines : List Line) (u : D·Unit) (h : B.Heard) → (isFor lines u h ≡ true) ↔ IsFor lines u h
+for-iff : (lines : List Line) (u : D·Unit) (h : sort.Heard) → (isFor lines u h ≡ true) ↔ IsFor lines u h
 unfolding isFor
 for-iff lines u sort.Length = (λ e. let z : _≡_ {A = ℕ} 0 1 = cc in absurd (omega arith), λ e. absurd e)
 for-iff lines u sort.Damaged = (λ e. let z : _≡_ {A = ℕ} 0 1 = cc in absurd (omega arith), λ e. absurd e)

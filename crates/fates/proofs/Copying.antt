@@ -6,8 +6,7 @@ use mathlib.Core.Logic.{_≢_}
 use mathlib.Core.List.{List, [], _∷_, _++_, map}
 use lib.ListN.{length, length-append, getD, set}
 use lib.Seq.{getD-set-same, getD-set-other}
-use Rattle.bus.specs.declared.Heard as B
-use Rattle.bus.specs.declared.Heard.the-variants as sort
+use Rattle.bus.specs.Heard as sort
 use Rattle.outlet.specs.Hearing.{queueOf}
 use Rattle.outlet.proofs.Fates.{queue-lt}
 use Rattle.line.specs.declared.Line.{Line}
@@ -42,11 +41,11 @@ module _ (u : D·Unit) (four : length (u .queues) ≡ 4) (x : Cell) where
 
 -- a unit that hears a cell
 module _ (lines : List Line) (u : D·Unit) (four : length (u .queues) ≡ 4) (payload bytes : List ℕ) where
-  abbrev on-bus : B.Heard → OnBus
+  abbrev on-bus : sort.Heard → OnBus
   on-bus h = record { heard = h; payload = payload; bytes = bytes }
 
   -- only a queued copy is one more
-  by-fate : (h : B.Heard) → inOutlet (placing u (on-bus h) h) ≡ 1 + inOutlet u → (fate : Q.Hearing) → inOutlet (keeping fate u (on-bus h)) ≡ queuedOne fate + inOutlet u
+  by-fate : (h : sort.Heard) → inOutlet (placing u (on-bus h) h) ≡ 1 + inOutlet u → (fate : Q.Hearing) → inOutlet (keeping fate u (on-bus h)) ≡ queuedOne fate + inOutlet u
   unfolding keeping queuedOne
   by-fate h more hearing.Damaged = omega arith
   by-fate h more hearing.Other = omega arith
@@ -55,7 +54,7 @@ module _ (lines : List Line) (u : D·Unit) (four : length (u .queues) ≡ 4) (pa
   by-fate h more hearing.Clp = omega arith
   by-fate h more hearing.Queued = more
 
-  heard-one : (h : B.Heard) → inOutlet (hearingUnit lines u (on-bus h)) ≡ queuedOne (hearingOf lines u h) + inOutlet u
+  heard-one : (h : sort.Heard) → inOutlet (hearingUnit lines u (on-bus h)) ≡ queuedOne (hearingOf lines u h) + inOutlet u
   unfolding hearingOf placing keeping queuedOne
   heard-one sort.Length = omega arith
   heard-one sort.Damaged = omega arith

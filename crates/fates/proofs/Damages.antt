@@ -2,7 +2,7 @@
 use mathlib.Core.Path.{_≡_, sym, ap, _∙_}
 use mathlib.Core.Logic.{_↔_}
 use Rattle.bus.specs.Frame.{heard}
-use Rattle.bus.specs.declared.Heard.the-variants as sort
+use Rattle.bus.specs.Heard as sort
 use Rattle.answer.specs.declared.Hearing.the-variants as hearing
 use Rattle.paper.specs.Cells.{two, four, class, address, Damaged}
 use Rattle.paper.proofs.Cells.{HeardAs, as-damaged, as-cell, as-control, as-loopback, heard-as}

@@ -15,8 +15,7 @@ use Rattle.header.specs.declared.Header as H
 use Rattle.bus.specs.declared.Target as T
 use Rattle.bus.specs.declared.Target.the-variants as target
 use Rattle.bus.specs.Frame.{heard}
-use Rattle.bus.specs.declared.Heard as B
-use Rattle.bus.specs.declared.Heard.the-variants as frame
+use Rattle.bus.specs.Heard as frame
 use Rattle.outlet.specs.Hearing.{busClp, tooWide}
 use Rattle.outlet.proofs.Fates.{wide-iff}
 use Rattle.line.specs.declared.Line.{Line}
@@ -325,7 +324,7 @@ loopback-is lines u unit hearing.Clp = (λ f. f, λ f. f)
 loopback-is lines u unit hearing.Queued = (λ f. f, λ f. f)
 
 -- the same of anything heard: what is no sound frame is damaged
-hearing-from : (lines : List Line) (u : D·Unit) (h : B.Heard) (fate : Q.Hearing) → HearingIs lines u h fate → hearingOf lines u h ≡ fate
+hearing-from : (lines : List Line) (u : D·Unit) (h : frame.Heard) (fate : Q.Hearing) → HearingIs lines u h fate → hearingOf lines u h ≡ fate
 unfolding hearingOf
 hearing-from lines u (frame.Cell t class header) fate f = cell-from lines u t class header fate f
 hearing-from lines u (frame.Control unit) fate f = aside-from u unit (u .side .controlout) 4 fate (control-is lines u unit fate .1 f)
@@ -344,7 +343,7 @@ hearing-from lines u frame.Damaged hearing.Clp f = absurd f
 hearing-from lines u frame.Damaged hearing.Queued f = absurd f
 
 -- and the fate that it is has its fact
-hearing-holds : (lines : List Line) (u : D·Unit) (h : B.Heard) → HearingIs lines u h (hearingOf lines u h)
+hearing-holds : (lines : List Line) (u : D·Unit) (h : frame.Heard) → HearingIs lines u h (hearingOf lines u h)
 unfolding hearingOf
 hearing-holds lines u frame.Length = λ s. s
 hearing-holds lines u frame.Damaged = λ s. s

@@ -14,8 +14,7 @@ use Rattle.octets.specs.Octets.{four, part}
 use Rattle.header.specs.Check.{check}
 use Rattle.header.specs.declared.Header as H
 use Rattle.bus.specs.Frame.{heard}
-use Rattle.bus.specs.declared.Heard as B
-use Rattle.bus.specs.declared.Heard.the-variants as sort
+use Rattle.bus.specs.Heard as sort
 use Rattle.outlet.specs.Hearing.{queueOf}
 use Rattle.outlet.proofs.Fates.{queue-lt}
 use Rattle.shelf.specs.Shelves.{placeFrom}
@@ -120,11 +119,11 @@ module _ (lines : List Line) (u : D·Unit) (wide : length (u .queues) ≡ 4) (in
   abbrev with : D·Unit
   with = withSide (withInlet u inlet) (record { controlin = control; loopbackin = loopback; controlout = u .side .controlout; loopbackout = u .side .loopbackout })
 
-  abbrev on-bus : B.Heard → OnBus
+  abbrev on-bus : sort.Heard → OnBus
   on-bus h = record { heard = h; payload = payload; bytes = bytes }
 
   -- a fate and the unit with it
-  pub record HeldWith (h : B.Heard) (fate : Q.Hearing) (v : D·Unit) : Type 0 where
+  pub record HeldWith (h : sort.Heard) (fate : Q.Hearing) (v : D·Unit) : Type 0 where
     pub queued : (fate ≡ hearing.Queued) ↔ Behind u (on-bus h) h v
     pub lost : (fate ≡ hearing.Queued → ⊥) → SameOutlets u v
     pub others : (q : ℕ) → SoundWith u h (λ target class header. q ≢ queueOf (u .limits) class) (λ unit cells most. Unit {0}) → queueAt v q ≡ queueAt u q
@@ -132,14 +131,14 @@ module _ (lines : List Line) (u : D·Unit) (wide : length (u .queues) ≡ 4) (in
     pub loopback-kept : ((unit : ℕ) → h ≡ sort.Loopback unit → ⊥) → v .side .loopbackout ≡ u .side .loopbackout
 
   -- nothing stands behind where all is as it was
-  not-behind : (h : B.Heard) → Behind u (on-bus h) h with → ⊥
+  not-behind : (h : sort.Heard) → Behind u (on-bus h) h with → ⊥
   not-behind sort.Length b = b
   not-behind sort.Damaged b = b
   not-behind (sort.Cell target class header) b = longer (queueAt u (queueOf (u .limits) class)) (record { header = header; payload = payload }) b
   not-behind (sort.Control unit) b = longer (u .side .controlout) bytes b
   not-behind (sort.Loopback unit) b = longer (u .side .loopbackout) bytes b
 
-  as-it-was : (h : B.Heard) (fate : Q.Hearing) → (fate ≡ hearing.Queued → ⊥) → HeldWith h fate with
+  as-it-was : (h : sort.Heard) (fate : Q.Hearing) → (fate ≡ hearing.Queued → ⊥) → HeldWith h fate with
   as-it-was h fate n =
       record {
         queued = (λ e. absurd (n e), λ e. absurd (not-behind h e));
@@ -150,7 +149,7 @@ module _ (lines : List Line) (u : D·Unit) (wide : length (u .queues) ≡ 4) (in
       }
 
   -- each fate
-  by-fate : (h : B.Heard) → HeldWith h hearing.Queued (placing with (on-bus h) h) → (fate : Q.Hearing) → HeldWith h fate (keeping fate with (on-bus h))
+  by-fate : (h : sort.Heard) → HeldWith h hearing.Queued (placing with (on-bus h) h) → (fate : Q.Hearing) → HeldWith h fate (keeping fate with (on-bus h))
   unfolding keeping
   by-fate h kept hearing.Damaged = as-it-was h hearing.Damaged (λ e. let z : _≡_ {A = ℕ} 0 1 = cc in omega arith)
   by-fate h kept hearing.Other = as-it-was h hearing.Other (λ e. let z : _≡_ {A = ℕ} 0 1 = cc in omega arith)
@@ -185,7 +184,7 @@ module _ (lines : List Line) (u : D·Unit) (wide : length (u .queues) ≡ 4) (in
       record { queued = (λ e. refl, λ e. refl); lost = λ n. absurd (n refl); others = λ p s. refl; control-kept = λ e. refl; loopback-kept = λ e. absurd (e unit refl) }
 
   -- so of whatever is heard, with the fate that the unit itself would give it
-  held-with : (h : B.Heard) → HeldWith h (hearingOf lines u h) (hearingUnit lines with (on-bus h))
+  held-with : (h : sort.Heard) → HeldWith h (hearingOf lines u h) (hearingUnit lines with (on-bus h))
   unfolding hearingOf fateIn keeping
   held-with sort.Length = as-it-was sort.Length hearing.Damaged (λ e. let z : _≡_ {A = ℕ} 0 1 = cc in omega arith)
   held-with sort.Damaged = as-it-was sort.Damaged hearing.Damaged (λ e. let z : _≡_ {A = ℕ} 0 1 = cc in omega arith)
@@ -196,7 +195,7 @@ module _ (lines : List Line) (u : D·Unit) (wide : length (u .queues) ≡ 4) (in
   held-with (sort.Control unit) = by-fate (sort.Control unit) (control-behind unit) (hearingOf lines u (sort.Control unit))
   held-with (sort.Loopback unit) = by-fate (sort.Loopback unit) (loopback-behind unit) (hearingOf lines u (sort.Loopback unit))
 
-  copy-with : (h : B.Heard) → CopyHeld lines u (on-bus h) (hearingUnit lines with (on-bus h))
+  copy-with : (h : sort.Heard) → CopyHeld lines u (on-bus h) (hearingUnit lines with (on-bus h))
   copy-with h = let k = held-with h in record { queued = k .queued; lost = k .lost; others = k .others; control = k .control-kept; loopback = k .loopback-kept }
 
 -- a unit that hears, and the sender, without the cell that it sends

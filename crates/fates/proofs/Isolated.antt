@@ -47,7 +47,7 @@ use Rattle.arriving.specs.Arriving as arriving
 use Rattle.arriving.specs.declared.Way.{Way}
 use Rattle.arriving.specs.declared.Way.the-variants.{Bus, Lost}
 use Rattle.arriving.proofs.Leaves.{inlet-inside}
-use Rattle.bus.specs.declared.Heard as H
+use Rattle.bus.specs.Heard as H
 use Rattle.hearing.specs.Hearings as hearing
 use Rattle.hearing.proofs.Plans.{plan-queue, outlet-inside, control-inside, loopback-inside}
 use Rattle.taking.specs.Takes as taking

@@ -6,8 +6,7 @@ use mathlib.Core.Logic.{_≢_}
 use mathlib.Core.List.{List}
 use lib.ListN.{length}
 use Rattle.bus.specs.Frame.{heard, payload}
-use Rattle.bus.specs.declared.Heard as B
-use Rattle.bus.specs.declared.Heard.the-variants.{Cell}
+use Rattle.bus.specs.Heard.{Heard, Cell}
 use Rattle.arbiter.specs.Arbitration.{nobody}
 use Rattle.document.specs.Events.{frame}
 use Rattle.paper.specs.Counters.{Counter, unheard, damaged}
@@ -20,7 +19,7 @@ use Rattle.fates.specs.Frames.{afterFrame, SendsOldest}
 use Rattle.fates.specs.Loaded.{FromLoad}
 
 -- a declared unit is addressed; "a damaged frame addresses none"
-abbrev pub SomeAddressed : Shelf → B.Heard → Type 0
+abbrev pub SomeAddressed : Shelf → Heard → Type 0
 SomeAddressed d h =
     (j : ℕ) × (j < length (d .units))
     × SoundWith (unitAt d j) h (λ target class header. Addressed (d .lines) (unitAt d j) target) (λ unit cells most. numberOf (unitAt d j) ≡ unit)
@@ -30,7 +29,7 @@ abbrev pub risen : Shelf → ℕ → Counter → ℕ
 risen d number c = times (d .history) number c
 
 -- what is heard of a frame
-abbrev pub heardIn : Shelf → List ℕ → B.Heard
+abbrev pub heardIn : Shelf → List ℕ → Heard
 heardIn d buffer = heard (happensTo d (frame buffer) .bytes)
 
 -- a data cell that arrived is heard with its target, its class and its header, so no unit counts it as `damaged`; what a processor hands in is "sent as they are", and may be

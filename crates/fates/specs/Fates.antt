@@ -12,8 +12,7 @@ use Rattle.header.specs.declared.Header as H
 use Rattle.bus.specs.declared.Target as T
 use Rattle.bus.specs.declared.Target.the-variants as target
 use Rattle.bus.specs.Frame.{heard}
-use Rattle.bus.specs.declared.Heard as B
-use Rattle.bus.specs.declared.Heard.the-variants as frame
+use Rattle.bus.specs.Heard as frame
 use Rattle.outlet.specs.Outlets.{capacity}
 use Rattle.outlet.specs.Hearing.{queueOf, limit, busClp, TooWide}
 use Rattle.shelf.specs.declared.Found.the-variants.{At}
@@ -90,7 +89,7 @@ Addressed lines u target.All = Unit {0}
 
 -- what is heard is a sound frame: the first holds of a data cell's target, class and header; the second of a control or a loopback cell's unit, of what stands in the outlet that is for
 -- it and of how many cells that outlet takes: "a four-cell control outlet and a one-cell loopback outlet"
-abbrev pub SoundWith : D·Unit → B.Heard → (T.Target → ℕ → ℕ → Type 0) → (ℕ → List (List ℕ) → ℕ → Type 0) → Type 0
+abbrev pub SoundWith : D·Unit → frame.Heard → (T.Target → ℕ → ℕ → Type 0) → (ℕ → List (List ℕ) → ℕ → Type 0) → Type 0
 SoundWith u frame.Length P Q = ⊥
 SoundWith u frame.Damaged P Q = ⊥
 SoundWith u (frame.Cell target class header) P Q = P target class header
@@ -114,7 +113,7 @@ heldOf u class = held u (queueOf (u .limits) class)
 
 -- "Bad parity .. is `damaged`. Not addressed: `other` .. Then: VPI above 255 at a UNI unit, `wide`; queue at capacity, `full`; CLP 1 and the queue at
 -- its limit or above, `clp`; else `queued`." Of control and loopback cells 02: "`full` if taken", "Neither cell meets `wide` or `clp`."
-abbrev pub HearingIs : List Line → D·Unit → B.Heard → Q.Hearing → Type 0
+abbrev pub HearingIs : List Line → D·Unit → frame.Heard → Q.Hearing → Type 0
 HearingIs lines u h hearing.Damaged = SoundWith u h (λ target class header. Unit {0}) (λ unit cells most. Unit {0}) → ⊥
 HearingIs lines u h hearing.Other = SoundWith u h (λ target class header. Addressed lines u target → ⊥) (λ unit cells most. numberOf u ≡ unit → ⊥)
 HearingIs lines u h hearing.Wide = SoundWith u h (λ target class header. Addressed lines u target × TooWide (u .settings .link) header) (λ unit cells most. ⊥)
@@ -138,7 +137,7 @@ abbrev pub ArrivalFateIff : Type 0
 ArrivalFateIff = (lines : List Line) (u : D·Unit) (c : List ℕ) (fate : A.Arrival) → (arrivalOf lines u c ≡ fate) ↔ ArrivalIs lines u c fate
 
 abbrev pub HearingFateIff : Type 0
-HearingFateIff = (lines : List Line) (u : D·Unit) (h : B.Heard) (fate : Q.Hearing) → (hearingOf lines u h ≡ fate) ↔ HearingIs lines u h fate
+HearingFateIff = (lines : List Line) (u : D·Unit) (h : frame.Heard) (fate : Q.Hearing) → (hearingOf lines u h ≡ fate) ↔ HearingIs lines u h fate
 
 -- a declared unit's event says that fate, and exactly that fate's counters rise: these lines and no others are new in the history
 pub record Tells (shelf : Shelf) (place : ℕ) (e : Event) (said : Said) (counted : List Counter) : Type 0 where

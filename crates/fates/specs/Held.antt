@@ -7,8 +7,7 @@ use mathlib.Core.Option.{Option, none, some}
 use lib.ListN.{length}
 use Rattle.octets.specs.Octets.{part}
 use Rattle.header.specs.declared.Header as H
-use Rattle.bus.specs.declared.Heard as B
-use Rattle.bus.specs.declared.Heard.the-variants as sort
+use Rattle.bus.specs.Heard as sort
 use Rattle.outlet.specs.Hearing.{queueOf}
 use Rattle.shelf.specs.declared.Found.the-variants.{At}
 use Rattle.line.specs.declared.Line.{Line}
@@ -44,7 +43,7 @@ pub record ArrivalHeld (lines : List Line) (before : D·Unit) (c : List ℕ) (af
   pub side : after .side ≡ before .side
 
 -- exactly the copy stands behind the others: of a data cell in the queue of its class, of a control or a loopback cell "the 56 bytes before parity" in the outlet that is for it
-abbrev pub Behind : D·Unit → OnBus → B.Heard → D·Unit → Type 0
+abbrev pub Behind : D·Unit → OnBus → sort.Heard → D·Unit → Type 0
 Behind before x sort.Length after = ⊥
 Behind before x sort.Damaged after = ⊥
 Behind before x (sort.Cell target class header) after =

@@ -10,8 +10,7 @@ use lib.ListN.{length}
 use borrow.Author.Tests.{eqb-true}
 use Rattle.shelf.specs.declared.Found as F
 use Rattle.shelf.specs.declared.Found.the-variants.{At, Nothing}
-use Rattle.bus.specs.declared.Heard as H
-use Rattle.bus.specs.declared.Heard.the-variants as frames
+use Rattle.bus.specs.Heard as frames
 use Rattle.outlet.specs.Hearing.{queueOf}
 use Rattle.line.specs.declared.Line.{Line}
 use Rattle.answer.specs.declared.Hearing as A
@@ -120,7 +119,7 @@ brought-routed test lines u (sends f) = omega arith
 brought-routed test lines u (moves p) = brought-routed test lines (movedUnit u) p
 
 -- a queue takes no more than is meant for it
-copy-meant : (test : Cell → Bool) (lines : List Line) (u : Unit) (h : H.Heard) (bytes : List ℕ) (q : ℕ) → meet test (copyIn lines u h bytes q) ≤ meet test (copyFor lines u h bytes q)
+copy-meant : (test : Cell → Bool) (lines : List Line) (u : Unit) (h : frames.Heard) (bytes : List ℕ) (q : ℕ) → meet test (copyIn lines u h bytes q) ≤ meet test (copyFor lines u h bytes q)
 unfolding copyIn copyFor hearingOf queuedOne among
 copy-meant test lines u frames.Length bytes q = omega arith
 copy-meant test lines u frames.Damaged bytes q = omega arith
@@ -137,7 +136,7 @@ copy-meant test lines u (frames.Cell target class header) bytes q = go (addresse
     go false fate b cells = omega arith
 
 -- what is meant for it goes by its number and its limits
-same-meant : (lines : List Line) (u v : Unit) (h : H.Heard) (bytes : List ℕ) (q : ℕ) → numberOf u ≡ numberOf v → u .limits ≡ v .limits → copyFor lines u h bytes q ≡ copyFor lines v h bytes q
+same-meant : (lines : List Line) (u v : Unit) (h : frames.Heard) (bytes : List ℕ) (q : ℕ) → numberOf u ≡ numberOf v → u .limits ≡ v .limits → copyFor lines u h bytes q ≡ copyFor lines v h bytes q
 unfolding copyFor
 same-meant lines u v frames.Length bytes q n l = refl
 same-meant lines u v frames.Damaged bytes q n l = refl

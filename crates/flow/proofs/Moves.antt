@@ -14,8 +14,7 @@ use Rattle.header.specs.Check.{check}
 use Rattle.header.specs.declared.Header as F
 use Rattle.octets.specs.Octets.{four, part}
 use Rattle.bus.specs.Frame.{returned}
-use Rattle.bus.specs.declared.Heard as H
-use Rattle.bus.specs.declared.Heard.the-variants as frames
+use Rattle.bus.specs.Heard as frames
 use Rattle.bus.specs.declared.Target.{Target}
 use Rattle.outlet.specs.Outlets.{capacity}
 use Rattle.outlet.specs.Hearing.{queueOf, limit, tooWide, busClp}
@@ -104,7 +103,7 @@ moved-out u = go (u .side .loopbackout) refl (u .side .loopbackin)
     go (c ∷ rest) e (b ∷ back) = refl
 
 -- a cell on the bus
-abbrev on : H.Heard → List ℕ → List ℕ → OnBus
+abbrev on : frames.Heard → List ℕ → List ℕ → OnBus
 on h payload bytes = record { heard = h; payload = payload; bytes = bytes }
 
 -- B. the queues
@@ -130,7 +129,7 @@ kept-queue hearing.Queued u target class header payload bytes p h = go (eqb p (q
         ∙ sym (append-nil (queueAt u p))
 
 -- a hearing, queue by queue
-heard-queue : (lines : List Line) (u : Unit) (h : H.Heard) (payload bytes : List ℕ) (p : ℕ) → length (u .queues) ≡ 4 → queueAt (hearingUnit lines u (on h payload bytes)) p ≡ queueAt u p ++ copyIn lines u h payload p
+heard-queue : (lines : List Line) (u : Unit) (h : frames.Heard) (payload bytes : List ℕ) (p : ℕ) → length (u .queues) ≡ 4 → queueAt (hearingUnit lines u (on h payload bytes)) p ≡ queueAt u p ++ copyIn lines u h payload p
 unfolding copyIn placing
 heard-queue lines u frames.Length payload bytes p four = kept-by (λ v. queueAt v p) _ u (on frames.Length payload bytes) refl ∙ sym (append-nil (queueAt u p))
 heard-queue lines u frames.Damaged payload bytes p four = kept-by (λ v. queueAt v p) _ u (on frames.Damaged payload bytes) refl ∙ sym (append-nil (queueAt u p))
@@ -186,7 +185,7 @@ queue-step lines u (moves p) q four =
     ap (λ x. getD x q [] ++ queuedBy lines (movedUnit u) p q) (sym (moved-queues u)) ∙ queue-step lines (movedUnit u) p q (ap length (moved-queues u) ∙ four)
 
 -- there are as many queues as there were
-placed-many : (u : Unit) (x : OnBus) (h : H.Heard) → length (placing u x h .queues) ≡ length (u .queues)
+placed-many : (u : Unit) (x : OnBus) (h : frames.Heard) → length (placing u x h .queues) ≡ length (u .queues)
 unfolding placing
 placed-many u x frames.Length = refl
 placed-many u x frames.Damaged = refl
@@ -218,7 +217,7 @@ pub record Waiting : Type 0 where
 abbrev pub waitingOf : Unit → Waiting
 waitingOf u = record { inlet = u .inlet; control = u .side .controlin; loopback = u .side .loopbackin }
 
-placed-waiting : (u : Unit) (x : OnBus) (h : H.Heard) → waitingOf (placing u x h) ≡ waitingOf u
+placed-waiting : (u : Unit) (x : OnBus) (h : frames.Heard) → waitingOf (placing u x h) ≡ waitingOf u
 unfolding placing
 placed-waiting u x frames.Length = refl
 placed-waiting u x frames.Damaged = refl
@@ -331,7 +330,7 @@ kept-loopback hearing.Clp u unit payload bytes = sym (append-nil (u .side .loopb
 kept-loopback hearing.Queued u unit payload bytes = refl
 
 -- a hearing, the control outlet
-heard-control : (lines : List Line) (u : Unit) (h : H.Heard) (payload bytes : List ℕ) → hearingUnit lines u (on h payload bytes) .side .controlout ≡ u .side .controlout ++ controlCopy lines u h bytes
+heard-control : (lines : List Line) (u : Unit) (h : frames.Heard) (payload bytes : List ℕ) → hearingUnit lines u (on h payload bytes) .side .controlout ≡ u .side .controlout ++ controlCopy lines u h bytes
 unfolding controlCopy placing
 heard-control lines u frames.Length payload bytes = kept-by (λ v. v .side .controlout) _ u (on frames.Length payload bytes) refl ∙ sym (append-nil (u .side .controlout))
 heard-control lines u frames.Damaged payload bytes = kept-by (λ v. v .side .controlout) _ u (on frames.Damaged payload bytes) refl ∙ sym (append-nil (u .side .controlout))
@@ -340,7 +339,7 @@ heard-control lines u (frames.Control unit) payload bytes = kept-control (hearin
 heard-control lines u (frames.Loopback unit) payload bytes = kept-by (λ v. v .side .controlout) _ u (on (frames.Loopback unit) payload bytes) refl ∙ sym (append-nil (u .side .controlout))
 
 -- and the loopback outlet
-heard-loopback : (lines : List Line) (u : Unit) (h : H.Heard) (payload bytes : List ℕ) → hearingUnit lines u (on h payload bytes) .side .loopbackout ≡ u .side .loopbackout ++ loopbackCopy lines u h bytes
+heard-loopback : (lines : List Line) (u : Unit) (h : frames.Heard) (payload bytes : List ℕ) → hearingUnit lines u (on h payload bytes) .side .loopbackout ≡ u .side .loopbackout ++ loopbackCopy lines u h bytes
 unfolding loopbackCopy placing
 heard-loopback lines u frames.Length payload bytes = kept-by (λ v. v .side .loopbackout) _ u (on frames.Length payload bytes) refl ∙ sym (append-nil (u .side .loopbackout))
 heard-loopback lines u frames.Damaged payload bytes = kept-by (λ v. v .side .loopbackout) _ u (on frames.Damaged payload bytes) refl ∙ sym (append-nil (u .side .loopbackout))
@@ -511,7 +510,7 @@ beside-all hearing.Clp bytes = refl
 beside-all hearing.Queued bytes = refl
 
 -- so of a hearing: one copy in one place, if it is queued
-heard-all : (lines : List Line) (u : Unit) (h : H.Heard) (payload bytes : List ℕ) → inAll (copyIn lines u h payload) + length (controlCopy lines u h bytes) + length (loopbackCopy lines u h bytes) ≡ queuedOne (hearingOf lines u h)
+heard-all : (lines : List Line) (u : Unit) (h : frames.Heard) (payload bytes : List ℕ) → inAll (copyIn lines u h payload) + length (controlCopy lines u h bytes) + length (loopbackCopy lines u h bytes) ≡ queuedOne (hearingOf lines u h)
 unfolding copyIn controlCopy loopbackCopy hearingOf queuedOne
 heard-all lines u frames.Length payload bytes = refl
 heard-all lines u frames.Damaged payload bytes = refl
@@ -639,7 +638,7 @@ room-comes most cells = go (leb most (length cells))
     go false = (refl, refl)
 
 -- a frame addresses the unit, or not
-heard-comes : (lines : List Line) (u : Unit) (h : H.Heard) → Comes (hearingCounts (hearingOf lines u h)) 0 (length (among (isFor lines u) (h ∷ [])))
+heard-comes : (lines : List Line) (u : Unit) (h : frames.Heard) → Comes (hearingCounts (hearingOf lines u h)) 0 (length (among (isFor lines u) (h ∷ [])))
 unfolding hearingOf hearingCounts occurs among isFor
 heard-comes lines u frames.Length = (refl, refl)
 heard-comes lines u frames.Damaged = (refl, refl)

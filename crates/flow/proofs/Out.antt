@@ -17,7 +17,7 @@ use Rattle.header.specs.declared.Header as H
 use Rattle.header.specs.declared.Link.{Link}
 use Rattle.header.specs.declared.Link.the-variants.{Nni}
 use Rattle.bus.specs.Frame.{heard, returned}
-use Rattle.bus.specs.declared.Heard.the-variants as frames
+use Rattle.bus.specs.Heard as frames
 use Rattle.bus.proofs.Laws.{heard-length}
 use Rattle.bus.specs.declared.Target.{Target}
 use Rattle.outlet.specs.declared.Mode.{Mode}

@@ -9,8 +9,7 @@ use lib.Dec.{ltb}
 use lib.ListN.{length, getD, List·getD-eq-default}
 use borrow.Author.Tests.{ltb-true, ltb-false}
 use Rattle.bus.specs.Frame.{returned}
-use Rattle.bus.specs.declared.Heard as H
-use Rattle.bus.specs.declared.Heard.the-variants as frames
+use Rattle.bus.specs.Heard as frames
 use Rattle.line.specs.declared.Line.{Line}
 use Rattle.meaning.proofs.Grown.{decide}
 use Rattle.paper.specs.Counters.{taken}
@@ -67,10 +66,10 @@ data-turn u e (from-loopback c rest) turn =
     absurd (omega (arith, ap length x))
 
 -- B. one event
-abbrev Data : H.Heard → Type 0
+abbrev Data : frames.Heard → Type 0
 Data h = (n : ℕ) → (h ≡ frames.Control n → ⊥) × (h ≡ frames.Loopback n → ⊥)
 
-no-control : (lines : List Line) (v : Unit) (h : H.Heard) (bytes : List ℕ) → Data h → (controlCopy lines v h bytes ≡ []) × (loopbackCopy lines v h bytes ≡ [])
+no-control : (lines : List Line) (v : Unit) (h : frames.Heard) (bytes : List ℕ) → Data h → (controlCopy lines v h bytes ≡ []) × (loopbackCopy lines v h bytes ≡ [])
 unfolding controlCopy loopbackCopy
 no-control lines v frames.Length bytes plain = (refl, refl)
 no-control lines v frames.Damaged bytes plain = (refl, refl)

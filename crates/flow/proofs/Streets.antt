@@ -15,8 +15,7 @@ use Rattle.bus.specs.Frame.{payload, parity, heard, third, carried, returned, d
 use Rattle.bus.specs.Routing.{address}
 use Rattle.bus.specs.declared.Address as D
 use Rattle.bus.specs.declared.Address.the-variants as says
-use Rattle.bus.specs.declared.Heard as H
-use Rattle.bus.specs.declared.Heard.the-variants as frames
+use Rattle.bus.specs.Heard as frames
 use Rattle.bus.specs.declared.Target as T
 use Rattle.bus.proofs.Laws.{heard-parity, heard-carried}
 use Rattle.bus.proofs.Wire.{carried-cell, carried-returned, length-returned, drop-returned}
@@ -44,7 +43,7 @@ use Rattle.flow.proofs.Bytes.{sent-moved}
 use Rattle.flow.proofs.Senders.{out-moved}
 
 -- A. what a queued copy is
-pub record Copy (lines : List Line) (u : Unit) (h : H.Heard) (bytes : List ℕ) (q : ℕ) (c : Cell) : Type 0 where
+pub record Copy (lines : List Line) (u : Unit) (h : frames.Heard) (bytes : List ℕ) (q : ℕ) (c : Cell) : Type 0 where
   pub target : T.Target
   pub class : ℕ
   pub header : ℕ
@@ -71,7 +70,7 @@ unfolding fateIn
 room-for u q header e w = false≢true (sym (fits (tooWide (u .settings .link) header) _ e) ∙ wide-iff (u .settings .link) header .1 w)
 
 -- a cell that a hearing puts into a queue
-copied : (lines : List Line) (u : Unit) (h : H.Heard) (bytes : List ℕ) (q : ℕ) (c : Cell) → In c (copyIn lines u h bytes q) → Copy lines u h bytes q c
+copied : (lines : List Line) (u : Unit) (h : frames.Heard) (bytes : List ℕ) (q : ℕ) (c : Cell) → In c (copyIn lines u h bytes q) → Copy lines u h bytes q c
 unfolding copyIn hearingOf
 copied lines u frames.Length bytes q c m = absurd (List·Memᴰ·not-nil m)
 copied lines u frames.Damaged bytes q c m = absurd (List·Memᴰ·not-nil m)
@@ -96,10 +95,10 @@ copied lines u (frames.Cell target class header) bytes q c m =
     go false x b y m = absurd (List·Memᴰ·not-nil m)
 
 -- and what one is in an outlet beside the queues
-abbrev Aside : (ℕ → H.Heard) → Unit → H.Heard → List ℕ → List ℕ → Type 0
+abbrev Aside : (ℕ → frames.Heard) → Unit → frames.Heard → List ℕ → List ℕ → Type 0
 Aside kind u h bytes b = (h ≡ kind (numberOf u)) × (b ≡ bytes)
 
-only-own : (kind : ℕ → H.Heard) (u : Unit) (unit : ℕ) (fate : A.Hearing) (bytes b : List ℕ) → In b (cond (eqb (queuedOne (cond (eqb (numberOf u) unit) fate hearing.Other)) 1) (bytes ∷ []) []) → Aside kind u (kind unit) bytes b
+only-own : (kind : ℕ → frames.Heard) (u : Unit) (unit : ℕ) (fate : A.Hearing) (bytes b : List ℕ) → In b (cond (eqb (queuedOne (cond (eqb (numberOf u) unit) fate hearing.Other)) 1) (bytes ∷ []) []) → Aside kind u (kind unit) bytes b
 unfolding queuedOne
 only-own kind u unit fate bytes b m = go (eqb (numberOf u) unit) refl m
   where
@@ -111,7 +110,7 @@ only-own kind u unit fate bytes b m = go (eqb (numberOf u) unit) refl m
     go true t m = pick (eqb (queuedOne fate) 1) (eqb-true (numberOf u) unit t) m
     go false t m = absurd (List·Memᴰ·not-nil m)
 
-control-copied : (lines : List Line) (u : Unit) (h : H.Heard) (bytes b : List ℕ) → In b (controlCopy lines u h bytes) → Aside frames.Control u h bytes b
+control-copied : (lines : List Line) (u : Unit) (h : frames.Heard) (bytes b : List ℕ) → In b (controlCopy lines u h bytes) → Aside frames.Control u h bytes b
 unfolding controlCopy hearingOf
 control-copied lines u frames.Length bytes b m = absurd (List·Memᴰ·not-nil m)
 control-copied lines u frames.Damaged bytes b m = absurd (List·Memᴰ·not-nil m)
@@ -119,7 +118,7 @@ control-copied lines u (frames.Cell target class header) bytes b m = absurd (Lis
 control-copied lines u (frames.Control unit) bytes b m = only-own frames.Control u unit (roomIn 4 (u .side .controlout)) bytes b m
 control-copied lines u (frames.Loopback unit) bytes b m = absurd (List·Memᴰ·not-nil m)
 
-loopback-copied : (lines : List Line) (u : Unit) (h : H.Heard) (bytes b : List ℕ) → In b (loopbackCopy lines u h bytes) → Aside frames.Loopback u h bytes b
+loopback-copied : (lines : List Line) (u : Unit) (h : frames.Heard) (bytes b : List ℕ) → In b (loopbackCopy lines u h bytes) → Aside frames.Loopback u h bytes b
 unfolding loopbackCopy hearingOf
 loopback-copied lines u frames.Length bytes b m = absurd (List·Memᴰ·not-nil m)
 loopback-copied lines u frames.Damaged bytes b m = absurd (List·Memᴰ·not-nil m)
@@ -259,7 +258,7 @@ module _ (lines : List Line) (es : List Event) (d : Shelf) (on : On lines es d) 
   handed-from v (moves p) w c m = handed-from (movedUnit v) p w c m
 
   -- a copy reaches whom the target addresses
-  reached : (v : Unit) (h : H.Heard) (bytes : List ℕ) (q : ℕ) (c : Cell) → givenOf v ≡ givenOf u → (k : Copy (d .lines) v h bytes q c) → MeantFor lines i q (k .target) (k .class) (k .header)
+  reached : (v : Unit) (h : frames.Heard) (bytes : List ℕ) (q : ℕ) (c : Cell) → givenOf v ≡ givenOf u → (k : Copy (d .lines) v h bytes q c) → MeantFor lines i q (k .target) (k .class) (k .header)
   reached v h bytes q c same k =
       record {
         addresses = sym (ap (λ l. addressed l v (k .target)) (on .lines-are) ∙ same-address lines v (declaredAt lines i) (k .target) (ap (λ g. g .settings .number) same ∙ number)) ∙ k .reached;
@@ -346,7 +345,7 @@ module _ (lines : List Line) (es : List Event) (d : Shelf) (on : On lines es d) 
   queued-from v same (moves p) is w q c m = queued-from (movedUnit v) (unit-moved v ∙ same) p is w q c m
 
   -- a cell in an outlet beside the queues
-  module _ (kind : ℕ → H.Heard) (fine : (n : ℕ) → kind n ≡ frames.Damaged → ⊥) (no-data : (n : ℕ) (target : T.Target) (class header : ℕ) → kind n ≡ frames.Cell target class header → ⊥) where
+  module _ (kind : ℕ → frames.Heard) (fine : (n : ℕ) → kind n ≡ frames.Damaged → ⊥) (no-data : (n : ℕ) (target : T.Target) (class header : ℕ) → kind n ≡ frames.Cell target class header → ⊥) where
     aside-hand : (x : OnBus) → x .heard ≡ kind (numberOf (declaredAt lines i)) → Handed d e i x → Beside lines es i kind (x .bytes)
     aside-hand x is s =
         let f = s .f in
@@ -383,7 +382,7 @@ module _ (lines : List Line) (es : List Event) (d : Shelf) (on : On lines es d) 
             })
 
     -- whatever the part
-    aside-from : (copies : List Line → Unit → H.Heard → List ℕ → List (List ℕ)) → ((v : Unit) (h : H.Heard) (bytes b : List ℕ) → In b (copies (d .lines) v h bytes) → Aside kind v h bytes b) → (v : Unit) → givenOf v ≡ givenOf u → (x : OnBus) → Handed d e i x ⊎ Sent d e x → (b : List ℕ) → In b (copies (d .lines) v (x .heard) (x .bytes)) → Beside lines es i kind b
+    aside-from : (copies : List Line → Unit → frames.Heard → List ℕ → List (List ℕ)) → ((v : Unit) (h : frames.Heard) (bytes b : List ℕ) → In b (copies (d .lines) v h bytes) → Aside kind v h bytes b) → (v : Unit) → givenOf v ≡ givenOf u → (x : OnBus) → Handed d e i x ⊎ Sent d e x → (b : List ℕ) → In b (copies (d .lines) v (x .heard) (x .bytes)) → Beside lines es i kind b
     aside-from copies one v same x w b m =
         let k = one v (x .heard) (x .bytes) b m in
         let is : x .heard ≡ kind (numberOf (declaredAt lines i)) = k .0 ∙ ap (λ (g : _). kind (g .settings .number)) (same ∙ on .given i) in

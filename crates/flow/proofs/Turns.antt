@@ -12,8 +12,7 @@ use lib.Seq.{getD-set-same, getD-set-other, map-set-same}
 use borrow.Author.Tests.{eqb-true, eqb-false, ltb-true, eq-eqb}
 use Rattle.bus.specs.declared.Target as T
 use Rattle.bus.specs.declared.Target.the-variants as targets
-use Rattle.bus.specs.declared.Heard as H
-use Rattle.bus.specs.declared.Heard.the-variants as frames
+use Rattle.bus.specs.Heard as frames
 use Rattle.outlet.specs.Outlets.{capacity}
 use Rattle.outlet.specs.Hearing.{queueOf, limit, tooWide, busClp}
 use Rattle.outlet.specs.Taking.{lowest, queues}
@@ -78,7 +77,7 @@ same-address lines u v (targets.Session session) e = ap (λ n. hearsIn lines n s
 same-address lines u v targets.All e = refl
 
 -- and so does whom a frame addresses
-pub same-for : (lines : List Line) (u v : Unit) (h : H.Heard) → numberOf u ≡ numberOf v → isFor lines u h ≡ isFor lines v h
+pub same-for : (lines : List Line) (u v : Unit) (h : frames.Heard) → numberOf u ≡ numberOf v → isFor lines u h ≡ isFor lines v h
 unfolding isFor
 same-for lines u v frames.Length e = refl
 same-for lines u v frames.Damaged e = refl
@@ -92,7 +91,7 @@ waitingWith u inlet control loopback =
     withSide (withInlet u inlet) (record { controlin = control; loopbackin = loopback; controlout = u .side .controlout; loopbackout = u .side .loopbackout })
 
 -- what a unit hears does not go by what waits
-heard-waiting : (lines : List Line) (u : Unit) (inlet : List Routed) (control loopback : List (List ℕ)) (h : H.Heard) → hearingOf lines (waitingWith u inlet control loopback) h ≡ hearingOf lines u h
+heard-waiting : (lines : List Line) (u : Unit) (inlet : List Routed) (control loopback : List (List ℕ)) (h : frames.Heard) → hearingOf lines (waitingWith u inlet control loopback) h ≡ hearingOf lines u h
 unfolding hearingOf fateIn
 heard-waiting lines u inlet control loopback frames.Length = refl
 heard-waiting lines u inlet control loopback frames.Damaged = refl
@@ -102,7 +101,7 @@ heard-waiting lines u inlet control loopback (frames.Control unit) = refl
 heard-waiting lines u inlet control loopback (frames.Loopback unit) = refl
 
 -- so not by the cell that it sends
-pub heard-without : (lines : List Line) (u : Unit) (f : From) (h : H.Heard) → hearingOf lines (without f u) h ≡ hearingOf lines u h
+pub heard-without : (lines : List Line) (u : Unit) (f : From) (h : frames.Heard) → hearingOf lines (without f u) h ≡ hearingOf lines u h
 unfolding without
 heard-without lines u (from-inlet r rest) h = heard-waiting lines u rest (u .side .controlin) (u .side .loopbackin) h
 heard-without lines u (from-control c rest) h = heard-waiting lines u (u .inlet) rest (u .side .loopbackin) h
@@ -143,7 +142,7 @@ module _ (lines : List Line) (u : Unit) where
       go true = refl
       go false = refl
 
-  pub addressed-for : (h : H.Heard) → isAddressed (hearingOf lines u h) ≡ isFor lines u h
+  pub addressed-for : (h : frames.Heard) → isAddressed (hearingOf lines u h) ≡ isFor lines u h
   unfolding hearingOf isFor isAddressed
   addressed-for frames.Length = refl
   addressed-for frames.Damaged = refl

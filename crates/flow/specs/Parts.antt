@@ -5,8 +5,7 @@ use mathlib.Core.List.{List, [], _∷_, _++_, map}
 use mathlib.Core.Option.{Option, none, some}
 use lib.Dec.{eqb, leb}
 use lib.ListN.{length, take}
-use Rattle.bus.specs.declared.Heard as H
-use Rattle.bus.specs.declared.Heard.the-variants as frames
+use Rattle.bus.specs.Heard as frames
 use Rattle.outlet.specs.Hearing.{queueOf}
 use Rattle.outlet.specs.declared.Leaving as L
 use Rattle.outlet.specs.declared.Leaving.the-variants as leaves
@@ -196,7 +195,7 @@ abbrev pub loopbackBy : Part → List (List ℕ)
 loopbackBy p = ofOut loopbackIn (outBy p)
 
 -- the frames that it hears, "the sender too", and those that address it
-unfoldable pub heardBy : Part → List H.Heard
+unfoldable pub heardBy : Part → List frames.Heard
 heardBy rests = []
 heardBy (arrives c) = []
 heardBy (hears x) = x .heard ∷ []
@@ -206,7 +205,7 @@ heardBy collects = []
 heardBy (sends f) = cellOf f .heard ∷ []
 heardBy (moves p) = heardBy p
 
-unfoldable pub isFor : List Line → Unit → H.Heard → Bool
+unfoldable pub isFor : List Line → Unit → frames.Heard → Bool
 isFor lines u frames.Length = false
 isFor lines u frames.Damaged = false
 isFor lines u (frames.Cell target class header) = addressed lines u target
@@ -219,7 +218,7 @@ among test [] = []
 among test (a ∷ rest) = cond (test a) (a ∷ among test rest) (among test rest)
 
 -- what a hearing puts into queue q: the copy, if it is `queued` and q is the queue of its class
-unfoldable pub copyIn : List Line → Unit → H.Heard → List ℕ → ℕ → List Cell
+unfoldable pub copyIn : List Line → Unit → frames.Heard → List ℕ → ℕ → List Cell
 copyIn lines u frames.Length bytes q = []
 copyIn lines u frames.Damaged bytes q = []
 copyIn lines u (frames.Cell target class header) bytes q =
@@ -238,14 +237,14 @@ queuedBy lines u (sends f) q = copyIn lines (without f u) (cellOf f .heard) (cel
 queuedBy lines u (moves p) q = queuedBy lines (movedUnit u) p q
 
 -- what a hearing puts into the control outlet, and into the loopback outlet: the 56 bytes, if they are `queued`
-unfoldable pub controlCopy : List Line → Unit → H.Heard → List ℕ → List (List ℕ)
+unfoldable pub controlCopy : List Line → Unit → frames.Heard → List ℕ → List (List ℕ)
 controlCopy lines u frames.Length bytes = []
 controlCopy lines u frames.Damaged bytes = []
 controlCopy lines u (frames.Cell target class header) bytes = []
 controlCopy lines u (frames.Control unit) bytes = cond (eqb (queuedOne (hearingOf lines u (frames.Control unit))) 1) (bytes ∷ []) []
 controlCopy lines u (frames.Loopback unit) bytes = []
 
-unfoldable pub loopbackCopy : List Line → Unit → H.Heard → List ℕ → List (List ℕ)
+unfoldable pub loopbackCopy : List Line → Unit → frames.Heard → List ℕ → List (List ℕ)
 loopbackCopy lines u frames.Length bytes = []
 loopbackCopy lines u frames.Damaged bytes = []
 loopbackCopy lines u (frames.Cell target class header) bytes = []
@@ -273,7 +272,7 @@ loopbacksBy lines u (sends f) = loopbackCopy lines (without f u) (cellOf f .hear
 loopbacksBy lines u (moves p) = loopbacksBy lines (movedUnit u) p
 
 -- what a frame brings to queue q: its cell, if it addresses the unit and q is the queue of its class
-unfoldable pub copyFor : List Line → Unit → H.Heard → List ℕ → ℕ → List Cell
+unfoldable pub copyFor : List Line → Unit → frames.Heard → List ℕ → ℕ → List Cell
 copyFor lines u frames.Length bytes q = []
 copyFor lines u frames.Damaged bytes q = []
 copyFor lines u (frames.Cell target class header) bytes q =
@@ -347,7 +346,7 @@ routedAt d e i = routedBy (d .lines) (unitAt d i) (partOf d e i)
 abbrev pub meantFor : Shelf → Event → ℕ → ℕ → List Cell
 meantFor d e i q = meantBy (d .lines) (unitAt d i) (partOf d e i) q
 
-abbrev pub addressedAt : Shelf → Event → ℕ → List H.Heard
+abbrev pub addressedAt : Shelf → Event → ℕ → List frames.Heard
 addressedAt d e i = among (isFor (d .lines) (unitAt d i)) (heardBy (partOf d e i))
 
 abbrev pub broughtIn : Shelf → Event → ℕ → List Routed

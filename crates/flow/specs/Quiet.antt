@@ -5,7 +5,7 @@ use mathlib.Core.List.{List, List·Memᴰ as In}
 use mathlib.Core.Option.{some}
 use lib.ListN.{length}
 use Rattle.bus.specs.Frame.{heard}
-use Rattle.bus.specs.declared.Heard.the-variants as frames
+use Rattle.bus.specs.Heard as frames
 use Rattle.line.specs.declared.Line.{Line}
 use Rattle.paper.specs.Counters.{arrived, hec, ignored, misrouted, inletfull, sent, queued, taken}
 use Rattle.document.specs.Events.{Event, arrive, frame, hear, take-cell, count, hand, collect}

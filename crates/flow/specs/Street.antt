@@ -9,8 +9,7 @@ use Rattle.header.specs.Fields.{fields}
 use Rattle.header.specs.declared.Header as H
 use Rattle.header.specs.declared.Link.the-variants.{Nni}
 use Rattle.bus.specs.Frame.{heard, payload, carried, returned}
-use Rattle.bus.specs.declared.Heard.{Heard}
-use Rattle.bus.specs.declared.Heard.the-variants as frames
+use Rattle.bus.specs.Heard as frames
 use Rattle.bus.specs.declared.Target.{Target}
 use Rattle.outlet.specs.Hearing.{queueOf, TooWide}
 use Rattle.shelf.specs.declared.Settings.{Settings}
@@ -65,7 +64,7 @@ pub data HeardFrom (lines : List Line) (es : List Event) (i : ℕ) (b : List ℕ
   from-hand : (f : List ℕ) → length f ≡ 57 → In (hear (numberOf (declaredAt lines i)) f) es → b ≡ take 56 f → HeardFrom lines es i b
 
 -- "control or loopback to one unit": a cell in an outlet beside the queues is of that kind, and for that unit
-pub record Beside (lines : List Line) (es : List Event) (i : ℕ) (kind : ℕ → Heard) (b : List ℕ) : Type 0 where
+pub record Beside (lines : List Line) (es : List Event) (i : ℕ) (kind : ℕ → frames.Heard) (b : List ℕ) : Type 0 where
   pub whole : length b ≡ 56
   pub kind-is : carried b ≡ kind (numberOf (declaredAt lines i))
   pub origin : HeardFrom lines es i b

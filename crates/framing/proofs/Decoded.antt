@@ -6,7 +6,7 @@ use mathlib.Core.Bool.{_||_}
 use mathlib.Core.List.{List}
 use lib.Bits.{bitOr}
 use lib.ListN.{length, getD, set}
-use Rattle.bus.specs.declared.Heard as H
+use Rattle.bus.specs.Heard as H
 use Rattle.store.specs.Places.{Cell}
 use Rattle.state.specs.Bytes.{unitIn, unitsFrom, shelfIn}
 use Rattle.state.proofs.Kept.{Column}

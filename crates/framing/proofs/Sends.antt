@@ -12,7 +12,7 @@ use borrow.Author.Tests.{le-leb, lt-leb, eq-eqb, ne-eqb}
 use Rattle.octets.specs.Octets.{part}
 use Rattle.arbiter.proofs.Requests.{same-or}
 use Rattle.bus.specs.Frame.{parity, sealed, heard}
-use Rattle.bus.specs.declared.Heard as H
+use Rattle.bus.specs.Heard as H
 use Rattle.store.specs.Rings.{popped}
 use Rattle.store.specs.Places.{slotAt, inletSlot, controlInSlot, loopbackInSlot, cellAt}
 use Rattle.store.proofs.Rounds.{popped-fits}

@@ -7,7 +7,7 @@ use mathlib.Core.Bool.{Bool}
 use mathlib.Core.List.{List, [], _∷_}
 use lib.ListN.{getD, set, take, drop, drop-of-length-le}
 use lib.Seq.{drop-cons}
-use Rattle.bus.specs.declared.Heard as H
+use Rattle.bus.specs.Heard as H
 use Rattle.store.specs.Places.{Cell}
 use Rattle.arbiter.specs.Arbitration.{asksNow}
 use Rattle.shelf.specs.Shelves.{declared, waiting, blank}

@@ -4,7 +4,7 @@ use mathlib.Core.Bool.{Bool, false, _||_}
 use mathlib.Core.List.{List}
 use lib.Bits.{bitOr}
 use lib.ListN.{getD, set}
-use Rattle.bus.specs.declared.Heard as H
+use Rattle.bus.specs.Heard as H
 use Rattle.store.specs.Places.{Cell}
 use Rattle.state.specs.Bytes.{unitIn}
 use Rattle.answer.specs.declared.Hearing as A

@@ -6,7 +6,7 @@ use lib.Bits.{bitOr}
 use lib.Dec.{leb}
 use lib.ListN.{length, getD, set, take}
 use Rattle.bus.specs.Frame.{sealed, heard}
-use Rattle.bus.specs.declared.Heard as H
+use Rattle.bus.specs.Heard as H
 use Rattle.store.specs.Rings.{popped}
 use Rattle.store.specs.Places.{Cell, inletSlot, controlInSlot, loopbackInSlot, cellAt}
 use Rattle.shelf.specs.Shelves.{declared}

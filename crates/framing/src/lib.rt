@@ -4,7 +4,6 @@ use answer::Answer;
 use answer::Hearing;
 use arbiter::Arbiter;
 use bus::Address;
-use bus::Heard;
 use card::Card;
 use shelf::Found;
 use shelf::Unit;
@@ -12,7 +11,7 @@ ghost use mathlib.Core.Path.{_≡_};
 ghost use Prim.Native.Nat.{ℕ, _<_, _≤_, min};
 ghost use mathlib.Core.List.{List};
 ghost use lib.ListN.{length, getD, replicate};
-ghost use Rattle.bus.specs.Frame.{carried};
+ghost use Rattle.bus.specs.Frame.{heardAs, carried};
 ghost use Rattle.store.specs.Places.{slotAt, Inside};
 ghost use Rattle.state.specs.Bytes.{unitIn, shelfIn};
 ghost use Rattle.answer.specs.Done.{outcomeOf};
@@ -179,44 +178,51 @@ fn is_addressed(fate: Hearing) -> bool
     }
 }
 
-// The unit in a place hears a frame of this cell.
-fn heed(s: &mut [u8], place: usize, heard: Heard, cell: &[u8], store: &mut [u8]) -> Hearing
+// The unit in a place hears a frame of this cell, with this address.
+fn heed(s: &mut [u8], place: usize, address: Address, cell: &[u8], store: &mut [u8]) -> Hearing
     requires { ⌜ (length (now s) ≡ 2048) × (length (now cell) ≡ 56) × Housed place (unitIn (now s) place) (length (now store)) ⌝ }
-    ensures { λ r. ⌜ r ≡ fateBy (planOf (unitIn (now (s .entry)) place) heard) ⌝ }
-    ensures kept { λ _. ⌜ (now (s .exit) ≡ heardState (planOf (unitIn (now (s .entry)) place) heard) (now (s .entry)) place)
-        × (now (store .exit) ≡ storeOf (unitIn (now (s .entry)) place) heard place (now (store .entry)) (now (cell .entry))) ⌝ }
+    ensures { λ r. ⌜ r ≡ fateBy (planOf (unitIn (now (s .entry)) place) (heardAs address (now (cell .entry)))) ⌝ }
+    ensures kept { λ _. ⌜ (now (s .exit) ≡ heardState (planOf (unitIn (now (s .entry)) place) (heardAs address (now (cell .entry)))) (now (s .entry)) place)
+        × (now (store .exit) ≡ storeOf (unitIn (now (s .entry)) place) (heardAs address (now (cell .entry))) place (now (store .entry)) (now (cell .entry))) ⌝ }
 {
-    match heard {
-        Heard::Length => Hearing::Damaged,
-        Heard::Damaged => Hearing::Damaged,
-        Heard::Cell {
-            target,
-            class,
-            header,
-        } => {
+    match address {
+        Address::Bad => Hearing::Damaged,
+        Address::To { target, class } => {
             if !hearing::addressed_at(s, place, target) {
                 return Hearing::Other;
             }
-            hearing::accept(s, place, class, header, cell, store)
+            hearing::accept(s, place, class, octets::four(cell, 4), cell, store)
         }
-        Heard::Control(unit) => hearing::hear_control(s, place, unit, cell, store),
-        Heard::Loopback(unit) => hearing::hear_loopback(s, place, unit, cell, store),
+        Address::Third { class, number } => hearing::hear_third(
+            s,
+            place,
+            class,
+            number,
+            cell,
+            store,
+        ),
     }
 }
 
-// Every declared unit hears a frame of this cell. The counters that rise at each are written where the caller lends room for them, here and below.
-fn hear_all(s: &mut [u8], heard: Heard, cell: &[u8], store: &mut [u8], each: &mut [u16]) -> Heeded
+// Every declared unit hears a frame of this cell, with this address. The counters that rise at each are written where the caller lends room for them, here and below.
+fn hear_all(
+    s: &mut [u8],
+    address: Address,
+    cell: &[u8],
+    store: &mut [u8],
+    each: &mut [u16],
+) -> Heeded
     requires { ⌜ (length (now s) ≡ 2048) × (length (now cell) ≡ 56) × AllHousedIn (now s) (length (now store)) × (length (now each) ≡ 32) ⌝ }
-    ensures { λ r. ⌜ talliedBy r (now (each .exit)) ≡ heededBy heard (now (cell .entry)) (now (s .entry)) (now (store .entry)) (now (each .entry)) .tally ⌝ }
-    ensures kept { λ _. ⌜ (now (s .exit) ≡ heededBy heard (now (cell .entry)) (now (s .entry)) (now (store .entry)) (now (each .entry)) .bytes)
-        × (now (store .exit) ≡ heededBy heard (now (cell .entry)) (now (s .entry)) (now (store .entry)) (now (each .entry)) .store) ⌝ }
+    ensures { λ r. ⌜ talliedBy r (now (each .exit)) ≡ heededBy (heardAs address (now (cell .entry))) (now (cell .entry)) (now (s .entry)) (now (store .entry)) (now (each .entry)) .tally ⌝ }
+    ensures kept { λ _. ⌜ (now (s .exit) ≡ heededBy (heardAs address (now (cell .entry))) (now (cell .entry)) (now (s .entry)) (now (store .entry)) (now (each .entry)) .bytes)
+        × (now (store .exit) ≡ heededBy (heardAs address (now (cell .entry))) (now (cell .entry)) (now (s .entry)) (now (store .entry)) (now (each .entry)) .store) ⌝ }
 {
     let end = shelf::declared_count(s[805]);
     let mut copies: u8 = 0;
     let mut addressed = false;
     let mut i: usize = 0;
     while i < end {
-        let fate = heed(s, i, heard, cell, store);
+        let fate = heed(s, i, address, cell, store);
         each[i] = each[i] | answer::hearing_rises(fate);
         copies = copies + queued_one(fate);
         addressed = addressed | is_addressed(fate);
@@ -255,24 +261,12 @@ fn let_out(s: &mut [u8], place: usize) -> usize
     store::slot_at(place, store::LOOPBACK_IN)
 }
 
-// What the frame of this cell is heard as. Its parity is right, since it was just made. `bus` has the same for a frame handed in: read here, it stands
-// where it is called.
-fn hear_sent(cell: &[u8]) -> Heard
+// The address of a cell. Of a frame that was just made no more is asked: its parity is right.
+fn address_of(cell: &[u8]) -> Address
     requires { ⌜ length (now cell) ≡ 56 ⌝ }
-    ensures { λ r. ⌜ r ≡ carried (now (cell .entry)) ⌝ }
+    ensures { λ r. ⌜ heardAs r (now (cell .entry)) ≡ carried (now (cell .entry)) ⌝ }
 {
-    match bus::read(octets::two(cell, 0)) {
-        Address::Bad => Heard::Damaged,
-        Address::To { target, class } => {
-            let header = octets::four(cell, 4);
-            Heard::Cell {
-                target,
-                class,
-                header,
-            }
-        }
-        Address::Third { class, number } => bus::third(class, number, cell[2]),
-    }
+    bus::read(octets::two(cell, 0))
 }
 
 // The unit in a place sends a cell, and all hear it.
@@ -285,7 +279,7 @@ fn send(s: &mut [u8], place: usize, store: &mut [u8], buffer: &mut [u8], each: &
 {
     let at = let_out(s, place);
     bus::seal(store::get_cell(store, at), buffer);
-    let heeded = hear_all(s, hear_sent(&buffer[..56]), &buffer[..56], store, each);
+    let heeded = hear_all(s, address_of(&buffer[..56]), &buffer[..56], store, each);
     each[place] = each[place] | sent_rises(heeded.addressed);
     heeded
 }

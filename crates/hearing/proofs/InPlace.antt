@@ -9,7 +9,7 @@ use lib.ListN.{length, getD, take, length-take}
 use lib.Seq.{set-getD}
 use borrow.Author.Tests.{eq-eqb, ne-eqb, le-leb, lt-leb}
 use Rattle.bus.specs.Frame.{heard}
-use Rattle.bus.specs.declared.Heard.the-variants as frame
+use Rattle.bus.specs.Heard as frame
 use Rattle.card.specs.declared.Card.{Card}
 use Rattle.header.specs.declared.Link.{Link}
 use Rattle.octets.specs.Octets.{splice}

@@ -8,8 +8,7 @@ use lib.Dec.{eqb, ltb, leb}
 use lib.ListN.{length, take, length-take}
 use borrow.Author.Tests.{eqb-true, leb-false}
 use Rattle.outlet.specs.Outlets.{capacity, queue}
-use Rattle.bus.specs.declared.Heard as H
-use Rattle.bus.specs.declared.Heard.the-variants as frame
+use Rattle.bus.specs.Heard as frame
 use Rattle.outlet.specs.Hearing.{fate}
 use Rattle.outlet.specs.declared.Fate as F
 use Rattle.outlet.specs.declared.Fate.the-variants as fates
@@ -43,7 +42,7 @@ planned-in true most count p plan held e = pick (leb most count) refl e
     pick true t e = absurd (held Full e)
     pick false t e = (e, leb-false most count t)
 
-pub plan-queue : (u : U.Unit) (h : H.Heard) (q : ℕ) → planOf u h ≡ Queue q → q < 4
+pub plan-queue : (u : U.Unit) (h : frame.Heard) (q : ℕ) → planOf u h ≡ Queue q → q < 4
 unfolding planOf
 plan-queue u frame.Length q e = let z : _≡_ {A = ℕ} 0 1 = cc in absurd (omega arith)
 plan-queue u frame.Damaged q e = let z : _≡_ {A = ℕ} 0 1 = cc in absurd (omega arith)
@@ -70,7 +69,7 @@ plan-for-beside fates.Full q true plan held beside e = held Full e
 plan-for-beside fates.Clp q true plan held beside e = held Clp e
 plan-for-beside fates.Queued q true plan held beside e = beside q e
 
-pub plan-control : (u : U.Unit) (h : H.Heard) → planOf u h ≡ ToControl → (h ≡ frame.Control (numberOf u)) × (u .side .controlout .count < 4)
+pub plan-control : (u : U.Unit) (h : frame.Heard) → planOf u h ≡ ToControl → (h ≡ frame.Control (numberOf u)) × (u .side .controlout .count < 4)
 unfolding planOf
 plan-control u frame.Length e = let z : _≡_ {A = ℕ} 0 1 = cc in absurd (omega arith)
 plan-control u frame.Damaged e = let z : _≡_ {A = ℕ} 0 1 = cc in absurd (omega arith)
@@ -89,7 +88,7 @@ plan-control u (frame.Loopback unit) e =
     let z : _≡_ {A = ℕ} 0 1 = cc in
     absurd (omega arith)
 
-pub plan-loopback : (u : U.Unit) (h : H.Heard) → planOf u h ≡ ToLoopback → (h ≡ frame.Loopback (numberOf u)) × (u .side .loopbackout < 1)
+pub plan-loopback : (u : U.Unit) (h : frame.Heard) → planOf u h ≡ ToLoopback → (h ≡ frame.Loopback (numberOf u)) × (u .side .loopbackout < 1)
 unfolding planOf
 plan-loopback u frame.Length e = let z : _≡_ {A = ℕ} 0 1 = cc in absurd (omega arith)
 plan-loopback u frame.Damaged e = let z : _≡_ {A = ℕ} 0 1 = cc in absurd (omega arith)

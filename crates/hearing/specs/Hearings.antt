@@ -7,8 +7,7 @@ use lib.ListN.{length, take}
 use Rattle.bus.specs.declared.Target as T
 use Rattle.bus.specs.declared.Target.the-variants as target
 use Rattle.bus.specs.Frame.{heard}
-use Rattle.bus.specs.declared.Heard as H
-use Rattle.bus.specs.declared.Heard.the-variants as frame
+use Rattle.bus.specs.Heard as frame
 use Rattle.card.specs.declared.Card.{Card}
 use Rattle.outlet.specs.Outlets.{capacity, queue}
 use Rattle.outlet.specs.declared.Outlet.{Outlet}
@@ -71,7 +70,7 @@ planLoopback u = planIn 1 (u .side .loopbackout) ToLoopback
 
 -- "Bad parity .. is `damaged`. Not addressed: `other` .. Then: VPI above 255 at a UNI unit, `wide`; queue at capacity, `full`; CLP 1 and the
 -- queue at its limit or above, `clp`; else `queued`."
-unfoldable pub planOf : U.Unit → H.Heard → Plan
+unfoldable pub planOf : U.Unit → frame.Heard → Plan
 planOf u frame.Length = Lost Damaged
 planOf u frame.Damaged = Lost Damaged
 planOf u (frame.Cell target class header) = cond (addressed u target) (planTo u class header) (Lost Other)
@@ -126,10 +125,10 @@ storeBy ToControl u place store cell = putAt store place (controlOutSlot (tail (
 storeBy ToLoopback u place store cell = putAt store place loopbackOutSlot cell
 storeBy (Lost fate) u place store cell = store
 
-abbrev pub copyOf : U.Unit → H.Heard → Copy
+abbrev pub copyOf : U.Unit → frame.Heard → Copy
 copyOf u h = copyBy (planOf u h) u
 
-abbrev pub storeOf : U.Unit → H.Heard → ℕ → List ℕ → Cell → List ℕ
+abbrev pub storeOf : U.Unit → frame.Heard → ℕ → List ℕ → Cell → List ℕ
 storeOf u h place store cell = storeBy (planOf u h) u place store cell
 
 -- a frame handed in is heard "by the unit named with it"

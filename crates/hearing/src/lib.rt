@@ -13,7 +13,7 @@ ghost use Prim.Native.Nat.{_<_, _≤_};
 ghost use lib.ListN.{length, getD, take};
 ghost use Rattle.answer.specs.Answers.{outcomeBy};
 ghost use Rattle.bus.specs.Frame.{third, carried, heard as heardOf};
-ghost use Rattle.bus.specs.declared.Heard.the-variants.{Control, Loopback};
+ghost use Rattle.bus.specs.Heard.{Control, Loopback};
 ghost use Rattle.state.specs.Bytes.{unitIn};
 ghost use Rattle.soundness.specs.Admission.{Housed};
 ghost use Rattle.hearing.specs.Hearings.{addressed as addressedTo, planTo, planOf, fateBy, storeBy, storeOf};
@@ -67,7 +67,7 @@ pub fn accept(
 }
 
 // A control cell for this unit is heard in a place. A queued one goes behind the others in the control outlet.
-pub fn hear_control(s: &mut [u8], place: usize, unit: u8, cell: &[u8], store: &mut [u8]) -> Hearing
+fn hear_control(s: &mut [u8], place: usize, unit: u8, cell: &[u8], store: &mut [u8]) -> Hearing
     requires { ⌜ (length (now s) ≡ 2048) × (length (now cell) ≡ 56) × Housed place (unitIn (now s) place) (length (now store)) ⌝ }
     ensures { λ r. ⌜ r ≡ fateBy (planOf (unitIn (now (s .entry)) place) (Control unit)) ⌝ }
     ensures kept { λ _. ⌜ (now (s .exit) ≡ stateBy (planOf (unitIn (now (s .entry)) place) (Control unit)) (now (s .entry)) place)
@@ -87,7 +87,7 @@ pub fn hear_control(s: &mut [u8], place: usize, unit: u8, cell: &[u8], store: &m
 }
 
 // A loopback cell for this unit is heard in a place.
-pub fn hear_loopback(s: &mut [u8], place: usize, unit: u8, cell: &[u8], store: &mut [u8]) -> Hearing
+fn hear_loopback(s: &mut [u8], place: usize, unit: u8, cell: &[u8], store: &mut [u8]) -> Hearing
     requires { ⌜ (length (now s) ≡ 2048) × (length (now cell) ≡ 56) × Housed place (unitIn (now s) place) (length (now store)) ⌝ }
     ensures { λ r. ⌜ r ≡ fateBy (planOf (unitIn (now (s .entry)) place) (Loopback unit)) ⌝ }
     ensures kept { λ _. ⌜ (now (s .exit) ≡ stateBy (planOf (unitIn (now (s .entry)) place) (Loopback unit)) (now (s .entry)) place)
@@ -105,7 +105,7 @@ pub fn hear_loopback(s: &mut [u8], place: usize, unit: u8, cell: &[u8], store: &
 }
 
 // A cell of kind 3 with this class and number is heard in a place.
-fn hear_third(
+pub fn hear_third(
     s: &mut [u8],
     place: usize,
     class: u8,

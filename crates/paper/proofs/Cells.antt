@@ -23,7 +23,7 @@ use Rattle.bus.specs.declared.Target as T
 use Rattle.bus.specs.declared.Target.the-variants as target
 use Rattle.bus.specs.Frame as bus
 use Rattle.bus.specs.declared.Address.the-variants.{Bad, To}
-use Rattle.bus.specs.declared.Heard.the-variants as sort
+use Rattle.bus.specs.Heard as sort
 use Rattle.bus.specs.Routing.{Sayable}
 use Rattle.bus.proofs.RoutingLaws.{checked, unchecked, address-routing, routing-lt}
 use Rattle.bus.proofs.Laws.{heard-parity, heard-carried}

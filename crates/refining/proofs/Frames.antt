@@ -13,7 +13,7 @@ use lib.Seq.{getD-set-same, getD-set-other}
 use borrow.Author.Tests.{eq-eqb, ne-eqb}
 use Rattle.card.specs.declared.Card.{Card}
 use Rattle.bus.specs.Frame.{sealed, heard}
-use Rattle.bus.specs.declared.Heard as H
+use Rattle.bus.specs.Heard as H
 use Rattle.arbiter.specs.Arbitration.{asking, renewed, grantedBy}
 use Rattle.arbiter.proofs.Requests.{same-or}
 use Rattle.outlet.specs.Outlets.{RingFits}

@@ -18,8 +18,7 @@ use Rattle.bus.specs.declared.Address.the-variants.{Bad, To, Third}
 use Rattle.bus.specs.Routing.{Sayable}
 use Rattle.card.specs.declared.Card.{Card}
 use Rattle.bus.specs.Frame.{heard, third, carried, parity, delivered}
-use Rattle.bus.specs.declared.Heard as H
-use Rattle.bus.specs.declared.Heard.the-variants as frame
+use Rattle.bus.specs.Heard as frame
 use Rattle.bus.proofs.Wire.{carried-cell}
 use Rattle.arbiter.proofs.Requests.{same-or}
 use Rattle.outlet.specs.Outlets.{capacity, queue, empty}
@@ -99,7 +98,7 @@ module _ (u : U.Unit) (t : T.Target) (class header : ℕ) where
   ends-at = ends-so (hearing.addressed u t) (tooWide (u .settings .link) header) isFull (eqb (busClp header) 1 && leb (limit (u .outlet .limits) own) (held (u .outlet) own)) own
 
 -- what is heard can be said in a routing header, and the bytes have its header
-abbrev pub Says : H.Heard → List ℕ → Type 0
+abbrev pub Says : frame.Heard → List ℕ → Type 0
 Says frame.Length bytes = Unit {0}
 Says frame.Damaged bytes = Unit {0}
 Says (frame.Cell t class header) bytes = Sayable t × (four bytes 4 ≡ header)
@@ -164,7 +163,7 @@ module _ (card : Card) (memory store : List ℕ) (lines : List Line) (i : ℕ) (
   ended-fate e (lost f same) = refl
   ended-fate e (queued room) = e
 
-  pub fate-alike : (h : H.Heard) (bytes : List ℕ) → Says h bytes → hearing.fateBy (hearing.planOf u h) ≡ paper.hearingOf lines d h
+  pub fate-alike : (h : frame.Heard) (bytes : List ℕ) → Says h bytes → hearing.fateBy (hearing.planOf u h) ≡ paper.hearingOf lines d h
   unfolding hearing.fateBy hearing.planOf paper.hearingOf
   fate-alike frame.Length bytes s = refl
   fate-alike frame.Damaged bytes s = refl
@@ -256,7 +255,7 @@ module _ (card : Card) (memory store : List ℕ) (lines : List Line) (i : ℕ) (
         })
 
   -- the unit with its copy is the document's unit with its copy
-  copied-alike : Housed i u (length store) → (h : H.Heard) (payload bytes : List ℕ) → length bytes ≡ 56 → part bytes 8 48 ≡ payload → Says h bytes →
+  copied-alike : Housed i u (length store) → (h : frame.Heard) (payload bytes : List ℕ) → length bytes ≡ 56 → part bytes 8 48 ≡ payload → Says h bytes →
       UnitAlike (hearing.storeOf u h i store bytes) i (hearing.copyOf u h .unit) (paper.hearingUnit lines d (record { heard = h; payload = payload; bytes = bytes }))
   unfolding hearing.storeBy hearing.copyBy hearing.planOf paper.hearingOf paper.keeping paper.placing
   copied-alike housed frame.Length payload bytes whole held s = a
@@ -301,7 +300,7 @@ module _ (card : Card) (memory store : List ℕ) (lines : List Line) (i : ℕ) (
   copy-alike housed x c = copied-alike housed (x .heard) (x .payload) (x .bytes) (c .whole) (c .payload) (c .says)
 
 -- another unit is as it was
-pub copy-elsewhere : (store : List ℕ) (i j : ℕ) (u v : U.Unit) (e : D.Unit) (h : H.Heard) (bytes : List ℕ) → length bytes ≡ 56 → Housed i u (length store) → Housed j v (length store) → (j ≢ i) →
+pub copy-elsewhere : (store : List ℕ) (i j : ℕ) (u v : U.Unit) (e : D.Unit) (h : frame.Heard) (bytes : List ℕ) → length bytes ≡ 56 → Housed i u (length store) → Housed j v (length store) → (j ≢ i) →
     UnitAlike store j v e → UnitAlike (hearing.storeOf u h i store bytes) j v e
 unfolding hearing.storeBy
 copy-elsewhere store i j u v e h bytes whole here there apart a = go (hearing.planOf u h) refl
@@ -377,7 +376,7 @@ pub handed-carries : (f : List ℕ) → length f ≡ 57 → Carries (paper.asHan
 handed-carries f l = record { whole = before-parity f l; payload = part-before f l; says = heard-says f l }
 
 -- a unit with its copy knows what it knew
-pub copy-knows : (card : Card) (memory : List ℕ) (lines : List Line) (u : U.Unit) (h : H.Heard) → Known card memory lines u → Known card memory lines (hearing.copyOf u h .unit)
+pub copy-knows : (card : Card) (memory : List ℕ) (lines : List Line) (u : U.Unit) (h : frame.Heard) → Known card memory lines u → Known card memory lines (hearing.copyOf u h .unit)
 unfolding hearing.copyBy
 copy-knows card memory lines u h k = go (hearing.planOf u h)
   where

@@ -10,7 +10,7 @@ use borrow.Author.Tests.{le-ltb}
 use Rattle.octets.specs.Octets.{four}
 use Rattle.card.specs.declared.Card.{Card}
 use Rattle.bus.specs.Frame.{heard}
-use Rattle.bus.specs.declared.Heard as H
+use Rattle.bus.specs.Heard as H
 use Rattle.store.specs.Places.{Cell}
 use Rattle.lookup.specs.Record.{usable, recordAt}
 use Rattle.line.specs.declared.Line.{Line}

@@ -7,8 +7,7 @@ use mathlib.Core.List.{List}
 use lib.Dec.{eqb}
 use lib.ListN.{length}
 use Rattle.octets.proofs.Parts.{length-splice}
-use Rattle.bus.specs.declared.Heard as H
-use Rattle.bus.specs.declared.Heard.the-variants as sort
+use Rattle.bus.specs.Heard as sort
 use Rattle.outlet.specs.Outlets.{Given, RingsFit, queue, capacity}
 use Rattle.outlet.specs.Hearing.{fate, queueOf}
 use Rattle.outlet.specs.declared.Fate as F
@@ -40,7 +39,7 @@ queued-fate fates.Full p q e = let z : _≡_ {A = ℕ} 0 1 = cc in absurd (omega
 queued-fate fates.Clp p q e = let z : _≡_ {A = ℕ} 0 1 = cc in absurd (omega arith)
 queued-fate fates.Queued p q e = (cc, refl)
 
-plan-room : (u : U.Unit) (h : H.Heard) (q : ℕ) → hearing.planOf u h ≡ hearing.Queue q → queue (u .outlet) q .count < capacity (u .outlet .limits) q
+plan-room : (u : U.Unit) (h : sort.Heard) (q : ℕ) → hearing.planOf u h ≡ hearing.Queue q → queue (u .outlet) q .count < capacity (u .outlet .limits) q
 unfolding hearing.planOf
 plan-room u sort.Length q e = let z : _≡_ {A = ℕ} 0 1 = cc in absurd (omega arith)
 plan-room u sort.Damaged q e = let z : _≡_ {A = ℕ} 0 1 = cc in absurd (omega arith)
@@ -68,7 +67,7 @@ pub record Copied (u v : U.Unit) : Type 0 where
   pub side : SideFits (v .side)
   pub waits : waiting v ≡ waiting u
 
-pub copied : (u : U.Unit) (h : H.Heard) → Given (u .outlet .limits) → RingsFit (u .outlet) → SideFits (u .side) → Copied u (hearing.copyOf u h .unit)
+pub copied : (u : U.Unit) (h : sort.Heard) → Given (u .outlet .limits) → RingsFit (u .outlet) → SideFits (u .side) → Copied u (hearing.copyOf u h .unit)
 unfolding hearing.copyBy
 copied u h given fits beside = go (hearing.planOf u h) refl
   where
@@ -107,7 +106,7 @@ copied u h given fits beside = go (hearing.planOf u h) refl
           waits = refl;
         }
 
-pub store-kept : (u : U.Unit) (h : H.Heard) (i : ℕ) (store : List ℕ) (cell : Cell) → Housed i u (length store) → length cell ≡ 56 → length (hearing.storeOf u h i store cell) ≡ length store
+pub store-kept : (u : U.Unit) (h : sort.Heard) (i : ℕ) (store : List ℕ) (cell : Cell) → Housed i u (length store) → length cell ≡ 56 → length (hearing.storeOf u h i store cell) ≡ length store
 unfolding hearing.storeBy
 store-kept u h i store cell housed whole = go (hearing.planOf u h) refl
   where

@@ -11,7 +11,7 @@ use lib.ListN.{length, length-set, length-take, getD, drop, List·getD-append}
 use lib.Seq.{sets, sets-eq, getD-set-same, getD-set-other}
 use borrow.Author.Tests.{eq-eqb, leb-true}
 use Rattle.arbiter.specs.Arbitration.{besides}
-use Rattle.bus.specs.declared.Heard as H
+use Rattle.bus.specs.Heard as H
 use Rattle.store.specs.Places.{Cell}
 use Rattle.store.specs.Rings.{popped}
 use Rattle.store.proofs.Rounds.{popped-fits}

@@ -9,7 +9,7 @@ use borrow.Author.Tests.{leb-false}
 use Rattle.octets.specs.Octets.{part, be2, be4}
 use Rattle.card.specs.declared.Card.{Card}
 use Rattle.bus.specs.Frame.{cell}
-use Rattle.bus.specs.declared.Heard as H
+use Rattle.bus.specs.Heard as H
 use Rattle.outlet.specs.Outlets.{RingFits, queue, capacity}
 use Rattle.outlet.specs.declared.Ring.{Ring}
 use Rattle.outlet.specs.declared.Mode.{Mode}

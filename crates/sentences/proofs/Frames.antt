@@ -12,7 +12,7 @@ use lib.Seq.{getD-set-same, getD-set-other, sets-eq, take-at, getD-drop, getD-ap
 use borrow.Author.Tests.{eqb-true, eqb-false, leb-true, leb-false}
 use Rattle.card.specs.declared.Card.{Card}
 use Rattle.bus.specs.Frame as bus
-use Rattle.bus.specs.declared.Heard as B
+use Rattle.bus.specs.Heard as B
 use Rattle.arbiter.specs.Arbitration as arbiter
 use Rattle.arbiter.proofs.Grants.{granted-length}
 use Rattle.store.specs.Places as places

@@ -13,8 +13,7 @@ use Rattle.card.specs.declared.Card.{Card}
 use Rattle.bus.specs.declared.Target as T
 use Rattle.bus.specs.declared.Target.the-variants as target
 use Rattle.bus.specs.Frame.{heard}
-use Rattle.bus.specs.declared.Heard as B
-use Rattle.bus.specs.declared.Heard.the-variants as sort
+use Rattle.bus.specs.Heard as sort
 use Rattle.outlet.specs.Outlets as outlet
 use Rattle.outlet.specs.Hearing as queueing
 use Rattle.outlet.specs.declared.Fate.{Fate}
@@ -107,7 +106,7 @@ pub data Planned (u : U.Unit) (f : List ℕ) : Type 0 where
   holds : HearingIs u f fate·.Queued → hearing.planOf u (heard f) ≡ planAs (waitsIn u f) → Planned u f
 
 module _ (u : U.Unit) (f : List ℕ) (whole : length f ≡ 57) where
-  abbrev plan : B.Heard → Plan
+  abbrev plan : sort.Heard → Plan
   plan h = hearing.planOf u h
 
   abbrev its : Plan

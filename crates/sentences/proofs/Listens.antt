@@ -9,8 +9,7 @@ use lib.ListN.{length, getD, drop}
 use lib.Seq.{getD-take, getD-drop}
 use Rattle.octets.specs.Octets.{splice, part}
 use Rattle.octets.proofs.Parts.{part-before, part-after}
-use Rattle.bus.specs.declared.Heard as B
-use Rattle.bus.specs.declared.Heard.the-variants as sort
+use Rattle.bus.specs.Heard as sort
 use Rattle.bus.specs.declared.Target.the-variants as target
 use Rattle.outlet.specs.declared.Ring.{Ring}
 use Rattle.store.specs.Places.{slotAt, cellAt, putAt}
@@ -35,7 +34,7 @@ abbrev pub sideways : U.Unit → Ring → ℕ → ℕ → U.Unit
 sideways u ring controlin loopbackin = withSide (withInlet u ring) controlin loopbackin (u .side .controlout) (u .side .loopbackout)
 
 module _ (u : U.Unit) (r : Ring) (controlin loopbackin : ℕ) where
-  pub plan-same : (h : B.Heard) → planOf (sideways u r controlin loopbackin) h ≡ planOf u h
+  pub plan-same : (h : sort.Heard) → planOf (sideways u r controlin loopbackin) h ≡ planOf u h
   unfolding planOf addressed
   plan-same sort.Length = refl
   plan-same sort.Damaged = refl
@@ -61,7 +60,7 @@ unfoldable pub someAddressed : List H.Hearing → Bool
 someAddressed [] = false
 someAddressed (x ∷ fates) = isAddressed x || someAddressed fates
 
-module _ (h : B.Heard) where
+module _ (h : sort.Heard) where
   abbrev pub fatesOf : List U.Unit → List H.Hearing
   fatesOf us = map (λ u. copyOf u h .fate) us
 
@@ -134,13 +133,13 @@ ending ToControl = held in-control refl
 ending ToLoopback = held in-loopback refl
 
 -- where a held copy goes is one of the unit's slots
-slot-in : (u : U.Unit) (h : B.Heard) (place bytes : ℕ) → Housed place u bytes → (x : Waits) → planOf u h ≡ planAs x → codeSlot u x < 146
+slot-in : (u : U.Unit) (h : sort.Heard) (place bytes : ℕ) → Housed place u bytes → (x : Waits) → planOf u h ≡ planAs x → codeSlot u x < 146
 unfolding planAs codeSlot
 slot-in u h place bytes housed (in-queue q) e = slot-below place bytes u q housed (plan-queue u h q e)
 slot-in u h place bytes housed in-control e = control-below place bytes u housed
 slot-in u h place bytes housed in-loopback e = omega arith
 
-module _ (h : B.Heard) (cell : List ℕ) (whole : length cell ≡ 56) where
+module _ (h : sort.Heard) (cell : List ℕ) (whole : length cell ≡ 56) where
   -- one unit: the store is as it was, or has the cell in the slot
   held-store : (u : U.Unit) (place : ℕ) (store : List ℕ) (x : Waits) → planOf u h ≡ planAs x → storeOf u h place store cell ≡ putAt store place (codeSlot u x) cell
   held-store u place store x e = ap (λ p. storeBy p u place store cell) e ∙ store-as x u place store cell

@@ -5,6 +5,7 @@ use mathlib.Core.Path.{_≡_, refl, sym, ap, subst, _∙_}
 use mathlib.Core.Bool.{false, _||_}
 use lib.Bits.{bitOr}
 use lib.ListN.{length, set, getD, length-set}
+use Rattle.bus.specs.Frame.{heardAs}
 use Rattle.state.specs.Bytes.{unitIn}
 use Rattle.answer.specs.Answers.{hearingRises, queuedOne, isAddressed}
 use Rattle.soundness.specs.Admission.{Housed}
@@ -18,7 +19,7 @@ use Rattle.framing.proofs.hear_all.Statement.{statement}
 use Rattle.framing.proofs.hear_all.Tie as tie
 
 abbrev Inv-loop : tie.InvT-loop
-Inv-loop s₀ heard cell store₀ each₀ end copies₀ addressed₀ i₀ s store each copies addressed i =
+Inv-loop s₀ address cell store₀ each₀ end copies₀ addressed₀ i₀ s store each copies addressed i =
     (i ≤ end)
     × (end ≤ 32)
     × (copies ≤ i)
@@ -26,10 +27,10 @@ Inv-loop s₀ heard cell store₀ each₀ end copies₀ addressed₀ i₀ s stor
     × (length store ≡ length store₀)
     × (length each ≡ 32)
     × ((j : ℕ) → i ≤ j → j < end → Housed j (unitIn s j) (length store₀))
-    × (heededBy heard cell s₀ store₀ each₀ ≡ turns heard cell i (end - i) (scene s store each copies addressed))
+    × (heededBy (heardAs address cell) cell s₀ store₀ each₀ ≡ turns (heardAs address cell) cell i (end - i) (scene s store each copies addressed))
 
 abbrev μ-loop : tie.MeasureT-loop
-μ-loop s₀ heard cell store₀ each₀ end copies₀ addressed₀ i₀ s store each copies addressed i = end - i
+μ-loop s₀ address cell store₀ each₀ end copies₀ addressed₀ i₀ s store each copies addressed i = end - i
 
 loop-holds : tie.Need-loop-holds Inv-loop μ-loop
 loop-holds c =
@@ -44,7 +45,7 @@ loop-holds c =
       refl,
       s .pre .3,
       λ j h l. s .pre .2 j (omega arith),
-      ap (λ k. turns (a .heard) (a .cell .now) 0 k (scene (a .s .now) (a .store .now) (a .each .now) 0 false)) n,
+      ap (λ k. turns (heardAs (a .address) (a .cell .now)) (a .cell .now) 0 k (scene (a .s .now) (a .store .now) (a .each .now) 0 false)) n,
     )
 
 heed-requires : tie.Need-heed-requires Inv-loop μ-loop
@@ -63,7 +64,7 @@ loop-again c =
     let n = c .before .before .before .before .before .before .before .before .before .before .before .before .before .declared-count .result in
     let r = c .before .before .hearing-rises in
     let u = unitIn (l .s) (l .i) in
-    let p = planOf u (a .heard) in
+    let p = planOf u (heardAs (a .address) (a .cell .now)) in
     let f = w .ensures .0 in
     let es = w .ensures .1 .0 in
     let et = w .ensures .1 .1 in
@@ -75,8 +76,8 @@ loop-again c =
       ap length es ∙ state-long p (l .s) (l .i) ∙ l .inv .3,
       long ∙ l .inv .4,
       length-set (l .each) (l .i) (bitOr (getD (l .each) (l .i) 0) (r .result)) ∙ l .inv .5,
-      λ j hj lj. subst (λ x. Housed j x (length (a .store .now))) (sym (ap (λ b. unitIn b j) es ∙ state-there p (l .s) (l .i) (plan-queue u (a .heard)) (omega (arith, l .inv .1, less)) (l .inv .3) j (omega (arith, l .inv .1, lj)) (λ e. absurd (omega arith)))) (l .inv .6 j (omega arith) lj),
-      l .inv .7 ∙ turns-step (a .heard) (a .cell .now) (l .i) n _ _ less (λ t.
+      λ j hj lj. subst (λ x. Housed j x (length (a .store .now))) (sym (ap (λ b. unitIn b j) es ∙ state-there p (l .s) (l .i) (plan-queue u (heardAs (a .address) (a .cell .now))) (omega (arith, l .inv .1, less)) (l .inv .3) j (omega (arith, l .inv .1, lj)) (λ e. absurd (omega arith)))) (l .inv .6 j (omega arith) lj),
+      l .inv .7 ∙ turns-step (heardAs (a .address) (a .cell .now)) (a .cell .now) (l .i) n _ _ less (λ t.
           scene (sym es t) (sym et t) (set (l .each) (l .i) (bitOr (getD (l .each) (l .i) 0) (sym (r .ensures ∙ ap hearingRises f) t))) (l .copies + sym (c .before .queued-one .ensures .0 ∙ ap queuedOne f) t) (l .addressed || sym (c .is-addressed .ensures ∙ ap isAddressed f) t)),
     )
 
@@ -93,7 +94,7 @@ returns : tie.Need-returns Inv-loop μ-loop
 returns c =
     let l = c .before .loop in
     let a = c .before .before .before .before .before .before .before .before .args in
-    let e = sym (l .inv .7 ∙ turns-end (a .heard) (a .cell .now) (l .i) _ (scene (l .s) (l .store) (l .each) (l .copies) (l .addressed)) (omega arith)) in
+    let e = sym (l .inv .7 ∙ turns-end (heardAs (a .address) (a .cell .now)) (a .cell .now) (l .i) _ (scene (l .s) (l .store) (l .each) (l .copies) (l .addressed)) (omega arith)) in
     (λ t. e t .tally, (λ t. e t .bytes, λ t. e t .store))
 
 pub hear-all-spec : {M : Type 1} → statement M

@@ -48,11 +48,11 @@ cell c = sealed-cell (c .before .before .get-cell .result .now) (c .seal .last .
 whole : (c : tie.After-seal) → length (take 56 (c .seal .last .1 .0)) ≡ 56
 whole c = ap length (cell c) ∙ full (c .before .before)
 
-slice-aggregate-hear-sent : tie.Need-slice-aggregate-hear-sent
-slice-aggregate-hear-sent c = sym (whole (c .before .before .before .before))
+slice-aggregate-address-of : tie.Need-slice-aggregate-address-of
+slice-aggregate-address-of c = sym (whole (c .before .before .before .before))
 
-hear-sent-requires : tie.Need-hear-sent-requires
-hear-sent-requires c κs = whole (c .before .before .before .before)
+address-of-requires : tie.Need-address-of-requires
+address-of-requires c κs = whole (c .before .before .before .before)
 
 slice-aggregate-hear-all : tie.Need-slice-aggregate-hear-all
 slice-aggregate-hear-all c = sym (whole (c .before .before .before .before .before .before))
@@ -95,7 +95,7 @@ returns c =
     let ek = frame-is b (a .place) (a .store .now) (s .pre .0) (s .pre .2) (c .before .before .before .before .before .before .before .before .before .before .before .before .before .before .before .before .before .before .before .get-cell .result .now) (c .before .before .before .before .before .before .before .before .before .before .before .before .before .before .before .before .before .before .before .get-cell .ensures ∙ ap (λ n. part (a .store .now) n 56) (o .ensures .0)) in
     let full56 = whole (c .before .before .before .before .before .before .before .before .before .before .before .before .before .before .before .before .before) in
     let ef = ap sealed (cell (c .before .before .before .before .before .before .before .before .before .before .before .before .before .before .before .before .before)) ∙ ek in
-    let eh = c .before .before .before .before .before .before .before .before .before .before .before .before .hear-sent .ensures ∙ sym (heard-sealed (take 56 (c .before .before .before .before .before .before .before .before .before .before .before .before .before .before .before .before .before .seal .last .1 .0)) full56) in
+    let eh = c .before .before .before .before .before .before .before .before .before .before .before .before .address-of .ensures ∙ sym (heard-sealed (take 56 (c .before .before .before .before .before .before .before .before .before .before .before .before .before .before .before .before .before .seal .last .1 .0)) full56) in
     let l = c .before .before .before .before .before .before .before .before .hear-all in (
       sent-tally b (a .place) (a .store .now) (s .pre .0) (s .pre .2) (a .each .now) _ _ _ es full56 ef eh (talliedBy (l .result) (l .last .1 .1 .1 .1 .0)) _ (l .ensures .0) (c .sent-rises .ensures),
       (
@@ -112,8 +112,8 @@ send-spec =
     get-cell-requires
     seal-requires
     (λ c. search needs)
-    slice-aggregate-hear-sent
-    hear-sent-requires
+    slice-aggregate-address-of
+    address-of-requires
     (λ c. search needs)
     slice-aggregate-hear-all
     hear-all-requires

@@ -3,7 +3,7 @@ use mathlib.Core.Path.{_≡_, sym, ap}
 use lib.ListN.{getD}
 use borrow.Author.Tests.{ne-eqb, le-leb, lt-leb}
 use Rattle.bus.specs.Frame.{third}
-use Rattle.bus.specs.declared.Heard.the-variants.{Damaged, Control, Loopback}
+use Rattle.bus.specs.Heard.{Damaged, Control, Loopback}
 use Rattle.state.specs.Bytes.{unitIn}
 use Rattle.hearing.specs.Hearings.{planOf}
 use Rattle.hearing.proofs.InPlace.{lost-all, by-plan}
