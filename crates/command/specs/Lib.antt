@@ -4,4 +4,3 @@ pub mod Lent
 pub mod Called
 pub mod Names
 pub mod Commands
-pub mod Slips

@@ -6,9 +6,9 @@ use card::Card;
 use command::Bank;
 use command::Command;
 use command::Reading;
-use command::Slip;
 use entry::Counted;
 use owned::After;
+use text::Slip;
 ghost use mathlib.Core.Path.{_≡_};
 ghost use Prim.Native.Nat.{_+_, _≤_, _<_};
 ghost use lib.ListN.{length};
@@ -597,7 +597,7 @@ fn tell_person(mut w: World, out: &[u8; 200000], words: &[u8]) -> World {
 
 // What a person may have got wrong in a line that is bad.
 fn hint(w: World, out: &[u8; 200000], line: &[u8]) -> World {
-    match command::slip_in(line) {
+    match text::slip_in(line) {
         Slip::Blanks => tell_person(
             w,
             out,
