@@ -5,8 +5,8 @@ ghost use mathlib.Core.Path.{_≡_};
 ghost use lib.ListN.{getD};
 ghost use Rattle.text.specs.Text.{fieldsOf};
 ghost use Rattle.command.specs.Fields.{placeIn, numberIn, unitIn, byteIn, spanIn};
-ghost use Rattle.command.specs.Lent.{cardLine, lendBank, lendRows, lendLine, pokeBank, pokeState, pokeLine, showLent, showUnit, showLine};
-ghost use Rattle.command.specs.Called.{loadLine, arriveLine, hearLine, frameLine, takeLine, handLine, collectLine, countLine};
+ghost use Rattle.command.specs.SetUpLines.{cardLine, lendBank, lendRows, lendLine, pokeBank, pokeState, pokeLine, showLent, showUnit, showLine};
+ghost use Rattle.command.specs.EventLines.{loadLine, arriveLine, hearLine, frameLine, takeLine, handLine, collectLine, countLine};
 ghost use Rattle.command.specs.Commands.{counts, lines, spoken as spokenBy, readingOf};
 ghost use Rattle.command.specs.Names.{commands};
 
