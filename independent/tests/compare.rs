@@ -93,6 +93,15 @@ fn a_program_that_says_too_much_is_found() {
     assert_eq!(finding.fault, Fault::End);
 }
 
+#[test]
+fn a_program_behind_a_script_is_given_up() {
+    // The script is ended; what it started would answer on, with nobody to read it.
+    let command = format!("sed 's/.*/{}/'; :", "x".repeat(400));
+    let wrong = Other { command: ["sh", "-c", &command].map(String::from).to_vec() };
+    let finding = compare(&wrong, &Own, 2, 1).1.expect("a fault");
+    assert_eq!(finding.script.len(), 1);
+}
+
 /// A heard frame loses its CLP, and gets a right parity for it.
 fn without_clp(line: &[u8]) -> Vec<u8> {
     let fields: Vec<&[u8]> = line.split(|byte| *byte == b'\t').collect();

@@ -7,7 +7,7 @@ use lib.ListN.{length, getD, List·getD-eq-default}
 use borrow.Author.Tests.{eq-eqb, ne-eqb}
 use Rattle.text.specs.Text.{fieldsOf}
 use Rattle.command.specs.declared.Reading.the-variants.{Bad}
-use Rattle.command.specs.Lent.{showLine}
+use Rattle.command.specs.SetUpLines.{showLine}
 use Rattle.command.specs.Commands.{counts, lines, spoken}
 
 -- no command past the last, and no line of one

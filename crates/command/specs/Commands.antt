@@ -9,8 +9,8 @@ use Rattle.command.specs.declared.Command.the-variants.{Help}
 use Rattle.command.specs.declared.Reading.{Reading}
 use Rattle.command.specs.declared.Reading.the-variants.{Does, Bad}
 use Rattle.command.specs.Fields.{placeIn}
-use Rattle.command.specs.Lent.{cardLine, lendLine, pokeLine, showLine}
-use Rattle.command.specs.Called.{loadLine, arriveLine, hearLine, frameLine, takeLine, handLine, collectLine, countLine}
+use Rattle.command.specs.SetUpLines.{cardLine, lendLine, pokeLine, showLine}
+use Rattle.command.specs.EventLines.{loadLine, arriveLine, hearLine, frameLine, takeLine, handLine, collectLine, countLine}
 use Rattle.command.specs.Names.{commands}
 
 -- how many fields the lines of each command but `show` have, and what each reads; in the order of `commands`

@@ -1,7 +1,6 @@
 pub mod Fields
 pub mod LentNames
-pub mod Lent
-pub mod Called
+pub mod SetUpLines
+pub mod EventLines
 pub mod Names
 pub mod Commands
-pub mod Slips

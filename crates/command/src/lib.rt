@@ -5,11 +5,10 @@ ghost use mathlib.Core.Path.{_≡_};
 ghost use lib.ListN.{getD};
 ghost use Rattle.text.specs.Text.{fieldsOf};
 ghost use Rattle.command.specs.Fields.{placeIn, numberIn, unitIn, byteIn, spanIn};
-ghost use Rattle.command.specs.Lent.{cardLine, lendBank, lendRows, lendLine, pokeBank, pokeState, pokeLine, showLent, showUnit, showLine};
-ghost use Rattle.command.specs.Called.{loadLine, arriveLine, hearLine, frameLine, takeLine, handLine, collectLine, countLine};
+ghost use Rattle.command.specs.SetUpLines.{cardLine, lendBank, lendRows, lendLine, pokeBank, pokeState, pokeLine, showLent, showUnit, showLine};
+ghost use Rattle.command.specs.EventLines.{loadLine, arriveLine, hearLine, frameLine, takeLine, handLine, collectLine, countLine};
 ghost use Rattle.command.specs.Commands.{counts, lines, spoken as spokenBy, readingOf};
 ghost use Rattle.command.specs.Names.{commands};
-ghost use Rattle.command.specs.Slips.{has as hasByte, endsIn, slipOf};
 
 // A number in its range, or none.
 pub enum Num {
@@ -440,49 +439,4 @@ pub fn read(s: &[u8]) -> Reading
         return spoken(command_named(text::field(s, 1)), s);
     }
     Reading::Bad
-}
-
-// What a person may have got wrong in a line that is no command.
-pub enum Slip {
-    Blanks,
-    Return,
-    Both,
-    NoSlip,
-}
-
-const BLANK: u8 = b' ';
-
-const RETURN: u8 = b'\r';
-
-// Whether a byte stands in s.
-fn has(s: &[u8], byte: u8) -> bool
-    ensures { λ r. ⌜ r ≡ hasByte byte (now (s .entry)) ⌝ }
-{
-    text::field_end(s, 0, byte) < s.len()
-}
-
-// Whether a byte stands at the end of s.
-fn ends_in(s: &[u8], byte: u8) -> bool
-    ensures { λ r. ⌜ r ≡ endsIn byte (now (s .entry)) ⌝ }
-{
-    if s.len() == 0 {
-        return false;
-    }
-    s[s.len() - 1] == byte
-}
-
-// Blanks where tabs should be, or a line end of two bytes.
-pub fn slip_in(s: &[u8]) -> Slip
-    ensures { λ r. ⌜ r ≡ slipOf (now (s .entry)) ⌝ }
-{
-    if ends_in(s, RETURN) {
-        if has(s, BLANK) {
-            return Slip::Both;
-        }
-        return Slip::Return;
-    }
-    if has(s, BLANK) {
-        return Slip::Blanks;
-    }
-    Slip::NoSlip
 }

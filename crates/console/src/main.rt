@@ -6,9 +6,9 @@ use card::Card;
 use command::Bank;
 use command::Command;
 use command::Reading;
-use command::Slip;
 use entry::Counted;
 use owned::After;
+use text::Slip;
 ghost use mathlib.Core.Path.{_≡_};
 ghost use Prim.Native.Nat.{_+_, _≤_, _<_};
 ghost use lib.ListN.{length};
@@ -16,7 +16,7 @@ ghost use Rattle.io.specs.Counts.{Counts};
 
 // The card, the rows, and how much of the rows, the memory and the store is lent.
 // What was read and is not answered stands from `from` to `end`, its first line up to `to`; that ends a line whose start was too long to be kept if `long`.
-// The answers that are not written end at `at`; more may come if `open`; the command was done if `good`.
+// The answers that are not written end at `at`; more may come if `open`; the command was done if `good`; a read or a write failed if `lost`.
 struct World {
     card: Card,
     rows: [Counters; 40],
@@ -30,6 +30,7 @@ struct World {
     long: bool,
     open: bool,
     good: bool,
+    lost: bool,
 }
 
 const NEWLINE: u8 = b'\n';
@@ -76,6 +77,7 @@ fn begun() -> World {
         long: false,
         open: true,
         good: true,
+        lost: false,
     }
 }
 
@@ -91,21 +93,28 @@ fn unhexed(line: &[u8], text: &mut [u8; 75000]) -> usize {
     0
 }
 
-// The answers so far are written out.
-fn write_out(out: &[u8; 200000], at: usize) {
-    let answers = part_of(out, 0, at);
-    io::write_all(1, answers);
+// The answers so far are written out, or it is told, once, that they are lost.
+fn written(mut w: World, out: &[u8; 200000]) -> World
+    ensures { λ r. ⌜ r .at ≡ 0 ⌝ }
+{
+    let answers = part_of(out, 0, w.at);
+    w.at = 0;
+    if w.lost || io::write_all(1, answers) {
+        return w;
+    }
+    os::fail(b"standard output");
+    w.lost = true;
+    w
 }
 
-// Where an answer starts: what there is is written out if the room is short.
-fn cleared(at: usize, out: &[u8; 200000]) -> usize
-    ensures { λ r. ⌜ r ≤ 180000 ⌝ }
+// An answer has room to start: what there is is written out if the room is short.
+fn cleared(w: World, out: &[u8; 200000]) -> World
+    ensures { λ r. ⌜ r .at ≤ 180000 ⌝ }
 {
-    if FULL < at {
-        write_out(out, at);
-        return 0;
+    if FULL < w.at {
+        return written(w, out);
     }
-    at
+    w
 }
 
 // The first n bytes of b, as far as there are any, each with this value; how many they are.
@@ -136,6 +145,7 @@ fn set_card(w: World, card: Card) -> World
         long: w.long,
         open: w.open,
         good: w.good,
+        lost: w.lost,
     }
 }
 
@@ -550,13 +560,6 @@ fn kept(input: &mut [u8], from: usize, end: usize) -> usize {
     shift(input, f, end)
 }
 
-// Reads into what is free behind the kept bytes; where what came ends.
-fn more(input: &mut [u8], kept: usize) -> usize {
-    let n = within(kept, input);
-    let got = libc::read(0, &mut input[n..]);
-    n + io::count(got, &input[n..])
-}
-
 // The world after more was read; at the end of the input a last line without a newline gets one.
 fn refilled(mut w: World, input: &mut [u8], kept: usize, end: usize) -> World {
     if kept == 0 && w.from < w.end {
@@ -575,29 +578,43 @@ fn refilled(mut w: World, input: &mut [u8], kept: usize, end: usize) -> World {
     w
 }
 
+// Reads into what is free behind the kept bytes.
+fn more(mut w: World, input: &mut [u8], kept: usize) -> World {
+    let n = within(kept, input);
+    let got = libc::read(0, &mut input[n..]);
+    if got < 0 {
+        os::fail(b"standard input");
+        w.lost = true;
+        return w;
+    }
+    let end = n + io::count(got, &input[n..]);
+    refilled(w, input, kept, end)
+}
+
 // The world with its next line; where no whole one is left, the answers are written and more is read.
 fn lined(mut w: World, input: &mut [u8; 400000], out: &[u8; 200000]) -> World {
     w.to = line_end(input, w.from, w.end);
     if w.to < w.end {
         return w;
     }
-    write_out(out, w.at);
+    w = written(w, out);
+    if w.lost {
+        return w;
+    }
     let n = kept(input, w.from, w.end);
-    let end = more(input, n);
-    refilled(w, input, n, end)
+    more(w, input, n)
 }
 
 // Words for a person, on standard error; the answers so far are written first, so that both are read in order.
-fn tell_person(mut w: World, out: &[u8; 200000], words: &[u8]) -> World {
-    write_out(out, w.at);
+fn tell_person(w: World, out: &[u8; 200000], words: &[u8]) -> World {
+    let after = written(w, out);
     io::write_all(2, words);
-    w.at = 0;
-    w
+    after
 }
 
 // What a person may have got wrong in a line that is bad.
 fn hint(w: World, out: &[u8; 200000], line: &[u8]) -> World {
-    match command::slip_in(line) {
+    match text::slip_in(line) {
         Slip::Blanks => tell_person(
             w,
             out,
@@ -669,7 +686,7 @@ fn turn(
     let line = part_of(input, w.from, w.to);
     let n = unhexed(line, text);
     w.from = w.to + 1;
-    w.at = cleared(w.at, out);
+    w = cleared(w, out);
     w.good = true;
     match reading_of(w.long, line) {
         Reading::Does(command) => {
@@ -689,15 +706,27 @@ fn turn(
     }
 }
 
-// One turn less; none after the end of the input and its last line.
+// One turn less; none after the end of the input and its last line, or where a read or a write failed.
 fn left(turns: u64, w: World) -> u64
     requires { ⌜ 0 < turns ⌝ }
     ensures { λ r. ⌜ r < turns ⌝ }
 {
+    if w.lost {
+        return 0;
+    }
     if w.open || w.from < w.end {
         return turns - 1;
     }
     0
+}
+
+// A program has no status of its own: where it is asked to, it says on descriptor 3 that nothing was lost.
+fn say_kept() {
+    let mut word = [0u8; 8];
+    let n = os::arg(1, &mut word);
+    if text::is(&word[..n], b"verdict") {
+        io::write_all(3, b"good\n");
+    }
 }
 
 // Reads to the end of the input; nothing says that there is one, so turns are counted.
@@ -716,7 +745,10 @@ fn run(
         w = turn(w, state, memory, store, text, input, out);
         turns = left(turns, w);
     }
-    write_out(out, w.at);
+    w = written(w, out);
+    if !w.lost {
+        say_kept();
+    }
 }
 
 // The state starts as a fresh 16 bus.

@@ -3,13 +3,14 @@
 use card::Card;
 use table::Outcome;
 use toowide::Next;
-ghost use Prim.Native.Nat.{_≤_};
+ghost use mathlib.Core.Path.{_≡_};
+ghost use Prim.Native.Nat.{_-_, _≤_};
 ghost use lib.ListN.{length};
 
-// The input: so many bytes of it are kept, and whether it was read to its end.
+// The input: so many bytes of it are kept, and whether nothing failed.
 struct Input {
     kept: usize,
-    whole: bool,
+    good: bool,
 }
 
 // Which cards are asked for.
@@ -148,21 +149,31 @@ fn asked() -> Cards {
     Cards::Unknown
 }
 
-// Reads what is left of the input, so that who writes it is not stopped. Nothing says that it ends, so turns are counted.
-fn read_on() -> bool {
-    let mut turns = u64::MAX;
-    while 0 < turns {
-        let mut part = io::large_buffer();
-        let got = libc::read(0, &mut part);
-        if got <= 0 {
-            return got == 0;
-        }
-        turns -= 1;
-    }
-    false
+// How far an input is read on that is too long to be a table: it may have no end.
+const FURTHER: usize = 16777216;
+
+fn less(left: usize, n: usize) -> usize
+    ensures { λ r. ⌜ r ≡ left - n ⌝ }
+{
+    if n < left { left - n } else { 0 }
 }
 
-// Reads the input to its end and keeps what there is room for.
+// Reads on, so that who writes the input is not stopped.
+fn read_on() -> bool {
+    let mut left = FURTHER;
+    while 0 < left {
+        let mut part = io::large_buffer();
+        let got = libc::read(0, &mut part);
+        let n = io::count(got, &part);
+        if n == 0 {
+            return got == 0;
+        }
+        left = less(left, n);
+    }
+    true
+}
+
+// Reads the input and keeps what there is room for, which is more than a table may have.
 fn read(text: &mut [u8]) -> Input
     ensures { λ r. ⌜ r .kept ≤ length (now (text .exit)) ⌝ }
 {
@@ -173,14 +184,14 @@ fn read(text: &mut [u8]) -> Input
         if more == 0 {
             return Input {
                 kept: n,
-                whole: got == 0,
+                good: got == 0,
             };
         }
         n += more;
     }
     Input {
         kept: n,
-        whole: read_on(),
+        good: read_on(),
     }
 }
 
@@ -201,7 +212,7 @@ fn main() {
     // one byte more than a text may have tells a longer one
     let mut text = [0u8; 65537];
     let input = read(&mut text);
-    if !input.whole {
+    if !input.good {
         os::fail(b"standard input");
         return;
     }

@@ -9,7 +9,7 @@ use Rattle.text.specs.Writing.{Wrote}
 use Rattle.text.specs.Decimals.{decimal}
 use Rattle.text.proofs.Splices.{then, cat-snoc}
 use Rattle.arbiter.specs.Arbitration.{nobody}
-use Rattle.replies.specs.Phrases.{tabbed, fields, who}
+use Rattle.replies.specs.LineFields.{tabbed, fields, who}
 
 one-field : (f : List ℕ) → tabbed f ≡ fields (f ∷ [])
 unfolding cat

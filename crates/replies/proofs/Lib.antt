@@ -1,3 +1,3 @@
 pub mod FieldJoins
 pub mod Joins
-pub mod Written
+pub mod RowLaws

@@ -7,7 +7,7 @@ use Rattle.text.specs.Decimals.{decimal}
 use Rattle.answer.specs.Answers.{arrivalWord, hearingWord}
 use Rattle.answer.specs.declared.Answer as An
 use Rattle.answer.specs.declared.Answer.the-variants.{Loaded, Unloaded, Refused, Arrived, Framed, Heard, Taken, Empty, Handed}
-use Rattle.replies.specs.Phrases.{who}
+use Rattle.replies.specs.LineFields.{who}
 
 abbrev pub wOk : List ℕ
 wOk = 111 ∷ 107 ∷ []

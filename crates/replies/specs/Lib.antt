@@ -1,4 +1,4 @@
-pub mod Phrases
+pub mod LineFields
 pub mod Answers
 pub mod Lines
-pub mod Shown
+pub mod ConsoleLines

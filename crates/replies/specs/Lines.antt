@@ -9,7 +9,7 @@ use Rattle.event.specs.Names.{wArrive, wFrame, wTake, wCount}
 use Rattle.event.specs.declared.Event as Ev
 use Rattle.event.specs.declared.Event.the-variants.{Arrive, Frame, Take, Count, Bad}
 use Rattle.answer.specs.declared.Answer as An
-use Rattle.replies.specs.Phrases.{fields}
+use Rattle.replies.specs.LineFields.{fields}
 use Rattle.replies.specs.Answers.{answerFields}
 use Rattle.replies.specs.declared.Outcome as Ou
 use Rattle.replies.specs.declared.Outcome.the-variants.{Nothing, Answered, Counted}

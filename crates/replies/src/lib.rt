@@ -14,10 +14,10 @@ ghost use Rattle.answer.specs.Counting.{listed as listedOf};
 ghost use Rattle.text.specs.Writing.{Wrote};
 ghost use Rattle.text.specs.Hex.{hexOf};
 ghost use Rattle.text.specs.Decimals.{decimal, numberFields, numberField};
-ghost use Rattle.replies.specs.Phrases.{tabbed, who, fields};
+ghost use Rattle.replies.specs.LineFields.{tabbed, who, fields};
 ghost use Rattle.replies.specs.Answers.{wRefused, wOk, wEmpty, byteAt, headerBytes, answerFields};
 ghost use Rattle.replies.specs.Lines.{outcomeText, wordOf, unitOf, tableLine, eventLine, fitting};
-ghost use Rattle.replies.specs.Shown.{frameText, saidText, countText, sumText, stateText, rowsText};
+ghost use Rattle.replies.specs.ConsoleLines.{frameText, saidText, countText, sumText, stateText, rowsText};
 
 // Writes a tab and a text.
 pub fn put_field(out: &mut [u8], at: usize, text: &[u8]) -> usize

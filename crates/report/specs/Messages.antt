@@ -7,11 +7,14 @@ use lib.ListN.{length, take}
 use Rattle.octets.specs.Octets.{cat}
 use Rattle.text.specs.Text.{split, fieldOf}
 use Rattle.text.specs.Decimals.{decimal}
+use Rattle.text.specs.Slips.{slipOf}
+use Rattle.text.specs.declared.Slip.{Slip}
+use Rattle.text.specs.declared.Slip.the-variants.{Blanks, Return, Both, NoSlip}
 use Rattle.card.specs.declared.Card.{Card}
 use Rattle.card.specs.declared.Card.the-variants.{Narrow, Wide}
 use Rattle.card.specs.declared.Ask.{Ask}
 use Rattle.card.specs.declared.Ask.the-variants.{Bus, On, Out}
-use Rattle.report.specs.Phrases.{wNarrow, wWide, tOk, tBytes, tUnit, tUnits, tColon, tRefused, tCut, tPath, tAbove, tBus, tNni, tLong, tEmpty, tForm, tOrder, tTwice, tAsks, tRoom, tStore}
+use Rattle.report.specs.MessageBytes.{wNarrow, wWide, tOk, tBytes, tUnit, tUnits, tColon, tRefused, tCut, tPath, tAbove, tBus, tNni, tLong, tEmpty, tBlanks, tReturn, tBoth, tForm, tOrder, tTwice, tAsks, tRoom, tStore}
 
 abbrev pub newline : List ℕ
 newline = 10 ∷ []
@@ -65,14 +68,21 @@ askWords (Out vpi) = (tPath ++ decimal vpi) ++ tAbove
 abbrev pub wideLine : ℕ → List ℕ → Ask → List ℕ
 wideLine line bytes ask = ((head Narrow 5 line ++ showing bytes) ++ askWords ask) ++ newline
 
--- what is wrong, as far as 01's number says it
-unfoldable pub formWords : List ℕ → List ℕ
-formWords text = cond (eqb (length text) 0) tEmpty tForm
+-- a table's line has no blank and no carriage return; what else may be wrong in its form where it has neither
+unfoldable pub slipWords : Slip → List ℕ
+slipWords Blanks = tBlanks
+slipWords Return = tReturn
+slipWords Both = tBoth
+slipWords NoSlip = tForm
 
-unfoldable pub why : List ℕ → ℕ → List ℕ
-why text number =
+unfoldable pub formWords : List ℕ → ℕ → List ℕ
+formWords text line = cond (eqb (length text) 0) tEmpty (slipWords (slipOf (lineIn text line)))
+
+-- what is wrong, as far as 01's number and the line say it
+unfoldable pub why : List ℕ → ℕ → ℕ → List ℕ
+why text line number =
     cond (eqb number 1) tLong
-    (cond (eqb number 2) (formWords text)
+    (cond (eqb number 2) (formWords text line)
     (cond (eqb number 3) tOrder
     (cond (eqb number 4) tTwice
     (cond (eqb number 5) tAsks
@@ -82,6 +92,6 @@ why text number =
 unfoldable pub shownIn : List ℕ → ℕ → List ℕ
 shownIn text line = cond (eqb line 0) [] (showing (lineIn text line))
 
--- `12: wide refused 4: unit 3 uni 5 2 one 0 0 100 0: this unit, path, circuit or session is given twice`
+-- `12: wide refused 4: unit 3 uni 5 2 one 0 0 100 0: this unit, path, channel or session is given twice`
 abbrev pub refusedLine : Card → ℕ → ℕ → List ℕ → List ℕ
-refusedLine card number line text = ((head card number line ++ shownIn text line) ++ why text number) ++ newline
+refusedLine card number line text = ((head card number line ++ shownIn text line) ++ why text line number) ++ newline

@@ -1,11 +1,12 @@
 // What the planner's tool says of a table on a card. Each function writes from a place on and says where it ends; the last three write a whole line.
 use card::Ask;
 use card::Card;
+use text::Slip;
 ghost use mathlib.Core.Path.{_≡_};
 ghost use Prim.Native.Nat.{_+_, _≤_, min};
 ghost use lib.ListN.{length};
 ghost use Rattle.text.specs.Writing.{Wrote};
-ghost use Rattle.report.specs.Messages.{cardWord, unitsWord, okLine, shownByte, cutMark, shown as shownOf, showing, lineIn, place, head, askWords, wideLine, formWords, why, shownIn, refusedLine};
+ghost use Rattle.report.specs.Messages.{cardWord, unitsWord, okLine, shownByte, cutMark, shown as shownOf, showing, lineIn, place, head, askWords, wideLine, slipWords, formWords, why, shownIn, refusedLine};
 
 // How much of a line is shown.
 const SHOWN: usize = 80;
@@ -135,27 +136,48 @@ fn put_ask(out: &mut [u8], at: usize, ask: Ask) -> usize
     }
 }
 
-fn put_form(out: &mut [u8], at: usize, text: &[u8]) -> usize
+// What is wrong in the form of a line that a person may have got wrong so.
+fn put_slip(out: &mut [u8], at: usize, slip: Slip) -> usize
     requires { ⌜ at + 104 ≤ length (now out) ⌝ }
-    ensures { λ r. ⌜ Wrote (now (out .entry)) at (formWords (now (text .entry))) r (now (out .exit)) × (r ≤ at + 104) ⌝ }
+    ensures { λ r. ⌜ Wrote (now (out .entry)) at (slipWords slip) r (now (out .exit)) × (r ≤ at + 104) ⌝ }
+{
+    match slip {
+        Slip::Blanks => text::put(
+            out,
+            at,
+            b"fields are parted by one tab, and this line has blanks",
+        ),
+        Slip::Return => text::put(out, at, b"the line ends in a carriage return"),
+        Slip::Both => text::put(
+            out,
+            at,
+            b"fields are parted by one tab, and this line has blanks and ends in a carriage return",
+        ),
+        Slip::NoSlip => text::put(
+            out,
+            at,
+            b"unknown word, wrong field count, field outside its range, or no newline at its end",
+        ),
+    }
+}
+
+fn put_form(out: &mut [u8], at: usize, text: &[u8], line: u32) -> usize
+    requires { ⌜ at + 104 ≤ length (now out) ⌝ }
+    ensures { λ r. ⌜ Wrote (now (out .entry)) at (formWords (now (text .entry)) line) r (now (out .exit)) × (r ≤ at + 104) ⌝ }
 {
     if text.len() == 0 {
         return text::put(out, at, b"the text is empty");
     }
-    text::put(
-        out,
-        at,
-        b"unknown word, wrong field count, field outside its range, or no newline at its end",
-    )
+    put_slip(out, at, text::slip_in(line_in(text, line)))
 }
 
-fn put_why(out: &mut [u8], at: usize, text: &[u8], number: u8) -> usize
+fn put_why(out: &mut [u8], at: usize, text: &[u8], line: u32, number: u8) -> usize
     requires { ⌜ at + 104 ≤ length (now out) ⌝ }
-    ensures { λ r. ⌜ Wrote (now (out .entry)) at (why (now (text .entry)) number) r (now (out .exit)) × (r ≤ at + 104) ⌝ }
+    ensures { λ r. ⌜ Wrote (now (out .entry)) at (why (now (text .entry)) line number) r (now (out .exit)) × (r ≤ at + 104) ⌝ }
 {
     match number {
         1 => text::put(out, at, b"the text is above 65,536 bytes"),
-        2 => put_form(out, at, text),
+        2 => put_form(out, at, text, line),
         3 => text::put(
             out,
             at,
@@ -164,10 +186,10 @@ fn put_why(out: &mut [u8], at: usize, text: &[u8], number: u8) -> usize
         4 => text::put(
             out,
             at,
-            b"this unit, path, circuit or session is given twice",
+            b"this unit, path, channel or session is given twice",
         ),
         5 => text::put(out, at, b"bus 32, nni or an outgoing path above 255"),
-        6 => text::put(out, at, b"the memory of 262,144 bytes is full"),
+        6 => text::put(out, at, b"with this line the records exceed 262,144 bytes"),
         _ => text::put(out, at, b"cell store or counter rows too small"),
     }
 }
@@ -224,7 +246,7 @@ fn put_refusal(out: &mut [u8], at: usize, card: Card, number: u8, line: u32, tex
 {
     let headed = put_head(out, at, card, number, line as u64);
     let lined = put_refused(out, headed, text, line);
-    let said = put_why(out, lined, text, number);
+    let said = put_why(out, lined, text, line, number);
     text::put(out, said, b"\n")
 }
 

@@ -5,3 +5,4 @@ pub mod Splices
 pub mod HexLaws
 pub mod NumberLaws
 pub mod Roundtrip
+pub mod SlipLaws

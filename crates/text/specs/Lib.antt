@@ -5,3 +5,4 @@ pub mod Writing
 pub mod Decimals
 pub mod Fnv
 pub mod Published
+pub mod Slips

@@ -1,4 +1,5 @@
-// Bytes as text: the fields of a text, parted by one byte; decimal numbers and hex digits, read from a slice and written into one; the FNV-1a sum.
+// Bytes as text: the fields of a text, parted by one byte; decimal numbers and hex digits, read from a slice and written into one; the FNV-1a sum;
+// what a person may have got wrong in a line.
 ghost use mathlib.Core.Path.{_≡_};
 ghost use Prim.Native.Nat.{_+_, _≤_, _*_, _/_};
 ghost use lib.ListN.{length, drop};
@@ -11,6 +12,7 @@ ghost use Rattle.text.specs.Hex.{hexDigit, isHex, unhex as unhexed, capi
 ghost use Rattle.text.specs.Writing.{Wrote};
 ghost use Rattle.text.specs.Decimals.{decimal as inDecimal, numberField, numberFields, numberOf};
 ghost use Rattle.text.specs.Fnv.{step as stepped, sum as sumOf};
+ghost use Rattle.text.specs.Slips.{has as hasByte, endsIn, slipOf};
 
 const TAB: u8 = b'\t';
 
@@ -337,4 +339,49 @@ pub fn fnv(bytes: &[u8]) -> u32
         i += 1;
     }
     sum
+}
+
+// What a person may have got wrong in a line of fields.
+pub enum Slip {
+    Blanks,
+    Return,
+    Both,
+    NoSlip,
+}
+
+const BLANK: u8 = b' ';
+
+const RETURN: u8 = b'\r';
+
+// Whether a byte stands in s.
+fn has(s: &[u8], byte: u8) -> bool
+    ensures { λ r. ⌜ r ≡ hasByte byte (now (s .entry)) ⌝ }
+{
+    field_end(s, 0, byte) < s.len()
+}
+
+// Whether a byte stands at the end of s.
+fn ends_in(s: &[u8], byte: u8) -> bool
+    ensures { λ r. ⌜ r ≡ endsIn byte (now (s .entry)) ⌝ }
+{
+    if s.len() == 0 {
+        return false;
+    }
+    s[s.len() - 1] == byte
+}
+
+// Blanks where tabs should be, or a line end of two bytes.
+pub fn slip_in(s: &[u8]) -> Slip
+    ensures { λ r. ⌜ r ≡ slipOf (now (s .entry)) ⌝ }
+{
+    if ends_in(s, RETURN) {
+        if has(s, BLANK) {
+            return Slip::Both;
+        }
+        return Slip::Return;
+    }
+    if has(s, BLANK) {
+        return Slip::Blanks;
+    }
+    Slip::NoSlip
 }

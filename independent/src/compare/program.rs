@@ -73,34 +73,38 @@ impl Program for Other {
             // A program that ended early shows by its missing answers.
             let _ = feed(&mut input).and_then(|()| input.flush());
         });
-        Ok(Box::new(OtherRun { child, output: BufReader::with_capacity(65_536, output), writer: Some(writer) }))
+        let output = Some(BufReader::with_capacity(65_536, output));
+        Ok(Box::new(OtherRun { child, output, writer: Some(writer) }))
     }
 }
 
 struct OtherRun {
     child: Child,
-    output: BufReader<ChildStdout>,
+    output: Option<BufReader<ChildStdout>>,
     writer: Option<JoinHandle<()>>,
 }
 
 impl Run for OtherRun {
     fn answer(&mut self, _: &[u8]) -> Option<Vec<u8>> {
         let mut answer = Vec::new();
-        self.output.read_until(b'\n', &mut answer).ok()?;
+        self.output.as_mut()?.read_until(b'\n', &mut answer).ok()?;
         (answer.pop() == Some(b'\n')).then_some(answer)
     }
 
     fn ends_well(&mut self) -> bool {
         let mut more = Vec::new();
-        let silent = self.output.read_to_end(&mut more).is_ok_and(|read| read == 0);
+        let silent =
+            self.output.as_mut().is_some_and(|output| output.read_to_end(&mut more).is_ok_and(|read| read == 0));
         silent && self.child.wait().is_ok_and(|status| status.success())
     }
 }
 
 impl Drop for OtherRun {
-    /// A run given up in the middle is ended, or its writer would wait for ever.
+    /// A run given up in the middle is ended, or its writer would wait for ever; what a script has started ends once its
+    /// answers are read by nobody.
     fn drop(&mut self) {
         let _ = self.child.kill();
+        self.output = None;
         let _ = self.child.wait();
         if let Some(writer) = self.writer.take() {
             let _ = writer.join();

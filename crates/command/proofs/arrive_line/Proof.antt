@@ -1,6 +1,6 @@
 -- `command::arrive_line` meets its contract. Assumes nothing.
 use mathlib.Core.Path.{sym, _∙_}
-use Rattle.command.specs.Called.{arriveLine}
+use Rattle.command.specs.EventLines.{arriveLine}
 use borrow.Author.Needs.{needs}
 use Rattle.command.proofs.arrive_line.Statement.{statement}
 use Rattle.command.proofs.arrive_line.Tie as tie

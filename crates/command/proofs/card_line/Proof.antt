@@ -2,7 +2,7 @@
 use mathlib.Core.Path.{sym, ap, _∙_}
 use Rattle.text.specs.Text.{same}
 use Rattle.command.specs.LentNames.{wNarrow, wWide}
-use Rattle.command.specs.Lent.{cardLine}
+use Rattle.command.specs.SetUpLines.{cardLine}
 use borrow.Author.Needs.{needs}
 use Rattle.command.proofs.card_line.Statement.{statement}
 use Rattle.command.proofs.card_line.Tie as tie

@@ -1,6 +1,6 @@
 -- `command::count_line` meets its contract. Assumes nothing.
 use mathlib.Core.Path.{sym, _∙_}
-use Rattle.command.specs.Called.{countLine}
+use Rattle.command.specs.EventLines.{countLine}
 use borrow.Author.Needs.{needs}
 use Rattle.command.proofs.count_line.Statement.{statement}
 use Rattle.command.proofs.count_line.Tie as tie

@@ -1,6 +1,6 @@
 -- `command::hand_line` meets its contract. Assumes nothing.
 use mathlib.Core.Path.{sym, _∙_}
-use Rattle.command.specs.Called.{handLine}
+use Rattle.command.specs.EventLines.{handLine}
 use borrow.Author.Needs.{needs}
 use Rattle.command.proofs.hand_line.Statement.{statement}
 use Rattle.command.proofs.hand_line.Tie as tie

@@ -1,6 +1,6 @@
 -- `command::hear_line` meets its contract. Assumes nothing.
 use mathlib.Core.Path.{sym, _∙_}
-use Rattle.command.specs.Called.{hearLine}
+use Rattle.command.specs.EventLines.{hearLine}
 use borrow.Author.Needs.{needs}
 use Rattle.command.proofs.hear_line.Statement.{statement}
 use Rattle.command.proofs.hear_line.Tie as tie

@@ -1,6 +1,6 @@
 -- `command::lend_bank` meets its contract. Assumes nothing.
 use mathlib.Core.Path.{sym, _∙_}
-use Rattle.command.specs.Lent.{lendBank}
+use Rattle.command.specs.SetUpLines.{lendBank}
 use Rattle.command.proofs.FieldLaws.{number-most}
 use Rattle.text.specs.Text.{fieldsOf}
 use native.Mathlib.Omega.{arith}

@@ -2,7 +2,7 @@
 use mathlib.Core.Path.{sym, ap, _∙_}
 use Rattle.text.specs.Text.{same}
 use Rattle.command.specs.LentNames.{wMemory, wStore, wRows}
-use Rattle.command.specs.Lent.{lendLine}
+use Rattle.command.specs.SetUpLines.{lendLine}
 use borrow.Author.Needs.{needs}
 use Rattle.command.proofs.lend_line.Statement.{statement}
 use Rattle.command.proofs.lend_line.Tie as tie

@@ -1,6 +1,6 @@
 -- `command::load_line` meets its contract. Assumes nothing.
 use mathlib.Core.Path.{sym, _∙_}
-use Rattle.command.specs.Called.{loadLine}
+use Rattle.command.specs.EventLines.{loadLine}
 use borrow.Author.Needs.{needs}
 use Rattle.command.proofs.load_line.Statement.{statement}
 use Rattle.command.proofs.load_line.Tie as tie

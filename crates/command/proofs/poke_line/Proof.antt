@@ -2,7 +2,7 @@
 use mathlib.Core.Path.{sym, ap, _∙_}
 use Rattle.text.specs.Text.{same}
 use Rattle.command.specs.LentNames.{wMemory, wStore, wState}
-use Rattle.command.specs.Lent.{pokeLine}
+use Rattle.command.specs.SetUpLines.{pokeLine}
 use borrow.Author.Needs.{needs}
 use Rattle.command.proofs.poke_line.Statement.{statement}
 use Rattle.command.proofs.poke_line.Tie as tie

@@ -1,6 +1,6 @@
 -- `command::poke_state` meets its contract. Assumes nothing.
 use mathlib.Core.Path.{sym, _∙_}
-use Rattle.command.specs.Lent.{pokeState}
+use Rattle.command.specs.SetUpLines.{pokeState}
 use Rattle.command.proofs.FieldLaws.{number-most}
 use Rattle.text.specs.Text.{fieldsOf}
 use native.Mathlib.Omega.{arith}

@@ -2,7 +2,7 @@
 use mathlib.Core.Path.{sym, ap, _∙_}
 use Rattle.text.specs.Text.{same}
 use Rattle.command.specs.LentNames.{wMemory, wStore, wRows, wState}
-use Rattle.command.specs.Lent.{showLent}
+use Rattle.command.specs.SetUpLines.{showLent}
 use borrow.Author.Needs.{needs}
 use Rattle.command.proofs.show_lent.Statement.{statement}
 use Rattle.command.proofs.show_lent.Tie as tie

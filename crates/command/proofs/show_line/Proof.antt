@@ -1,6 +1,6 @@
 -- `command::show_line` meets its contract. Assumes nothing.
 use mathlib.Core.Path.{sym, _∙_}
-use Rattle.command.specs.Lent.{showLine}
+use Rattle.command.specs.SetUpLines.{showLine}
 use borrow.Author.Tests.{ne-eqb}
 use borrow.Author.Needs.{needs}
 use Rattle.command.proofs.show_line.Statement.{statement}

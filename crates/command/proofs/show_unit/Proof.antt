@@ -2,7 +2,7 @@
 use mathlib.Core.Path.{sym, ap, _∙_}
 use Rattle.text.specs.Text.{same}
 use Rattle.command.specs.LentNames.{wUnit}
-use Rattle.command.specs.Lent.{showUnit}
+use Rattle.command.specs.SetUpLines.{showUnit}
 use borrow.Author.Needs.{needs}
 use Rattle.command.proofs.show_unit.Statement.{statement}
 use Rattle.command.proofs.show_unit.Tie as tie

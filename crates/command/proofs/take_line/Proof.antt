@@ -1,6 +1,6 @@
 -- `command::take_line` meets its contract. Assumes nothing.
 use mathlib.Core.Path.{sym, _∙_}
-use Rattle.command.specs.Called.{takeLine}
+use Rattle.command.specs.EventLines.{takeLine}
 use Rattle.command.proofs.FieldLaws.{number-most}
 use Rattle.text.specs.Text.{fieldsOf}
 use native.Mathlib.Omega.{arith}

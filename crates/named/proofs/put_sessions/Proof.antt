@@ -5,7 +5,7 @@ use lib.ListN.{length}
 use Rattle.text.specs.Writing.{Wrote}
 use Rattle.text.proofs.Splices.{then}
 use Rattle.named.specs.Named.{heardBelow}
-use Rattle.named.proofs.Written.{no-session, next-session}
+use Rattle.named.proofs.SessionLaws.{no-session, next-session}
 use native.Mathlib.Omega.{arith}
 use borrow.Author.Needs.{needs}
 use Rattle.named.proofs.put_sessions.Statement.{statement}

@@ -1,7 +1,7 @@
 -- `named::unit` meets its contract. Assumes nothing.
 use mathlib.Core.Path.{sym, _∙_}
 use Rattle.named.specs.Named.{unitText}
-use Rattle.named.proofs.Written.{found-below}
+use Rattle.named.proofs.SessionLaws.{found-below}
 use borrow.Author.Needs.{needs}
 use Rattle.named.proofs.unit.Statement.{statement}
 use Rattle.named.proofs.unit.Tie as tie

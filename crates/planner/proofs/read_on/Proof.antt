@@ -5,10 +5,10 @@ use Rattle.planner.proofs.read_on.Statement.{statement}
 use Rattle.planner.proofs.read_on.Tie as tie
 
 abbrev Inv-loop : tie.InvT-loop
-Inv-loop turns₀ turns = 0 ≤ turns
+Inv-loop left₀ left = 0 ≤ left
 
 abbrev μ-loop : tie.MeasureT-loop
-μ-loop turns₀ turns = turns
+μ-loop left₀ left = left
 
 pub read-on-spec : {M : Type 1} → statement M
 read-on-spec =
@@ -21,7 +21,9 @@ read-on-spec =
     (λ c. search needs)
     (λ c κs. search needs)
     (λ c. search needs)
+    (λ c κs. search needs)
     (λ c. search needs)
+    (λ c κs. search needs)
     (λ c. search needs)
     (λ c. search needs)
     (λ c. search needs))

@@ -5,8 +5,8 @@ use lib.ListN.{length, take}
 use Rattle.octets.specs.Octets.{cat}
 use Rattle.text.specs.Writing.{Wrote}
 use Rattle.text.proofs.Splices.{then}
-use Rattle.replies.specs.Shown.{rowFields}
-use Rattle.replies.proofs.Written.{no-rows, next-row}
+use Rattle.replies.specs.ConsoleLines.{rowFields}
+use Rattle.replies.proofs.RowLaws.{no-rows, next-row}
 use Rattle.outlet.proofs.Laws.{length-mapped}
 use native.Mathlib.Omega.{arith}
 use borrow.Author.Needs.{needs}

@@ -1,6 +1,6 @@
 -- `replies::said` meets its contract. Assumes nothing.
 use Rattle.text.proofs.Splices.{then}
-use Rattle.replies.specs.Shown.{saidText}
+use Rattle.replies.specs.ConsoleLines.{saidText}
 use native.Mathlib.Omega.{arith}
 use borrow.Author.Needs.{needs}
 use Rattle.replies.proofs.said.Statement.{statement}

@@ -12,7 +12,9 @@ returns c = (rw (c .before .before .before .before .before .if1 .taken) (c .befo
 
 returns-2 : tie.Need-returns-2
 unfolding formWords
-returns-2 c = (rw (ne-eqb _ 0 (c .before .before .before .before .before .if1 .left)) (c .before .before .put2 .ensures), omega arith)
+returns-2 c =
+    let s = rw (c .before .before .before .before .line-in .ensures) at (c .before .before .before .slip-in .ensures) in
+    (rw (ne-eqb _ 0 (c .before .before .before .before .before .before .if1 .left)) (rw s at (c .before .before .put-slip .ensures .0)), omega arith)
 
 pub put-form-spec : {M : Type 1} → statement M
 put-form-spec =
@@ -22,7 +24,8 @@ put-form-spec =
     (λ c κs. search needs)
     (λ c. search needs)
     returns
-    (λ c. search needs)
+    (λ c κs. search needs)
+    (λ c κs. search needs)
     (λ c κs. search needs)
     (λ c. search needs)
     returns-2)

@@ -1,9 +1,9 @@
--- `command::slip_in` meets its contract. Assumes nothing.
+-- `text::slip_in` meets its contract. Assumes nothing.
 use mathlib.Core.Path.{sym, _∙_}
-use Rattle.command.specs.Slips.{slipOf}
+use Rattle.text.specs.Slips.{slipOf}
 use borrow.Author.Needs.{needs}
-use Rattle.command.proofs.slip_in.Statement.{statement}
-use Rattle.command.proofs.slip_in.Tie as tie
+use Rattle.text.proofs.slip_in.Statement.{statement}
+use Rattle.text.proofs.slip_in.Tie as tie
 
 returns : tie.Need-returns
 unfolding slipOf

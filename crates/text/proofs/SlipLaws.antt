@@ -9,8 +9,8 @@ use native.Mathlib.Nat.{zero-add}
 use native.Mathlib.Omega.{arith}
 use lib.Dec.{eqb, ltb}
 use lib.ListN.{length, getD}
 use Rattle.text.specs.Text.{at, push, split}
-use Rattle.command.specs.Slips.{has, endsIn}
+use Rattle.text.specs.Slips.{has, endsIn}
 
 -- a byte stands in a text that it parts
 parted : (byte : ℕ) (s : List ℕ) → ltb (length (at (split byte s) 0)) (length s) ≡ has byte s

@@ -1,8 +1,8 @@
--- `command::has` meets its contract. Assumes nothing.
-use Rattle.command.proofs.SlipLaws.{has-parted}
+-- `text::has` meets its contract. Assumes nothing.
+use Rattle.text.proofs.SlipLaws.{has-parted}
 use borrow.Author.Needs.{needs}
-use Rattle.command.proofs.has.Statement.{statement}
-use Rattle.command.proofs.has.Tie as tie
+use Rattle.text.proofs.has.Statement.{statement}
+use Rattle.text.proofs.has.Tie as tie
 
 returns : tie.Need-returns
 returns c = has-parted _ _ _ (c .field-end .ensures .0)

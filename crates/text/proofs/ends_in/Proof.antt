@@ -1,8 +1,8 @@
--- `command::ends_in` meets its contract. Assumes nothing.
-use Rattle.command.proofs.SlipLaws.{ends-last, ends-none}
+-- `text::ends_in` meets its contract. Assumes nothing.
+use Rattle.text.proofs.SlipLaws.{ends-last, ends-none}
 use borrow.Author.Needs.{needs}
-use Rattle.command.proofs.ends_in.Statement.{statement}
-use Rattle.command.proofs.ends_in.Tie as tie
+use Rattle.text.proofs.ends_in.Statement.{statement}
+use Rattle.text.proofs.ends_in.Tie as tie
 
 returns : tie.Need-returns
 returns c = ends-none _ _ (c .if1 .taken)

@@ -1,10 +1,10 @@
--- What a person may have got wrong in a line: docs/CONSOLE.md, "Hints". Assumes nothing.
+-- What a person may have got wrong in a line of fields: docs/CONSOLE.md, "Hints"; docs/FORMATS.md, refusal 2. Assumes nothing.
 use Prim.Native.Nat.{ℕ}
 use mathlib.Core.Bool.{Bool, false, _||_, cond}
 use mathlib.Core.List.{List, [], _∷_}
 use lib.Dec.{eqb}
-use Rattle.command.specs.declared.Slip.{Slip}
-use Rattle.command.specs.declared.Slip.the-variants.{Blanks, Return, Both, NoSlip}
+use Rattle.text.specs.declared.Slip.{Slip}
+use Rattle.text.specs.declared.Slip.the-variants.{Blanks, Return, Both, NoSlip}
 
 -- whether a byte stands in a text, and whether it is its last one
 unfoldable pub has : ℕ → List ℕ → Bool

@@ -9,7 +9,7 @@ use Rattle.octets.specs.Octets.{cat}
 use Rattle.text.specs.Writing.{Wrote}
 use Rattle.text.proofs.Splices.{nothing, then, cat-snoc}
 use Rattle.answer.specs.declared.Counters.{Counters}
-use Rattle.replies.specs.Shown.{rowFields}
+use Rattle.replies.specs.ConsoleLines.{rowFields}
 
 pub no-rows : (b : List ℕ) (k : ℕ) → Wrote b k (cat rowFields []) k b
 unfolding cat

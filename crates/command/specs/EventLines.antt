@@ -6,7 +6,7 @@ use Rattle.command.specs.declared.Command.the-variants as command
 use Rattle.command.specs.declared.Reading.{Reading}
 use Rattle.command.specs.declared.Reading.the-variants.{Does}
 use Rattle.command.specs.Fields.{numberIn, unitIn, spanIn}
-use Rattle.command.specs.Lent.{num, octet, span}
+use Rattle.command.specs.SetUpLines.{num, octet, span}
 
 -- `load HEX`, `arrive UNIT HEX`, `hear UNIT HEX`, `hand UNIT HEX`: to 70,000 bytes
 unfoldable pub loadLine : List ℕ → Reading

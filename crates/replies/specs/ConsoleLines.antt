@@ -7,7 +7,7 @@ use Rattle.text.specs.Decimals.{numberField, numberFields}
 use Rattle.text.specs.Hex.{hexOf}
 use Rattle.answer.specs.declared.Answer as A
 use Rattle.answer.specs.declared.Answer.the-variants.{Loaded, Unloaded, Refused, Arrived, Framed, Heard, Taken, Empty, Handed}
-use Rattle.replies.specs.Phrases.{tabbed, who}
+use Rattle.replies.specs.LineFields.{tabbed, who}
 use Rattle.answer.specs.Answers.{arrivalWord, hearingWord}
 use Rattle.answer.specs.declared.Counters.{Counters}
 use Rattle.answer.specs.Counting.{listed}
