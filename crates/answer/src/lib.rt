@@ -4,7 +4,7 @@ ghost use Rattle.answer.specs.Answers.{arrival_rises, hearing_rises, uncounted_w
 ghost use Rattle.answer.specs.Counting.{zeros, tick as ticked, raised as raised_by, rise_at, row_by, settled, raised_from, place_of, many_of};
 
 // The fates of an arriving cell.
-#[derive(Drop)]
+#[derive(Clone, Copy)]
 pub enum Arrival {
     Hec,
     Ignored,
@@ -14,7 +14,7 @@ pub enum Arrival {
 }
 
 // The fates of a heard frame at a unit.
-#[derive(Drop)]
+#[derive(Clone, Copy)]
 pub enum Hearing {
     Damaged,
     Other,
@@ -25,7 +25,7 @@ pub enum Hearing {
 }
 
 // What is given back.
-#[derive(Drop)]
+#[derive(Clone, Copy)]
 pub enum Answer {
     // a table is loaded and uses so many bytes
     Loaded(u32),
@@ -81,7 +81,7 @@ pub const WIDE: u16 = 2048;
 pub const TAKEN: u16 = 4096;
 
 // What becomes of the rows from one place up to another: they start anew, or each has these counters raised.
-#[derive(Drop)]
+#[derive(Clone, Copy)]
 pub struct Rises {
     pub from: usize,
     pub to: usize,
@@ -90,14 +90,14 @@ pub struct Rises {
 }
 
 // What an event comes to but for the lent bytes: its answer, and the counters that rise.
-#[derive(Drop)]
+#[derive(Clone, Copy)]
 pub struct Outcome {
     pub answer: Answer,
     pub rises: Rises,
 }
 
 // The same of an event at one unit: the counters that rise in the row of its place, if it is counted at all. It goes by value in a few words.
-#[derive(Drop)]
+#[derive(Clone, Copy)]
 pub struct Single {
     pub answer: Answer,
     pub counted: bool,
@@ -157,7 +157,7 @@ pub fn counted(answer: Answer, place: usize, counters: u16) -> Single
 }
 
 #[repr(C)]
-#[derive(Drop)]
+#[derive(Clone, Copy)]
 pub struct Counters {
     pub arrived: u32,
     pub hec: u32,

@@ -6,14 +6,14 @@ ghost use Rattle.arbiter.specs.Arbitration.{fresh as fresh_of, due as is_due, as
 pub const NOBODY: u8 = 255;
 
 // For each of the three priorities the number of the last unit granted, and for each unit number the priority that it asks at, 0 for none.
-#[derive(Drop)]
+#[derive(Clone, Copy)]
 pub struct Arbiter {
     pub last: [u8; 3],
     pub asks: [u8; 32],
 }
 
 // What the grant rule answers: the unit granted, or NOBODY, and both arrays afterwards.
-#[derive(Drop)]
+#[derive(Clone, Copy)]
 pub struct Grant {
     pub unit: u8,
     pub last: [u8; 3],
@@ -21,7 +21,7 @@ pub struct Grant {
 }
 
 // What a grant answers: the new arbiter, and the unit granted, or NOBODY.
-#[derive(Drop)]
+#[derive(Clone, Copy)]
 pub struct Granted {
     pub arbiter: Arbiter,
     pub unit: u8,

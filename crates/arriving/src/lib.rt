@@ -14,7 +14,7 @@ use shelf::{Settings, Unit};
 use soundness::Admitted;
 
 // Where an arriving cell goes: to the bus with these headers, or nowhere, with this fate.
-#[derive(Drop)]
+#[derive(Clone, Copy)]
 pub enum Way {
     Bus { routing: u16, header: u32 },
     Lost(Arrival),

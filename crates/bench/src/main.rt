@@ -6,20 +6,20 @@ use event::Event;
 use replies::Outcome;
 
 // The counter rows; an array by itself cannot take a call's result.
-#[derive(Drop)]
+#[derive(Clone, Copy)]
 struct Tally {
     rows: [Counters; 40],
 }
 
 // How much of the line that is being read is held, and whether it is too long to be an event.
-#[derive(Drop)]
+#[derive(Clone, Copy)]
 struct Held {
     length: usize,
     long: bool,
 }
 
 // What the input so far came to, and whether it goes on.
-#[derive(Drop)]
+#[derive(Clone, Copy)]
 struct Fed {
     tally: Tally,
     held: Held,

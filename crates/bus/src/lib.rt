@@ -1,11 +1,13 @@
 // The bus: the routing header, which takes a cell over it, with its check; the 56 bytes of a cell before parity, and the frame of 57.
+#![tactic(auto)]
+
 ghost use Rattle.std.specs.Prelude.{◌≡◌, ◌<◌, ◌≤◌, length};
 ghost use Rattle.remainder.specs.Division.{advance};
 ghost use Rattle.bus.specs.Routing.{divisor, check as check_of, upper as upper_of, routing as header_of, controlling, address as address_of};
 ghost use Rattle.bus.specs.Frame.{parity as parity_of, cell, sealed, returned as returned_as};
 
 // To whom a cell goes: a unit, a session, or every unit.
-#[derive(Drop)]
+#[derive(Clone, Copy)]
 pub enum Target {
     Unit(u8),
     Session(u8),
@@ -13,7 +15,7 @@ pub enum Target {
 }
 
 // What a routing header says: a data cell of a class for a target, or a cell of kind 3.
-#[derive(Drop)]
+#[derive(Clone, Copy)]
 pub enum Address {
     Bad,
     To { target: Target, class: u8 },

@@ -1,17 +1,19 @@
 // The two cards: narrow or wide, as a value; and what a line must not ask of a narrow one.
+#![tactic(auto)]
+
 ghost use Rattle.std.specs.Prelude.{◌≡◌};
 ghost use Rattle.card.specs.Cards.{narrow_holds, holds as holds_it};
 
 use header::Link;
 
-#[derive(Drop)]
+#[derive(Clone, Copy)]
 pub enum Card {
     Narrow,
     Wide,
 }
 
 // What a line asks of a card: a bus of so many units, a link, an outgoing VPI.
-#[derive(Drop)]
+#[derive(Clone, Copy)]
 pub enum Ask {
     Bus(u8),
     On(Link),

@@ -5,7 +5,7 @@ use card::Card;
 use entry::Counted;
 
 // The counter rows; an array by itself cannot take a call's result.
-#[derive(Drop)]
+#[derive(Clone, Copy)]
 struct Tally {
     rows: [Counters; 40],
 }

@@ -11,21 +11,21 @@ use card::Card;
 use text::Numeral;
 
 // A number in its range, or none.
-#[derive(Drop)]
+#[derive(Clone, Copy)]
 pub enum Num {
     Is(u64),
     NoNum,
 }
 
 // A byte or a unit, or none.
-#[derive(Drop)]
+#[derive(Clone, Copy)]
 pub enum Octet {
     Byte(u8),
     NoByte,
 }
 
 // Where a field of bytes starts, or that it is none.
-#[derive(Drop)]
+#[derive(Clone, Copy)]
 pub enum Span {
     From(usize),
     NoSpan,
@@ -105,14 +105,14 @@ pub fn span_at(s: &[u8], f: u8, most: usize) -> Span
 }
 
 // What is lent in bytes.
-#[derive(Drop)]
+#[derive(Clone, Copy)]
 pub enum Bank {
     Memory,
     Store,
 }
 
 // Bytes in hex are always the last field of a line: `from` is where it starts.
-#[derive(Drop)]
+#[derive(Clone, Copy)]
 pub enum Command {
     Card(Card),
     Lend { bank: Bank, length: u32, byte: u8 },
@@ -135,7 +135,7 @@ pub enum Command {
 }
 
 // What reading a line comes to.
-#[derive(Drop)]
+#[derive(Clone, Copy)]
 pub enum Reading {
     Does(Command),
     Bad,

@@ -13,7 +13,7 @@ use text::Slip;
 // The card, the rows, and how much of the rows, the memory and the store is lent.
 // What was read and is not answered stands from `from` to `end`, its first line up to `to`; that ends a line whose start was too long to be kept if `long`.
 // The answers that are not written end at `at`; more may come if `open`; the command was done if `good`; a read or a write failed if `lost`.
-#[derive(Drop)]
+#[derive(Clone, Copy)]
 struct World {
     card: Card,
     rows: [Counters; 40],

@@ -143,7 +143,7 @@ pub fn collect(
 }
 
 // What a count answers: the counters of the unit, or the number of the refusal, a word as they are, so that both answers stand at one place.
-#[derive(Drop)]
+#[derive(Clone, Copy)]
 pub enum Counted {
     Counters(Counters),
     Refused(u32),

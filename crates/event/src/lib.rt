@@ -5,7 +5,7 @@ ghost use Rattle.event.specs.Events.{unit_of, on, hexes as hexes_of, head_of, ar
 
 use text::Numeral;
 
-#[derive(Drop)]
+#[derive(Clone, Copy)]
 pub enum Event {
     // a cell of this header, check and payload byte arrives
     Arrive {
@@ -22,7 +22,7 @@ pub enum Event {
 }
 
 // A unit that a field names, or none.
-#[derive(Drop)]
+#[derive(Clone, Copy)]
 pub enum Named {
     Unit(u8),
     Nothing,

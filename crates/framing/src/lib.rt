@@ -23,14 +23,14 @@ use card::Card;
 use shelf::{Found, Unit};
 
 // What the declared units make of a frame besides the counters that rise at each: how many copies were queued, whether some unit was addressed.
-#[derive(Drop)]
+#[derive(Clone, Copy)]
 pub struct Heeded {
     pub copies: u8,
     pub addressed: bool,
 }
 
 // What a frame comes to besides the counters that rise at each unit: the answer, and up to which row they rise.
-#[derive(Drop)]
+#[derive(Clone, Copy)]
 pub struct Framed {
     pub answer: Answer,
     pub to: usize,

@@ -1,17 +1,19 @@
 // The cell header of I.361 at a UNI and at an NNI, and the header check of I.432.1. A header goes by the number that its four bytes say.
+#![tactic(auto)]
+
 ghost use Rattle.std.specs.Prelude.{◌≡◌, ◌<◌};
 ghost use Rattle.remainder.specs.Division.{advance};
 ghost use Rattle.header.specs.Fields.{highest as highest_on, top_of, fields, word};
 ghost use Rattle.header.specs.Check.{divisor, check as check_of};
 
-#[derive(Drop)]
+#[derive(Clone, Copy)]
 pub enum Link {
     Uni,
     Nni,
 }
 
 // The fields of a header. An NNI has no GFC: there it is 0.
-#[derive(Drop)]
+#[derive(Clone, Copy)]
 pub struct Header {
     pub gfc: u8,
     pub vpi: u16,

@@ -16,7 +16,7 @@ use lookup::{Got, Record};
 use shelf::{Found, Settings};
 
 // What is wrong with a line, in the order in which it is tried; Order and Twice carry the field, counted from the word as 1.
-#[derive(Drop)]
+#[derive(Clone, Copy)]
 pub enum Verdict {
     Fine,
     Form(Wrong),
@@ -28,7 +28,7 @@ pub enum Verdict {
 
 // What a line is judged by of the declared unit that it names: its top VPI, where its records start, and its place; where none has the number,
 // zeros.
-#[derive(Drop)]
+#[derive(Clone, Copy)]
 pub struct Owner {
     pub known: bool,
     pub top: u16,
@@ -37,7 +37,7 @@ pub struct Owner {
 }
 
 // A page's top VCI and the place of its records, where it is one.
-#[derive(Drop)]
+#[derive(Clone, Copy)]
 pub struct Paged {
     pub known: bool,
     pub top: u16,

@@ -12,7 +12,7 @@ use outlet::{Limits, Mode, Outlet};
 use shelf::Settings;
 
 // What is wrong with a line, and in which field, counted from the word as 1.
-#[derive(Drop)]
+#[derive(Clone, Copy)]
 pub enum Wrong {
     Newline,
     Word,
@@ -22,14 +22,14 @@ pub enum Wrong {
 }
 
 // A number in its range, or what is wrong with it.
-#[derive(Drop)]
+#[derive(Clone, Copy)]
 pub enum Num {
     Is(u16),
     NoNum(Wrong),
 }
 
 // A target, or what is wrong with it.
-#[derive(Drop)]
+#[derive(Clone, Copy)]
 pub enum Aim {
     At(Target),
     NoAim(Wrong),
@@ -105,14 +105,14 @@ pub fn aimed(s: &[u8], f: u8) -> Aim
 }
 
 // The front of a `unit` line: its settings.
-#[derive(Drop)]
+#[derive(Clone, Copy)]
 pub enum Front {
     Set(Settings),
     NoFront(Wrong),
 }
 
 // The back of a `unit` line: its limits.
-#[derive(Drop)]
+#[derive(Clone, Copy)]
 pub enum Back {
     Held(Limits),
     NoBack(Wrong),
@@ -262,7 +262,7 @@ pub fn limits_of(s: &[u8]) -> Back
     Back::NoBack(Wrong::Range(6))
 }
 
-#[derive(Drop)]
+#[derive(Clone, Copy)]
 pub enum Line {
     Bus(u8),
     Unit {
@@ -301,21 +301,21 @@ pub enum Line {
 }
 
 // What reading a line comes to.
-#[derive(Drop)]
+#[derive(Clone, Copy)]
 pub enum Reading {
     Good(Line),
     Bad(Wrong),
 }
 
 // The unit and the VPI that four kinds of line begin with.
-#[derive(Drop)]
+#[derive(Clone, Copy)]
 pub enum Key {
     On { unit: u8, vpi: u16 },
     NoKey(Wrong),
 }
 
 // The way out that `vp` and `vc` lines give.
-#[derive(Drop)]
+#[derive(Clone, Copy)]
 pub enum Way {
     To {
         target: Target,
@@ -325,7 +325,7 @@ pub enum Way {
     NoWay(Wrong),
 }
 
-#[derive(Drop)]
+#[derive(Clone, Copy)]
 pub enum Kind {
     Bus,
     Unit,
@@ -336,7 +336,7 @@ pub enum Kind {
     Mc,
 }
 
-#[derive(Drop)]
+#[derive(Clone, Copy)]
 pub enum Word {
     Known(Kind),
     Unknown,

@@ -13,7 +13,7 @@ pub const SIZE: usize = 8;
 // The most bytes of a memory that a table uses.
 pub const MOST: usize = 262144;
 
-#[derive(Drop)]
+#[derive(Clone, Copy)]
 pub enum Record {
     Empty,
     Drop,
@@ -22,7 +22,7 @@ pub enum Record {
 }
 
 // What stands at a place of a memory: a record, or nothing, where the place is not wholly inside or the kind is unknown.
-#[derive(Drop)]
+#[derive(Clone, Copy)]
 pub enum Got {
     Is(Record),
     Nothing,
@@ -153,7 +153,7 @@ pub fn clear(memory: &mut [u8])
 }
 
 // A cell is ignored, misrouted, or goes on with this routing header and, on the bus, this cell header.
-#[derive(Drop)]
+#[derive(Clone, Copy)]
 pub enum Looked {
     Ignored,
     Misrouted,

@@ -1,4 +1,6 @@
 // Big-endian numbers in bytes, and copies of one slice into another.
+#![tactic(auto)]
+
 ghost use Rattle.std.specs.Prelude.{◌≡◌, ◌+◌, ◌≤◌, ◌<◌, length};
 ghost use Rattle.octets.specs.Octets.{be2, be4, two as two_of, four as four_of, splice};
 

@@ -7,14 +7,14 @@ ghost use Rattle.outlet.specs.Taking.{leaving, marks as marks_it, marked as mark
 
 use header::{Header, Link};
 
-#[derive(Drop)]
+#[derive(Clone, Copy)]
 pub enum Mode {
     One,
     Four,
 }
 
 // The last five fields of a `unit` line.
-#[derive(Drop)]
+#[derive(Clone, Copy)]
 pub struct Limits {
     pub mode: Mode,
     pub cbrlength: u8,
@@ -24,14 +24,14 @@ pub struct Limits {
 }
 
 // A queue in a ring of places: the place of its oldest cell, and how many cells it holds.
-#[derive(Drop)]
+#[derive(Clone, Copy)]
 pub struct Ring {
     pub head: u8,
     pub count: u8,
 }
 
 // Queue q holds class q; in mode one all cells are in queue 0 and the other three are not used.
-#[derive(Drop)]
+#[derive(Clone, Copy)]
 pub struct Outlet {
     pub limits: Limits,
     pub queues: [Ring; 4],
@@ -158,7 +158,7 @@ pub fn queue(outlet: Outlet, q: u8) -> Ring
 }
 
 // What befalls a copy that is addressed to a unit.
-#[derive(Drop)]
+#[derive(Clone, Copy)]
 pub enum Fate {
     Wide,
     Full,
@@ -167,7 +167,7 @@ pub enum Fate {
 }
 
 // Which queue's oldest cell leaves next.
-#[derive(Drop)]
+#[derive(Clone, Copy)]
 pub enum Leaving {
     Queue(u8),
     Empty,

@@ -7,7 +7,7 @@ use card::Card;
 use entry::Counted;
 
 // What is given back, and the rows afterwards.
-#[derive(Drop)]
+#[derive(Clone, Copy)]
 pub struct After {
     pub answer: Answer,
     pub rows: [Counters; 40],

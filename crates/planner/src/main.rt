@@ -7,14 +7,14 @@ use table::Outcome;
 use toowide::Next;
 
 // The input: so many bytes of it are kept, and whether nothing failed.
-#[derive(Drop)]
+#[derive(Clone, Copy)]
 struct Input {
     kept: usize,
     good: bool,
 }
 
 // Which cards are asked for.
-#[derive(Drop)]
+#[derive(Clone, Copy)]
 enum Cards {
     Narrow,
     Wide,
@@ -23,7 +23,7 @@ enum Cards {
 }
 
 // What came of a table: it is good, it is refused, or what was said is lost.
-#[derive(Drop)]
+#[derive(Clone, Copy)]
 enum Said {
     Good,
     Refused,

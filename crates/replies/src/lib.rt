@@ -228,7 +228,7 @@ pub fn put_answer(out: &mut [u8], at: usize, unit: u8, answer: Answer, cell: &[u
 }
 
 // What is said of an event.
-#[derive(Drop)]
+#[derive(Clone, Copy)]
 pub enum Outcome {
     Nothing,
     Answered(Answer),

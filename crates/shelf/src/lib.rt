@@ -6,7 +6,7 @@ use header::Link;
 use outlet::{Outlet, Ring};
 
 // The first four settings of a `unit` line.
-#[derive(Drop)]
+#[derive(Clone, Copy)]
 pub struct Settings {
     pub number: u8,
     pub link: Link,
@@ -16,7 +16,7 @@ pub struct Settings {
 
 // The places beside the data queues: a control cell and a loopback cell in the inlet, 0 or 1 of each; the control outlet; a loopback cell in the outlet,
 // 0 or 1.
-#[derive(Drop)]
+#[derive(Clone, Copy)]
 pub struct Side {
     pub controlin: u8,
     pub loopbackin: u8,
@@ -24,7 +24,7 @@ pub struct Side {
     pub loopbackout: u8,
 }
 
-#[derive(Drop)]
+#[derive(Clone, Copy)]
 pub struct Unit {
     pub settings: Settings,
     pub inlet: Ring,
@@ -37,7 +37,7 @@ pub struct Unit {
 }
 
 // Where a unit stands among the declared ones.
-#[derive(Drop)]
+#[derive(Clone, Copy)]
 pub enum Found {
     At(usize),
     Nothing,

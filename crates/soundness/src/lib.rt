@@ -426,14 +426,14 @@ pub fn sound(card: Card, s: &[u8], store: usize, rows: usize, held: &mut [u8; 32
 }
 
 // The unit stands in this place, or the event is refused with this number.
-#[derive(Drop)]
+#[derive(Clone, Copy)]
 pub enum Admitted {
     At(usize),
     Refused(u8),
 }
 
 // Which row is read: the one in a place, with number 0, or none, with the number of the refusal.
-#[derive(Drop)]
+#[derive(Clone, Copy)]
 pub struct Place {
     pub number: u8,
     pub at: usize,

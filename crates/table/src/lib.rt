@@ -191,14 +191,14 @@ pub fn takes(line: Line) -> u32
 const LONGEST: usize = 65536;
 
 // A table is loaded and uses so many bytes, or is refused with this number at this line.
-#[derive(Drop)]
+#[derive(Clone, Copy)]
 pub enum Outcome {
     Loaded(u32),
     Refused { number: u8, line: u32 },
 }
 
 // The bytes used so far, how many lines were read, and what the last of them came to.
-#[derive(Drop)]
+#[derive(Clone, Copy)]
 pub struct Progress {
     pub used: u32,
     pub lines: u32,

@@ -1,5 +1,7 @@
 // Bytes as text: the fields of a text, parted by one byte; decimal numbers and hex digits, read from a slice and written into one; the FNV-1a sum;
 // what a person may have got wrong in a line.
+#![tactic(auto)]
+
 ghost use Rattle.std.specs.Prelude.{◌≡◌, ◌+◌, ◌≤◌, ◌*◌, ◌/◌, length, drop, true};
 ghost use Rattle.std.specs.Int.Bits.{bit_xor};
 ghost use Rattle.octets.specs.Octets.{splice};
@@ -75,7 +77,7 @@ pub fn count(s: &[u8]) -> usize
 }
 
 // Where a line ends, and how many fields it has.
-#[derive(Drop)]
+#[derive(Clone, Copy)]
 pub struct Stretch {
     pub end: usize,
     pub fields: usize,
@@ -229,7 +231,7 @@ pub fn put_hex(out: &mut [u8], at: usize, bytes: &[u8]) -> usize
 }
 
 // What a text says as a number.
-#[derive(Drop)]
+#[derive(Clone, Copy)]
 pub enum Numeral {
     Is(u64),
     // a number above the most that is asked for
@@ -341,7 +343,7 @@ pub fn fnv(bytes: &[u8]) -> u32
 }
 
 // What a person may have got wrong in a line of fields.
-#[derive(Drop)]
+#[derive(Clone, Copy)]
 pub enum Slip {
     Blanks,
     Return,

@@ -8,14 +8,14 @@ use line::{Line, Reading};
 use shelf::Settings;
 
 // What a line asks of a card, if it asks for anything.
-#[derive(Drop)]
+#[derive(Clone, Copy)]
 pub enum Asking {
     Of(Ask),
     Nothing,
 }
 
 // The next line that asks for too much: how many lines stand before it, where it starts and ends, and what it asks.
-#[derive(Drop)]
+#[derive(Clone, Copy)]
 pub enum Next {
     At {
         before: usize,

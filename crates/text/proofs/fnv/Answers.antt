@@ -1,0 +1,25 @@
+use mathlib.Core.Path.{refl, sym, ◌∙◌}
+use Prim.Native.Nat.{◌<◌, ◌-◌}
+use native.Mathlib.Numerals.{add-one}
+use lib.ListN.{length, drop, drop_of_length-le}
+use lib.Seq.{drop-cons}
+use Rattle.text.specs.Fnv.{sum_from}
+use native.Mathlib.Omega.{arith}
+use Rattle.text.proofs.fnv.Goals as goal
+
+pub loop-i-init : goal.loop-i-init
+loop-i-init c = (omega arith, refl)
+
+pub loop-i-preserved : goal.loop-i-preserved
+unfolding sum_from
+loop-i-preserved c =
+    let l = c in
+    let b = l.args.bytes.now in
+    let h : l.loop-i.i < length b = omega arith in
+    (omega arith, l.loop-i.invariant.1 ∙ rw (add-one, drop-cons b l.loop-i.i 0, c.step-sum.ensures))
+
+pub returns : goal.returns
+unfolding sum_from
+returns c =
+    let l = c.loop-i in
+    sym (l.invariant.1 ∙ rw (drop_of_length-le c.args.bytes.now c.loop-i-test.false))
