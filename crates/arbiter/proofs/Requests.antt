@@ -75,7 +75,7 @@ module _ (asks : List ℕ) (priority : ℕ) where
         inside = omega arith;
         there = f.there;
         asks = f.asks;
-        before = λ j. elim j [ zero ↦ λ h x. e x | suc m ↦ λ h x. f.before m (omega arith) x ];
+        before = λ j. elim j as (λ k. k < suc f.place → get_or asks (get_or (n ∷ ns) k 0) 0 ≡ priority → ⊥) [ zero ↦ λ h x. e x | suc m ↦ λ h x. f.before m (omega arith) x ];
       }))
 
   -- whom the cyclic order asks, all units do

@@ -76,7 +76,7 @@ rings_iff outlet =
     let e = and_iff (and_iff (and_iff (f 0) (f 1)) (f 2)) (f 3) in (
       λ t. let w = e.0 t in
           record {
-            each = λ q. elim q [
+            each = λ q. elim q as (λ k. k < 4 → RingFits (queue outlet k) (capacity outlet.limits k)) [
               | zero ↦ λ h. w.0.0.0
               | suc zero ↦ λ h. w.0.0.1
               | suc (suc zero) ↦ λ h. w.0.1
@@ -94,7 +94,7 @@ pub fresh_fits : (limits : Limits) → rings_fit (fresh limits) ≡ true
 fresh_fits limits =
     (rings_iff (fresh limits)).1
     (record {
-      each = λ q. elim q [
+      each = λ q. elim q as (λ k. k < 4 → RingFits (queue (fresh limits) k) (capacity limits k)) [
         | zero ↦ λ h. empty_fits (capacity limits 0)
         | suc zero ↦ λ h. empty_fits (capacity limits 1)
         | suc (suc zero) ↦ λ h. empty_fits (capacity limits 2)

@@ -11,7 +11,7 @@ use lib.Dec.{eqb}
 use lib.ListN.{length, get_or, drop, set, length-map, length-take, drop_of_length-le}
 use lib.Seq.{drop-cons, get_or-take, map-set_same}
 use borrow.Author.Tests.{eq-eqb, ne_eqb, eqb-true, eqb-false}
-use Rattle.shelf.specs.Shelves.{declared, number_of, numbers, place_from, find_in, FoundAt, FoundNowhere}
+use Rattle.shelf.specs.Shelves.{declared, blank, number_of, numbers, place_from, find_in, FoundAt, FoundNowhere}
 use Rattle.shelf.specs.declared.Unit as U
 use Rattle.shelf.specs.Shelf.{Shelf}
 use Rattle.shelf.specs.declared.Found.{Found}
@@ -98,7 +98,7 @@ module _ (number : ℕ) where
             record {
               inside = omega arith;
               named = f.named;
-              first = λ j. elim j [ zero ↦ λ h x. eqb-false (number_of u) number t x | suc m ↦ λ h x. f.first m (omega arith) x ];
+              first = λ j. elim j as (λ k. k < suc r.0 → number_of (get_or (u ∷ us) k blank) ≡ number → ⊥) [ zero ↦ λ h x. eqb-false (number_of u) number t x | suc m ↦ λ h x. f.first m (omega arith) x ];
             },
           )
 
@@ -124,7 +124,7 @@ module _ (number : ℕ) where
     where
       pick : (b : Bool) → eqb (number_of u) number ≡ b → (place_from (suc k) (numbers us) number ≡ Nothing → FoundNowhere us number) → cond b (At k) (place_from (suc k) (numbers us) number) ≡ Nothing → FoundNowhere (u ∷ us) number
       pick true t rest e = let z : ◌≡◌ {A = ℕ} 0 1 = cc in absurd (omega arith)
-      pick false t rest e = λ j. elim j [ zero ↦ λ h x. eqb-false (number_of u) number t x | suc m ↦ λ h x. rest e m (omega arith) x ]
+      pick false t rest e = λ j. elim j as (λ k. k < suc (length us) → number_of (get_or (u ∷ us) k blank) ≡ number → ⊥) [ zero ↦ λ h x. eqb-false (number_of u) number t x | suc m ↦ λ h x. rest e m (omega arith) x ]
 
   pub find_at : (us : List U.Unit) (i : ℕ) → (find_in us number ≡ At i) ↔ FoundAt us number i
   unfolding find_in

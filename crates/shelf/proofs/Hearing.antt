@@ -30,9 +30,9 @@ bit_other (suc k) (suc j) h =
     ap (λ n. n % 2) (ap₂ ◌/◌ (pow-suc 2 k) (pow-suc 2 j) ∙ mul-div-mul_right (2 ^ k) (2 ^ j) (omega arith))
     ∙ bit_other k j (λ e. h (ap suc e))
 
-bit_or : (v w j : ℕ) → bit (bit_or v w) j ≡ bit_or (bit v j) (bit w j)
+bit_of_or : (v w j : ℕ) → bit (bit_or v w) j ≡ bit_or (bit v j) (bit w j)
 unfolding bit
-bit_or v w j = ap (λ n. n % 2) (or_shr v w j) ∙ or_mod (v / 2 ^ j) (w / 2 ^ j) 1
+bit_of_or v w j = ap (λ n. n % 2) (or_shr v w j) ∙ or_mod (v / 2 ^ j) (w / 2 ^ j) 1
 
 or_one : (n : ℕ) → n < 2 → bit_or n 1 ≡ 1
 or_one zero h = refl
@@ -44,10 +44,10 @@ unfolding bit
 bit_lt w k = mod-lt (w / 2 ^ k) (omega arith)
 
 word_same : (w k : ℕ) → bit (bit_or w (2 ^ k)) k ≡ 1
-word_same w k = bit_or w (2 ^ k) k ∙ ap (bit_or (bit w k)) (bit_same k) ∙ or_one (bit w k) (bit_lt w k)
+word_same w k = bit_of_or w (2 ^ k) k ∙ ap (bit_or (bit w k)) (bit_same k) ∙ or_one (bit w k) (bit_lt w k)
 
 word_other : (w k j : ℕ) → (k ≡ j → ⊥) → bit (bit_or w (2 ^ k)) j ≡ bit w j
-word_other w k j h = bit_or w (2 ^ k) j ∙ ap (bit_or (bit w j)) (bit_other k j h) ∙ or_zero_r (bit w j)
+word_other w k j h = bit_of_or w (2 ^ k) j ∙ ap (bit_or (bit w j)) (bit_other k j h) ∙ or_zero_r (bit w j)
 
 module _ (sessions : List ℕ) (four : length sessions ≡ 32) (s t : ℕ) (hs : s < 256) (ht : t < 256) where
   -- the words of the two sessions, the same or not, and their bits, the same or not

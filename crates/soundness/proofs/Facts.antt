@@ -37,7 +37,7 @@ unfolding every
 every_iff f P e [] = (λ t i h. absurd (not-suc-le-zero h), λ g. refl)
 every_iff f P e (u ∷ us) =
     let b = and_iff (e u) (every_iff f P e us) in (
-      λ t i. elim i [ zero ↦ λ h. (b.0 t).0 | suc j ↦ λ h. (b.0 t).1 j (omega arith) ],
+      λ t i. elim i as (λ k. k < suc (length us) → P (get_or (u ∷ us) k blank)) [ zero ↦ λ h. (b.0 t).0 | suc j ↦ λ h. (b.0 t).1 j (omega arith) ],
       λ g. b.1 (g 0 (omega arith), λ i h. g (suc i) (omega arith)),
     )
 
@@ -48,7 +48,7 @@ among_iff [] n = (λ e. absurd (false≢true e), λ w. absurd (not-suc-le-zero w
 among_iff (u ∷ us) n =
     let b = or_iff (eq_iff (number_of u) n) (among_iff us n) in
     let back : (i : ℕ) → i < suc (length us) → number_of (get_or (u ∷ us) i blank) ≡ n → (number_of u ≡ n) ⊎ DeclaredIn us n =
-    λ i. elim i [ zero ↦ λ h e. inl e | suc j ↦ λ h e. inr (j, omega arith, e) ] in
+    λ i. elim i as (λ k. k < suc (length us) → number_of (get_or (u ∷ us) k blank) ≡ n → (number_of u ≡ n) ⊎ DeclaredIn us n) [ zero ↦ λ h e. inl e | suc j ↦ λ h e. inr (j, omega arith, e) ] in
     (λ t. ⊎_elim (λ e. (0, omega arith, e)) (λ w. let h = w.1 in (suc w.0, omega arith, w.2)) (b.0 t), λ w. b.1 (back w.0 w.1 w.2))
 
 Once : List U.Unit → Type 0
@@ -59,9 +59,9 @@ unfolding none_repeated Once
 once_iff [] = (λ t i j h k. absurd (not-suc-le-zero k), λ g. refl)
 once_iff (u ∷ us) =
     let b = and_iff (not_iff (among_iff us (number_of u))) (once_iff us) in (
-      λ t i j. elim j [
+      λ t i j. elim j as (λ y. i < y → y < suc (length us) → number_of (get_or (u ∷ us) i blank) ≡ number_of (get_or (u ∷ us) y blank) → ⊥) [
         | zero ↦ λ h. absurd (not-suc-le-zero h)
-        | suc m ↦ elim i [ zero ↦ λ h k e. (b.0 t).0 (m, omega arith, sym e) | suc l ↦ λ h k e. (b.0 t).1 l m (omega arith) (omega arith) e ]
+        | suc m ↦ elim i as (λ x. x < suc m → suc m < suc (length us) → number_of (get_or (u ∷ us) x blank) ≡ number_of (get_or us m blank) → ⊥) [ zero ↦ λ h k e. (b.0 t).0 (m, omega arith, sym e) | suc l ↦ λ h k e. (b.0 t).1 l m (omega arith) (omega arith) e ]
       ],
       λ g. b.1 (λ w. let h = w.1 in g 0 (suc w.0) (omega arith) (omega arith) (sym w.2), λ i j h k e. g (suc i) (suc j) (omega arith) (omega arith) e),
     )
@@ -101,7 +101,7 @@ asks_iff known n [] = (λ t k. inl refl, λ g. refl)
 asks_iff known n (a ∷ asks) =
     let b = and_iff (or_iff (eq_iff a 0) (Iff.rfl {A = known n ≡ true})) (asks_iff known (suc n) asks) in
     let there : (k : ℕ) → suc n + k ≡ n + suc k = λ k. omega arith in (
-      λ t k. elim k [
+      λ t k. elim k as (λ x. (get_or (a ∷ asks) x 0 ≡ 0) ⊎ (known (n + x) ≡ true)) [
         | zero ↦ rw add-zero (b.0 t).0
         | suc m ↦ subst (λ j. (get_or asks m 0 ≡ 0) ⊎ (known j ≡ true)) (there m) ((b.0 t).1 m)
       ],
@@ -112,7 +112,7 @@ pub quiet_iff : (us : List U.Unit) (asks : List ℕ) → (asks_known (among (num
 quiet_iff us asks =
     let b = asks_iff (among (numbers us)) 0 asks in
     let at : (g : (n : ℕ) → (DeclaredIn us n → ⊥) → get_or asks n 0 ≡ 0) (k : ℕ) (t : Bool) → among (numbers us) k ≡ t → (get_or asks k 0 ≡ 0) ⊎ (among (numbers us) k ≡ true) =
-    λ g k t. elim t [ true ↦ λ e. inr e | false ↦ λ e. inl (g k (λ w. false≢true (sym e ∙ (among_iff us k).1 w))) ] in (
+    λ g k t. elim t as (λ x. among (numbers us) k ≡ x → (get_or asks k 0 ≡ 0) ⊎ (among (numbers us) k ≡ true)) [ true ↦ λ e. inr e | false ↦ λ e. inl (g k (λ w. false≢true (sym e ∙ (among_iff us k).1 w))) ] in (
       λ t n h. ⊎_elim (λ e. e) (λ e. absurd (h ((among_iff us n).0 (rw zero-add at e)))) (b.0 t n),
       λ g. b.1 (λ k. rw zero-add (at g k (among (numbers us) k) refl)),
     )
@@ -168,7 +168,7 @@ sound_iff card shelf store rows =
                   ask = w.0.1 i h;
                 };
             granted = w.1.0.0;
-            last = λ p. elim p [ zero ↦ λ h. lasts.0.0 | suc zero ↦ λ h. lasts.0.1 | suc (suc zero) ↦ λ h. lasts.1 | suc (suc (suc n)) ↦ λ h. absurd (omega arith) ];
+            last = λ p. elim p as (λ x. x < 3 → (get_or last x 0 ≡ nobody) ⊎ DeclaredIn us (get_or last x 0)) [ zero ↦ λ h. lasts.0.0 | suc zero ↦ λ h. lasts.0.1 | suc (suc zero) ↦ λ h. lasts.1 | suc (suc (suc n)) ↦ λ h. absurd (omega arith) ];
             asks = w.1.1;
           },
       λ s.

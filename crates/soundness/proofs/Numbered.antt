@@ -47,7 +47,7 @@ held_iff held n (a ∷ asks) =
     let b = and_iff (Iff.rfl {A = ask_in a (get_or held n 0) ≡ true}) (held_iff held (suc n) asks) in
     let there : (k : ℕ) → suc n + k ≡ n + suc k = λ k. omega arith in
     let none : n + 0 ≡ n = omega arith in (
-      λ t k. elim k [
+      λ t k. elim k as (λ x. ask_in (get_or (a ∷ asks) x 0) (get_or held (n + x) 0) ≡ true) [
         | zero ↦ subst (λ j. ask_in a (get_or held j 0) ≡ true) (sym none) (b.0 t).0
         | suc m ↦ subst (λ j. ask_in (get_or asks m 0) (get_or held j 0) ≡ true) (there m) ((b.0 t).1 m)
       ],

@@ -56,7 +56,7 @@ module _ {A : Type 0} where
   pub length_queue : (at : ℕ → A) (cap h n : ℕ) → length (queue at cap h n) ≡ n
   unfolding queue
   length_queue at cap h zero = refl
-  length_queue at cap h (suc n) = ap suc (length_queue at cap _ n)
+  length_queue at cap h (suc n) = ap suc (length_queue at cap (next cap h) n)
 
   queue_last : (at : ℕ → A) (cap h n : ℕ) → h < cap → n < cap → queue at cap h (suc n) ≡ queue at cap h n ++ (at (back cap (h + n)) ∷ [])
   unfolding queue
