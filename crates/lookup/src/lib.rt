@@ -1,5 +1,7 @@
 // A translation record in its bytes, on either card, and a memory of records; then what becomes of an arriving header: the header check, and the
 // translation of four sound header bytes in any memory at all.
+#![tactic(auto)]
+
 ghost use Rattle.std.specs.Prelude.{◌≡◌, length};
 ghost use Rattle.lookup.specs.Record.{bytes_of, route_of, page_of, vpi_in, record_in, record_at, written, cleared};
 ghost use Rattle.lookup.specs.Lookup.{sound_header, goes_by, by_vci, by_vpi, translated};

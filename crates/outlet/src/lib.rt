@@ -1,5 +1,7 @@
 // A unit's outlet: its limits as a `unit` line gives them, its queues, their capacities; and the rules of hearing and taking at it: what befalls a
 // copy, which cell leaves next, whether it is marked, its header.
+#![tactic(auto)]
+
 ghost use Rattle.std.specs.Prelude.{◌≡◌, ◌-◌};
 ghost use Rattle.outlet.specs.Outlets.{empty as empty_of, fresh as fresh_of, one as one_of, four as four_of, capacity as capacity_of, queue as ring_of, Given};
 ghost use Rattle.outlet.specs.Hearing.{queue_of, limit as limit_in, held as held_in, at_limit, too_wide, fate_at, fate_in};

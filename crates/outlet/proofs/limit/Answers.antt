@@ -1,0 +1,20 @@
+use mathlib.Core.Path.{sym, ◌∙◌}
+use borrow.Author.Tests.{ne_eqb}
+use Rattle.outlet.specs.declared.Mode.TheVariants.{One, Four}
+use Rattle.outlet.proofs.Fates.{limit_in}
+use Rattle.outlet.proofs.limit.Goals as goal
+
+pub returns-in-0 : goal.returns-in-0
+returns-in-0 c =
+    let a = c.args in
+    sym (limit_in a.limits a.queue One c.in-One.is ∙ rw c.in-0.is)
+
+pub returns-in-1 : goal.returns-in-1
+returns-in-1 c =
+    let a = c.args in
+    sym (limit_in a.limits a.queue Four c.in-Four.is ∙ rw c.in-1.is)
+
+pub returns-in-2 : goal.returns-in-2
+returns-in-2 c =
+    let a = c.args in
+    sym (limit_in a.limits a.queue Four c.in-Four.is ∙ rw c.in-2.is)
