@@ -12,7 +12,7 @@ returns-in-0 c =
 pub returns-in_default : goal.returns-in_default
 returns-in_default c =
     let a = c.args in
-    sym (start_in a.limits a.queue One c.in-One.is ∙ one_rest a.limits.cbrlength a.queue c.in_default.rest.1)
+    sym (start_in a.limits a.queue One c.in-One.is ∙ one_rest a.limits.cbrlength a.queue (omega arith))
 
 pub returns-in-0-queue : goal.returns-in-0-queue
 returns-in-0-queue c =
@@ -37,4 +37,4 @@ returns-in-3 c =
 pub returns-in_default-queue : goal.returns-in_default-queue
 returns-in_default-queue c =
     let a = c.args in
-    sym (start_in a.limits a.queue Four c.in-Four.is ∙ four_rest a.limits.cbrlength a.queue (omega (arith, c.in_default-queue.rest.0.0.0.1, c.in_default-queue.rest.0.0.1, c.in_default-queue.rest.0.1, c.in_default-queue.rest.1)))
+    sym (start_in a.limits a.queue Four c.in-Four.is ∙ four_rest a.limits.cbrlength a.queue (omega arith))
