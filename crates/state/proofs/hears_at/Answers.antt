@@ -1,4 +1,3 @@
--- `state::hears_at` meets its contract. Assumes nothing.
 use mathlib.Core.Path.{sym, ap, ◌∙◌}
 use Prim.Native.Nat.{◌+◌, ◌*◌, ◌/◌, ◌%◌, ◌^◌, ◌<◌}
 use lib.Dec.{eqb}
@@ -6,24 +5,11 @@ use lib.ListN.{drop}
 use lib.Seq.{get_or-take, get_or-drop}
 use Rattle.shelf.specs.Sessions.{hears}
 use borrow.Author.Rules.{rules}
-use Rattle.state.proofs.hears_at.Statement.{statement}
-use Rattle.state.proofs.hears_at.Tie as tie
+use Rattle.state.proofs.hears_at.Goals as goal
 
-returns : tie.Need-returns
+pub returns : goal.returns
 unfolding hears
 returns c =
-    let a = c.before.args in
+    let a = c.args in
     let j : a.session / 8 < 32 = search rules in
     ap (λ b. eqb (b / 2 ^ (a.session % 8) % 2) 1) (sym (get_or-take 32 (drop (1024 + 32 * a.i) a.s.now) (a.session / 8) 0 j ∙ get_or-drop (1024 + 32 * a.i) a.s.now (a.session / 8) 0))
-
-pub hears_at_spec : {M : Type 1} → statement M
-hears_at_spec =
-    tie.close
-    (tie.spec
-    (λ c. search rules)
-    (λ c. search rules)
-    (λ c. search rules)
-    (λ c. search rules)
-    (λ c. search rules)
-    (λ c. search rules)
-    returns)
