@@ -2,16 +2,15 @@
 use Rattle.std.proofs.Common.{rules}
 use Rattle.answer.specs.Counting.{raised}
 use Rattle.answer.proofs.Settling.{Fitting, stays}
-use Rattle.answer.proofs.arrived_up.Statement.{statement}
-use Rattle.answer.proofs.arrived_up.Tie as tie
+use Rattle.answer.proofs.arrived_up.Goals as goal
 
-returns : tie.Need-returns
+pub returns : goal.returns
 unfolding raised
 returns c =
-    let a = c.before.args.c in
+    let a = c.args.c in
     let fits : Fitting a = search rules in
     λ i. record {
-      arrived = c.wrapping-add-u32.ensures i;
+      arrived = c.wrapping_add_u32.ensures.value i;
       hec = stays a.hec fits.hec i;
       ignored = stays a.ignored fits.ignored i;
       misrouted = stays a.misrouted fits.misrouted i;
@@ -25,6 +24,3 @@ returns c =
       wide = stays a.wide fits.wide i;
       taken = stays a.taken fits.taken i;
     }
-
-pub arrived_up_spec : {M : Type 1} → statement M
-arrived_up_spec = tie.close (tie.spec (λ c κs. search rules) returns)

@@ -1,14 +1,13 @@
--- `answer::queued_up` meets its contract. Assumes nothing.
+-- `answer::taken_up` meets its contract. Assumes nothing.
 use Rattle.std.proofs.Common.{rules}
 use Rattle.answer.specs.Counting.{raised}
 use Rattle.answer.proofs.Settling.{Fitting, stays}
-use Rattle.answer.proofs.queued_up.Statement.{statement}
-use Rattle.answer.proofs.queued_up.Tie as tie
+use Rattle.answer.proofs.taken_up.Goals as goal
 
-returns : tie.Need-returns
+pub returns : goal.returns
 unfolding raised
 returns c =
-    let a = c.before.args.c in
+    let a = c.args.c in
     let fits : Fitting a = search rules in
     λ i. record {
       arrived = stays a.arrived fits.arrived i;
@@ -19,12 +18,9 @@ returns c =
       sent = stays a.sent fits.sent i;
       unheard = stays a.unheard fits.unheard i;
       damaged = stays a.damaged fits.damaged i;
-      queued = c.wrapping-add-u32.ensures i;
+      queued = stays a.queued fits.queued i;
       full = stays a.full fits.full i;
       clp = stays a.clp fits.clp i;
       wide = stays a.wide fits.wide i;
-      taken = stays a.taken fits.taken i;
+      taken = c.wrapping_add_u32.ensures.value i;
     }
-
-pub queued_up_spec : {M : Type 1} → statement M
-queued_up_spec = tie.close (tie.spec (λ c κs. search rules) returns)
