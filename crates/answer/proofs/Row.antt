@@ -1,7 +1,7 @@
 -- What a walk needs of `Counters`, in one place: its machine value, that it has the struct's MIR type, and that what it owns is had for nothing.
 use Rattle.std.proofs.Common.{◌≡◌, ℕ, ◌*◌, ◌^◌, ◌<◌, Bool, true, false, not, T as Holds, eqb, List, [], ◌∷◌, refl, subst, arith, eqb→eq}
 use seplogic.Ra.Ura.{Ura}
-use mir.Syntax.{ty_array, Body, skip, seq, assign, block, loop, cond, switch, exit, return, call}
+use mir.Syntax.{ty_array, Body, skip, seq, assign, block, loop, cond, switch, exit, return, call, unreachable, call_v, lend_static}
 use mir.Val.{Val, WT, has_ty}
 use types.Logic.{Logic}
 use denote.Laws.{Is, Makes, Tells}
@@ -97,3 +97,6 @@ after (switch c ms) = skip
 after (exit n) = skip
 after return = skip
 after (call f xs d) = skip
+after unreachable = skip
+after (call_v f s xs d) = skip
+after (lend_static p t c) = skip

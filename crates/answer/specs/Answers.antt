@@ -1,5 +1,5 @@
 -- What an event answers, and which counters of which units rise by it. Assumes nothing.
-use Rattle.std.specs.Prelude.{ℕ, ◌+◌, Bool, true, false, List, [], ◌∷◌, set, replicate, slice_set}
+use Rattle.std.specs.Prelude.{ℕ, ◌+◌, Bool, true, false, List, [], ◌∷◌, replicate, slice_set}
 use Rattle.shelf.specs.Shelf.{Shelf}
 use Rattle.answer.specs.declared.Answer as A
 use Rattle.answer.specs.declared.Answer.TheVariants.{Loaded, Unloaded, Refused, Arrived, Framed, Heard, Taken, Empty, Handed}

@@ -1,5 +1,5 @@
 -- The thirteen counters of a unit, and what an event does to the rows of them. Assumes nothing.
-use Rattle.std.specs.Prelude.{ℕ, zero as none, suc, ◌+◌, ◌/◌, ◌%◌, ◌^◌, false, cond, List, [], ◌∷◌, set, ◌==◌, nat_le, slice_index, slice_index_or, slice_set}
+use Rattle.std.specs.Prelude.{ℕ, zero as none, suc, ◌+◌, ◌/◌, ◌%◌, ◌^◌, false, cond, List, [], ◌∷◌, ◌==◌, nat_le, slice_index, slice_index_or, slice_set}
 use Rattle.answer.specs.Answers.{#arrived, #hec, #ignored, #misrouted, #inletfull, #sent, #unheard, #damaged, #queued, #full, #clp, #wide, #taken}
 use Rattle.answer.specs.declared.Rises.{Rises}
 use Rattle.answer.specs.declared.Single.{Single}

@@ -1,4 +1,6 @@
 // What an event answers, and which counters of which units rise by it; the counters, and the one function that writes the lent rows.
+#![tactic(auto)]
+
 ghost use Rattle.std.specs.Prelude.{◌≡◌, ◌+◌, ◌<◌, ◌≤◌, length};
 ghost use Rattle.answer.specs.Answers.{arrival_rises, hearing_rises, uncounted_with, counted_with, outcome_by, #arrived, #queued, #taken};
 ghost use Rattle.answer.specs.Counting.{zeros, tick as ticked, raised as raised_by, rise_at, row_by, settled, raised_from, place_of, many_of};
@@ -106,6 +108,7 @@ pub struct Single {
 }
 
 // The counters that rise by an arrival with this fate.
+#[tactic(auto, unfolding(crate::specs::Answers::arrival_rises))]
 pub fn arrival_rises(fate: Arrival) -> u16
     ensures { result ≡ arrival_rises fate }
 {
@@ -119,6 +122,7 @@ pub fn arrival_rises(fate: Arrival) -> u16
 }
 
 // The counters that rise at a unit that hears a frame with this fate.
+#[tactic(auto, unfolding(crate::specs::Answers::hearing_rises))]
 pub fn hearing_rises(fate: Hearing) -> u16
     ensures { result ≡ hearing_rises fate }
 {
@@ -266,10 +270,16 @@ pub fn risen(c: Counters, rise: u16) -> Counters
     c.raised(rise)
 }
 
+// By the empty set a row stays as it is. It does nothing: what writes rows calls it where a row is left alone, for what it says.
+fn unraised(_c: Counters)
+    ensures { raised_by _c 0 ≡ _c }
+{}
+
 // A row starts anew: above every set of counters.
 const ANEW: u16 = 8192;
 
 // What becomes of the row at place i, in one number: the counters that rise in it, or ANEW.
+#[tactic(auto, unfolding(crate::specs::Counting::rise_at))]
 pub fn rise_at(rises: Rises, i: usize) -> u16
     requires { i < 32 }
     ensures { result ≡ rise_at rises i }
@@ -281,6 +291,7 @@ pub fn rise_at(rises: Rises, i: usize) -> u16
 }
 
 // The row c after that.
+#[tactic(auto, unfolding(crate::specs::Counting::row_by))]
 pub fn row_by(c: Counters, rise: u16) -> Counters
     ensures { result ≡ row_by c rise }
 {
@@ -328,6 +339,8 @@ pub fn settle(rows: &mut [Counters], rises: Rises)
         let rise = rise_at(rises, i);
         if rise != 0 {
             rows[i] = row_by(c, rise);
+        } else {
+            unraised(c);
         }
         i += 1;
     }
@@ -349,6 +362,8 @@ pub fn raise(rows: &mut [Counters], at: usize, sets: &[u16], n: usize)
         } else if rise != 0 {
             let c = rows[i];
             rows[i] = risen(c, rise);
+        } else {
+            unraised(rows[i]);
         }
         k += 1;
     }
@@ -361,6 +376,7 @@ pub fn set_of(done: Single) -> u16
     done.counters
 }
 
+#[tactic(auto, unfolding(crate::specs::Counting::place_of))]
 pub fn place_of(done: Single) -> usize
     ensures { result ≡ place_of done }
 {
@@ -370,6 +386,7 @@ pub fn place_of(done: Single) -> usize
     0
 }
 
+#[tactic(auto, unfolding(crate::specs::Counting::many_of))]
 pub fn many_of(done: Single) -> usize
     ensures { result ≡ many_of done }
 {

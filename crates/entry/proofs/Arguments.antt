@@ -61,8 +61,12 @@ pub record Lent (R : RattleType) : Type 0 where
 abbrev pub taken : {R : RattleType} (x : MutBor (List R.Denot)) → Room R (length x.now) → Lent R
 taken x room = record { b = x.ref_ptr.0; o = x.ref_ptr.1; γ = x.ghost_name; at = x.now; room = room }
 
-abbrev pub ref : {R : RattleType} → Lent R → Bor (List R.Denot)
+abbrev pub ref : {R : RattleType} → Lent R → MutBor (List R.Denot)
 ref x = record { ref_ptr = (x.b, x.o); ghost_name = x.γ; now = x.at }
+
+-- as a `&`, which has no name
+abbrev pub shown : {R : RattleType} → Lent R → Bor (List R.Denot)
+shown x = record { ref_ptr = (x.b, x.o); now = x.at }
 
 abbrev pub val : {R : RattleType} → Lent R → Val
 val x = slice_val (x.b, x.o) (length x.at)
@@ -80,8 +84,11 @@ pub record Whole : Type 0 where
 abbrev pub all_of : MutBor (List ℕ) → Whole
 all_of x = record { b = x.ref_ptr.0; o = x.ref_ptr.1; γ = x.ghost_name; at = x.now }
 
-abbrev pub whole_ref : Whole → Bor (List ℕ)
+abbrev pub whole_ref : Whole → MutBor (List ℕ)
 whole_ref x = record { ref_ptr = (x.b, x.o); ghost_name = x.γ; now = x.at }
+
+abbrev pub whole_shown : Whole → Bor (List ℕ)
+whole_shown x = record { ref_ptr = (x.b, x.o); now = x.at }
 
 abbrev pub finally_state : GName → List ℕ → Fml
 finally_state γ ys = fres γ (State.coded.code ys)
@@ -159,13 +166,13 @@ type j (the_each κ q x) = MutRef (named j) κ Each
 abbrev arg : (j : ℕ) (x : Arg) → (type j x).Denot
 arg j (the_card x) = x.x
 arg j (the_state κ q x) = whole_ref x
-arg j (state_read κ q x) = whole_ref x
+arg j (state_read κ q x) = whole_shown x
 arg j (the_unit x) = x.x
 arg j (the_number x) = x.x
-arg j (is_read κ q x) = ref x
+arg j (is_read κ q x) = shown x
 arg j (is_written κ q x) = ref x
 arg j (the_rows κ q x) = ref x
-arg j (rows_read κ q x) = ref x
+arg j (rows_read κ q x) = shown x
 arg j (the_array x) = x.x
 arg j (the_each κ q x) = whole_ref x
 
