@@ -1,4 +1,6 @@
 // Requests and grants.
+#![tactic(auto)]
+
 ghost use Rattle.std.specs.Prelude.{◌≡◌, cond};
 ghost use Rattle.arbiter.specs.Arbitration.{fresh as fresh_of, due as is_due, asking as asks_for, renewed, units, cyclic, next as next_to, some_asks, highest as highest_of, first, granted as granted_of, granted_by};
 

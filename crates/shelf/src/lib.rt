@@ -1,4 +1,6 @@
 // A unit and its settings, how many units are declared, which sessions a unit hears.
+#![tactic(auto)]
+
 ghost use Rattle.std.specs.Prelude.{◌≡◌, min};
 ghost use Rattle.shelf.specs.Sessions.{hears as hears_it};
 

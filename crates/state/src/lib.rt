@@ -1,4 +1,6 @@
 // The state of a shelf as 2,048 lent bytes (docs/STATE.md): each part of a unit read by value, a ring put back, a unit found.
+#![tactic(auto)]
+
 ghost use Rattle.std.specs.Prelude.{◌≡◌, ◌+◌, ◌*◌, ◌<◌, length, get_or};
 ghost use Rattle.octets.specs.Octets.{part};
 ghost use Rattle.shelf.specs.Shelves.{declared, find_in, waiting};

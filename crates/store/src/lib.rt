@@ -1,4 +1,6 @@
 // Where queued cells stand in the lent store: a unit's part, its slots, the rings of slots; and the steps of a ring.
+#![tactic(auto)]
+
 ghost use Rattle.std.specs.Prelude.{◌≡◌, ◌+◌, ◌-◌, ◌<◌, ◌≤◌, min, length};
 ghost use Rattle.octets.specs.Octets.{splice, part};
 ghost use Rattle.store.specs.Places.{part_of, slot_at, start as start_of, outlet_slot, inlet_slot, control_out_slot};

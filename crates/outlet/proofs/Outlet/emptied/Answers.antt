@@ -1,4 +1,3 @@
-
 use Rattle.outlet.proofs.Outlet.emptied.Goals as goal
 
 pub returns : goal.returns

@@ -1,0 +1,11 @@
+use borrow.Author.Tests.{eq-eqb, ne_eqb}
+use Rattle.state.specs.Bytes.{link_of}
+use Rattle.state.proofs.link_of.Goals as goal
+
+pub returns-then-b-eq0 : goal.returns-then-b-eq0
+unfolding link_of
+returns-then-b-eq0 c = simp (eq-eqb _ _ c.if-b-eq0.true)
+
+pub returns-else-b-eq0 : goal.returns-else-b-eq0
+unfolding link_of
+returns-else-b-eq0 c = simp (ne_eqb _ _ c.if-b-eq0.false)

@@ -1,0 +1,6 @@
+use Rattle.state.specs.Bytes.{unit_by}
+use Rattle.state.proofs.unit_at.Goals as goal
+
+pub returns : goal.returns
+unfolding unit_by
+returns c = cc
