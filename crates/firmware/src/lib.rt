@@ -1,4 +1,6 @@
 // What a card's firmware calls, by the C interface: numbers, and pointers with lengths. Nothing large goes by value.
+#![tactic(auto)]
+
 ghost use Rattle.std.specs.Prelude.{◌≡◌, length};
 ghost use Rattle.soundness.specs.Admission.{counted_in};
 ghost use Rattle.entry.specs.Outcomes.{arrives, frames, hears, takes, hands, collects, loads, LeavesStore, LeavesAll, LeavesBytes, LeavesCell, LeavesMemory};
@@ -8,6 +10,7 @@ use answer::{Answer, Arrival, Counters, Hearing};
 use card::Card;
 
 // The card with this number.
+#[tactic(auto, unfolding(crate::specs::Codes::card_of))]
 fn card_of(number: u8) -> Card
     ensures { result ≡ card_of number }
 {
@@ -19,6 +22,7 @@ fn card_of(number: u8) -> Card
 }
 
 // The parts of an answer as numbers.
+#[tactic(auto, unfolding(crate::specs::Codes::arrival_code))]
 fn arrival_code(fate: Arrival) -> u8
     ensures { result ≡ arrival_code fate }
 {
@@ -31,6 +35,7 @@ fn arrival_code(fate: Arrival) -> u8
     }
 }
 
+#[tactic(auto, unfolding(crate::specs::Codes::hearing_code))]
 fn hearing_code(fate: Hearing) -> u8
     ensures { result ≡ hearing_code fate }
 {
@@ -56,6 +61,7 @@ fn pack(kind: u8, low: u8, sender: u8, granted: u8, high: u32) -> u64
 }
 
 // An answer as one number.
+#[tactic(auto, unfolding(crate::specs::Codes::code))]
 fn code(answer: Answer) -> u64
     ensures { result ≡ code_of answer }
 {
