@@ -1,4 +1,6 @@
 // One unit for a person, its fields by name: `show unit` (docs/CONSOLE.md). Each function writes from a place on and says where it ends.
+#![tactic(auto)]
+
 ghost use Rattle.std.specs.Prelude.{◌≡◌, ◌+◌, ◌*◌, ◌≤◌, ◌<◌, ◌++◌, length};
 ghost use Rattle.text.specs.Writing.{Wrote};
 ghost use Rattle.text.specs.Decimals.{number_field};
