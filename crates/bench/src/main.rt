@@ -1,9 +1,14 @@
 // The bench: document 01's program. It reads table.txt, then events on standard input, on the wide card.
+#![tactic(auto)]
+
 use answer::{Answer, Counters};
 use card::Card;
 use entry::Counted;
 use event::Event;
 use replies::Outcome;
+use std::fs;
+use std::io::Read;
+use std::rt::Files;
 
 // The counter rows; an array by itself cannot take a call's result.
 #[derive(Clone, Copy)]
@@ -32,11 +37,11 @@ fn kept(after: owned::After) -> Tally {
 }
 
 // Prints the line of an event.
-fn say(event: Event, outcome: Outcome, cell: &[u8]) {
+fn say(rt: &impl Print, event: Event, outcome: Outcome, cell: &[u8]) {
     let mut out = [0u8; 512];
     let n = replies::event_line(event, outcome, cell, &mut out);
     if n <= 512 {
-        io::write_all(1, &out[..n]);
+        let _ = rt.write_all(&out[..n]);
     }
 }
 
@@ -54,6 +59,7 @@ fn cell_of(header: u32, check: u8, byte: u8) -> [u8; 53] {
 }
 
 fn arrive(
+    rt: &impl Print,
     tally: Tally,
     state: &mut [u8; 2048],
     memory: &[u8],
@@ -64,39 +70,53 @@ fn arrive(
 ) -> Tally {
     let rows = tally.rows;
     let after = owned::arrive(Card::Wide, state, memory, store, rows, 40, unit, cell);
-    say(event, said(after), cell);
+    say(rt, event, said(after), cell);
     kept(after)
 }
 
-fn frame(tally: Tally, state: &mut [u8; 2048], store: &mut [u8], event: Event) -> Tally {
+fn frame(
+    rt: &impl Print,
+    tally: Tally,
+    state: &mut [u8; 2048],
+    store: &mut [u8],
+    event: Event,
+) -> Tally {
     let rows = tally.rows;
     let mut buffer = [0u8; 57];
     let after = owned::frame(Card::Wide, state, store, rows, 40, &mut buffer);
-    say(event, said(after), b"");
+    say(rt, event, said(after), b"");
     kept(after)
 }
 
-fn take(tally: Tally, state: &mut [u8; 2048], store: &[u8], event: Event, unit: u8) -> Tally {
+fn take(
+    rt: &impl Print,
+    tally: Tally,
+    state: &mut [u8; 2048],
+    store: &[u8],
+    event: Event,
+    unit: u8,
+) -> Tally {
     let rows = tally.rows;
     let mut buffer = [0u8; 53];
     let after = owned::take(Card::Wide, state, store, rows, 40, unit, &mut buffer);
-    say(event, said(after), &buffer);
+    say(rt, event, said(after), &buffer);
     kept(after)
 }
 
-fn count(tally: Tally, state: &[u8; 2048], store: &[u8], event: Event, unit: u8) {
+fn count(rt: &impl Print, tally: Tally, state: &[u8; 2048], store: &[u8], event: Event, unit: u8) {
     let rows = tally.rows;
     match owned::count(Card::Wide, state, store, rows, 40, unit) {
-        Counted::Counters(c) => say(event, Outcome::Counted(c), b""),
+        Counted::Counters(c) => say(rt, event, Outcome::Counted(c), b""),
         Counted::Refused(number) => {
             let number = (number % 256) as u8;
-            say(event, Outcome::Answered(Answer::Refused(number)), b"");
+            say(rt, event, Outcome::Answered(Answer::Refused(number)), b"");
         }
     }
 }
 
 // One event.
 fn happen(
+    rt: &impl Print,
     tally: Tally,
     state: &mut [u8; 2048],
     memory: &[u8],
@@ -110,6 +130,7 @@ fn happen(
             check,
             byte,
         } => arrive(
+            rt,
             tally,
             state,
             memory,
@@ -118,14 +139,14 @@ fn happen(
             unit,
             &cell_of(header, check, byte),
         ),
-        Event::Frame => frame(tally, state, store, event),
-        Event::Take(unit) => take(tally, state, store, event, unit),
+        Event::Frame => frame(rt, tally, state, store, event),
+        Event::Take(unit) => take(rt, tally, state, store, event, unit),
         Event::Count(unit) => {
-            count(tally, state, store, event, unit);
+            count(rt, tally, state, store, event, unit);
             tally
         }
         Event::Bad => {
-            say(event, Outcome::Nothing, b"");
+            say(rt, event, Outcome::Nothing, b"");
             tally
         }
     }
@@ -163,6 +184,7 @@ fn event_in(line: &[u8], held: Held) -> Event {
 
 // All lines that a part of the input ends, and the beginning of the next.
 fn feed(
+    rt: &impl Print,
     tally: Tally,
     state: &mut [u8; 2048],
     memory: &[u8],
@@ -179,7 +201,7 @@ fn feed(
         so_far = keep(line, so_far, &part[from..end]);
         if end < part.len() {
             from = end + 1;
-            counted = happen(counted, state, memory, store, event_in(line, so_far));
+            counted = happen(rt, counted, state, memory, store, event_in(line, so_far));
             so_far = Held {
                 length: 0,
                 long: false,
@@ -197,6 +219,8 @@ fn feed(
 
 // Reads once, and does what came.
 fn feed_some(
+    rt: &(impl Print + Eprint + Alloc),
+    from: &mut impl Read,
     fed: Fed,
     state: &mut [u8; 2048],
     memory: &[u8],
@@ -205,24 +229,22 @@ fn feed_some(
 ) -> Fed {
     let tally = fed.tally;
     let held = fed.held;
-    let mut part = io::large_buffer();
-    let got = libc::read(0, &mut part);
-    if got < 0 {
-        os::fail(b"the events");
-    }
-    if got <= 0 {
+    let mut part = [0u8; 65536];
+    let n = streams::get(rt, from, "the events", &mut part).unwrap_or(0);
+    if n == 0 {
         return Fed {
             tally,
             held,
             more: false,
         };
     }
-    let n = io::count(got, &part);
-    feed(tally, state, memory, store, line, held, &part[..n])
+    feed(rt, tally, state, memory, store, line, held, &part[..n])
 }
 
 // Reads to the end of the input. A proved loop has to end, so it counts its turns down from a number that no run uses up.
 fn feed_all(
+    rt: &(impl Print + Eprint + Alloc),
+    from: &mut impl Read,
     tally: Tally,
     state: &mut [u8; 2048],
     memory: &[u8],
@@ -239,7 +261,7 @@ fn feed_all(
     };
     let mut turns = u64::MAX;
     while 0 < turns {
-        fed = feed_some(fed, state, memory, store, line);
+        fed = feed_some(rt, from, fed, state, memory, store, line);
         if !fed.more {
             return fed;
         }
@@ -249,31 +271,40 @@ fn feed_all(
 }
 
 // All events; a last line without its newline is read too.
-fn run(tally: Tally, state: &mut [u8; 2048], memory: &[u8], store: &mut [u8]) {
-    let mut line = io::large_buffer();
-    let fed = feed_all(tally, state, memory, store, &mut line);
+fn run(
+    rt: &(impl Print + Eprint + Alloc),
+    from: &mut impl Read,
+    tally: Tally,
+    state: &mut [u8; 2048],
+    memory: &[u8],
+    store: &mut [u8],
+) {
+    let mut line = [0u8; 65536];
+    let fed = feed_all(rt, from, tally, state, memory, store, &mut line);
     let held = fed.held;
     let counted = fed.tally;
     let n = held.length;
     if held.long {
-        happen(counted, state, memory, store, Event::Bad);
+        happen(rt, counted, state, memory, store, Event::Bad);
         return;
     }
     if 0 < n {
-        happen(counted, state, memory, store, event_in(&line, held));
+        happen(rt, counted, state, memory, store, event_in(&line, held));
     }
 }
 
 // Reads a file until it ends or the buffer is full, and says how many bytes came; none if it cannot be read.
-fn read_all(fd: i32, path: &[u8], text: &mut [u8]) -> usize {
+fn read_all(
+    rt: &(impl Eprint + Alloc),
+    file: &mut impl Read,
+    path: &str,
+    text: &mut [u8],
+) -> usize {
     let mut n: usize = 0;
     while n < text.len() {
-        let got = libc::read(fd, &mut text[n..]);
-        if got < 0 {
-            os::fail(path);
+        let Some(more) = streams::get(rt, file, path, &mut text[n..]) else {
             return 0;
-        }
-        let more = io::count(got, &text[n..]);
+        };
         if more == 0 {
             return n;
         }
@@ -283,29 +314,28 @@ fn read_all(fd: i32, path: &[u8], text: &mut [u8]) -> usize {
 }
 
 // Reads the table; a missing or unreadable file counts as the empty text.
-fn read_table(text: &mut [u8]) -> usize {
-    let path = b"table.txt";
-    let fd = os::open_read(path);
-    if fd < 0 {
-        os::fail(path);
-        return 0;
+fn read_table(rt: &(impl Eprint + Alloc + Files), text: &mut [u8]) -> usize {
+    let path = "table.txt";
+    match fs::open(rt, path) {
+        Ok(mut file) => read_all(rt, &mut file, path, text),
+        Err(why) => {
+            streams::fail(rt, path, why);
+            0
+        }
     }
-    let n = read_all(fd, path, text);
-    libc::close(fd);
-    n
 }
 
 // Prints the line of the table.
-fn say_table(answer: Answer) {
+fn say_table(rt: &impl Print, answer: Answer) {
     let mut out = [0u8; 512];
     let n = replies::table_line(answer, &mut out);
     if n <= 512 {
-        io::write_all(1, &out[..n]);
+        let _ = rt.write_all(&out[..n]);
     }
 }
 
 // Loads the table and, if it is good, goes through the events.
-fn bench(text: &[u8]) {
+fn bench(rt: &(impl Print + Eprint + Alloc), from: &mut impl Read, text: &[u8]) {
     let mut state = [0u8; 2048];
     let mut memory = [0u8; 16384];
     let mut store = [0u8; 32768];
@@ -319,19 +349,19 @@ fn bench(text: &[u8]) {
         40,
     );
     let answer = after.answer;
-    say_table(answer);
+    say_table(rt, answer);
     if let Answer::Loaded(_) = answer {
-        run(kept(after), &mut state, &memory, &mut store);
+        run(rt, from, kept(after), &mut state, &memory, &mut store);
     }
 }
 
-fn main() {
+fn main(rt: HostRuntime) {
     // one byte more than a table may have tells a longer one
     let mut text = [0u8; 8193];
-    let n = read_table(&mut text);
+    let n = read_table(&rt, &mut text);
     if 8192 < n {
-        say_table(Answer::Unloaded { number: 1, line: 0 });
+        say_table(&rt, Answer::Unloaded { number: 1, line: 0 });
         return;
     }
-    bench(&text[..n]);
+    bench(&rt, &mut rt.stdin(), &text[..n]);
 }

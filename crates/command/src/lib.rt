@@ -1,4 +1,6 @@
 // A line of the console, read: what a field says; the lines that choose a card, lend, poke and show; those that call for an event; and the command.
+#![tactic(auto)]
+
 ghost use Rattle.std.specs.Prelude.{◌≡◌, get_or};
 ghost use Rattle.text.specs.Text.{fields_of};
 ghost use Rattle.command.specs.Fields.{place_in, number_in, unit_in, byte_in, span_in};

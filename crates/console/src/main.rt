@@ -1,13 +1,18 @@
 // The console: one command a line on standard input, one answer a line on standard output (docs/CONSOLE.md).
 // The state, the memory and the store are lent to every command; its bytes in hex are read before it is done, and its answer is written after that.
-ghost use Rattle.std.specs.Prelude.{◌≡◌, ◌+◌, ◌≤◌, ◌<◌, length};
-ghost use Rattle.io.specs.Counts.{IsPrefixLen};
+#![tactic(auto)]
+
+ghost use Rattle.std.specs.Prelude.{◌≡◌, ◌+◌, ◌≤◌, ◌<◌, length, take};
 
 use answer::{Answer, Counters};
 use card::Card;
 use command::{Bank, Command, Reading};
 use entry::Counted;
 use owned::After;
+use std::env::Env;
+use std::fs::OpenOptions;
+use std::io::{Read, Write};
+use std::rt::Files;
 use text::Slip;
 
 // The card, the rows, and how much of the rows, the memory and the store is lent.
@@ -45,7 +50,7 @@ fn least(a: usize, b: usize) -> usize
 
 // At most n, and no more than b has: what a part of b asks.
 fn within(n: usize, b: &[u8]) -> usize
-    ensures { IsPrefixLen result b.now × (result ≤ n) }
+    ensures { ((result ≤ length b.now) × (result ≡ length (take result b.now))) × (result ≤ n) }
 {
     least(n, b.len())
 }
@@ -91,25 +96,24 @@ fn unhexed(line: &[u8], text: &mut [u8; 75000]) -> usize {
 }
 
 // The answers so far are written out, or it is told, once, that they are lost.
-fn written(mut w: World, out: &[u8; 200000]) -> World
+fn written(rt: &(impl Print + Eprint + Alloc), mut w: World, out: &[u8; 200000]) -> World
     ensures { result.at ≡ 0 }
 {
     let answers = part_of(out, 0, w.at);
     w.at = 0;
-    if w.lost || io::write_all(1, answers) {
+    if w.lost || streams::put(rt, answers) {
         return w;
     }
-    os::fail(b"standard output");
     w.lost = true;
     w
 }
 
 // An answer has room to start: what there is is written out if the room is short.
-fn cleared(w: World, out: &[u8; 200000]) -> World
+fn cleared(rt: &(impl Print + Eprint + Alloc), w: World, out: &[u8; 200000]) -> World
     ensures { result.at ≤ 180000 }
 {
     if FULL < w.at {
-        return written(w, out);
+        return written(rt, w, out);
     }
     w
 }
@@ -576,68 +580,91 @@ fn refilled(mut w: World, input: &mut [u8], kept: usize, end: usize) -> World {
 }
 
 // Reads into what is free behind the kept bytes.
-fn more(mut w: World, input: &mut [u8], kept: usize) -> World {
+fn more(
+    rt: &(impl Eprint + Alloc),
+    source: &mut impl Read,
+    mut w: World,
+    input: &mut [u8],
+    kept: usize,
+) -> World {
     let n = within(kept, input);
-    let got = libc::read(0, &mut input[n..]);
-    if got < 0 {
-        os::fail(b"standard input");
+    let Some(got) = streams::get(rt, source, "standard input", &mut input[n..]) else {
         w.lost = true;
         return w;
-    }
-    let end = n + io::count(got, &input[n..]);
-    refilled(w, input, kept, end)
+    };
+    refilled(w, input, kept, n + got)
 }
 
 // The world with its next line; where no whole one is left, the answers are written and more is read.
-fn lined(mut w: World, input: &mut [u8; 400000], out: &[u8; 200000]) -> World {
+fn lined(
+    rt: &(impl Print + Eprint + Alloc),
+    source: &mut impl Read,
+    mut w: World,
+    input: &mut [u8; 400000],
+    out: &[u8; 200000],
+) -> World {
     w.to = line_end(input, w.from, w.end);
     if w.to < w.end {
         return w;
     }
-    w = written(w, out);
+    w = written(rt, w, out);
     if w.lost {
         return w;
     }
     let n = kept(input, w.from, w.end);
-    more(w, input, n)
+    more(rt, source, w, input, n)
 }
 
 // Words for a person, on standard error; the answers so far are written first, so that both are read in order.
-fn tell_person(w: World, out: &[u8; 200000], words: &[u8]) -> World {
-    let after = written(w, out);
-    io::write_all(2, words);
+fn tell_person(
+    rt: &(impl Print + Eprint + Alloc),
+    w: World,
+    out: &[u8; 200000],
+    words: &str,
+) -> World {
+    let after = written(rt, w, out);
+    let _ = rt.eprint(words);
     after
 }
 
 // What a person may have got wrong in a line that is bad.
-fn hint(w: World, out: &[u8; 200000], line: &[u8]) -> World {
+fn hint(rt: &(impl Print + Eprint + Alloc), w: World, out: &[u8; 200000], line: &[u8]) -> World {
     match text::slip_in(line) {
         Slip::Blanks => tell_person(
+            rt,
             w,
             out,
-            b"hint: a blank stands in this line; fields are parted by one tab\n",
+            "hint: a blank stands in this line; fields are parted by one tab\n",
         ),
         Slip::Return => tell_person(
+            rt,
             w,
             out,
-            b"hint: this line ends in a carriage return; a line ends in a newline alone\n",
+            "hint: this line ends in a carriage return; a line ends in a newline alone\n",
         ),
         Slip::Both => tell_person(
+            rt,
             w,
             out,
-            b"hint: a blank stands in this line, and a carriage return ends it; fields are parted by one tab, lines by a newline\n",
+            "hint: a blank stands in this line, and a carriage return ends it; fields are parted by one tab, lines by a newline\n",
         ),
         Slip::NoSlip => w,
     }
 }
 
 // After its answer `help` lists the commands for a person.
-fn list(w: World, out: &[u8; 200000], command: Command) -> World {
+fn list(
+    rt: &(impl Print + Eprint + Alloc),
+    w: World,
+    out: &[u8; 200000],
+    command: Command,
+) -> World {
     match command {
         Command::Help => tell_person(
+            rt,
             w,
             out,
-            b"Commands, one a line; fields are parted by one tab (here a blank), a line ends in a newline alone:\n\
+            "Commands, one a line; fields are parted by one tab (here a blank), a line ends in a newline alone:\n\
               card narrow, card wide\n\
               lend memory LENGTH BYTE, lend store LENGTH BYTE, lend rows COUNT VALUE\n\
               load HEX\n\
@@ -658,17 +685,23 @@ fn list(w: World, out: &[u8; 200000], command: Command) -> World {
 }
 
 // What is no command is bad, and so is a line that was too long.
-fn say_bad(mut w: World, line: &[u8], out: &mut [u8; 200000]) -> World
+fn say_bad(
+    rt: &(impl Print + Eprint + Alloc),
+    mut w: World,
+    line: &[u8],
+    out: &mut [u8; 200000],
+) -> World
     requires { w.at ≤ 180000 }
 {
     let end = text::put(out, w.at, b"bad");
     w.at = ended(out, end);
     w.long = false;
-    hint(w, out, line)
+    hint(rt, w, out, line)
 }
 
 // Answers the next line, if there is a whole one.
 fn turn(
+    rt: &(impl Print + Eprint + Alloc),
     mut w: World,
     state: &mut [u8; 2048],
     memory: &mut [u8; 300000],
@@ -683,7 +716,7 @@ fn turn(
     let line = part_of(input, w.from, w.to);
     let n = unhexed(line, text);
     w.from = w.to + 1;
-    w = cleared(w, out);
+    w = cleared(rt, w, out);
     w.good = true;
     match reading_of(w.long, line) {
         Reading::Does(command) => {
@@ -697,9 +730,9 @@ fn turn(
                 command,
                 out,
             );
-            list(w, out, command)
+            list(rt, w, out, command)
         }
-        Reading::Bad => say_bad(w, line, out),
+        Reading::Bad => say_bad(rt, w, line, out),
     }
 }
 
@@ -717,17 +750,24 @@ fn left(turns: u64, w: World) -> u64
     0
 }
 
-// A program has no status of its own: where it is asked to, it says on descriptor 3 that nothing was lost.
-fn say_kept() {
+// The path at which a process finds its own descriptor 3.
+const VERDICT: &str = "/dev/fd/3";
+
+// Where it is asked to, the program says on descriptor 3 that nothing was lost; a descriptor that is not open is told nothing.
+fn say_kept(rt: &(impl Env + Files)) {
     let mut word = [0u8; 8];
-    let n = os::arg(1, &mut word);
+    let n = streams::argument(rt, &mut word);
     if text::is(&word[..n], b"verdict") {
-        io::write_all(3, b"good\n");
+        if let Ok(mut file) = OpenOptions::new().append(true).open(rt, VERDICT) {
+            let _ = file.write_all(b"good\n");
+        }
     }
 }
 
 // Reads to the end of the input; nothing says that there is one, so turns are counted.
 fn run(
+    rt: &(impl Print + Eprint + Alloc + Env + Files),
+    source: &mut impl Read,
     state: &mut [u8; 2048],
     memory: &mut [u8; 300000],
     store: &mut [u8; 300000],
@@ -738,18 +778,18 @@ fn run(
     let mut w = begun();
     let mut turns: u64 = 18446744073709551615;
     while 0 < turns {
-        w = lined(w, input, out);
-        w = turn(w, state, memory, store, text, input, out);
+        w = lined(rt, source, w, input, out);
+        w = turn(rt, w, state, memory, store, text, input, out);
         turns = left(turns, w);
     }
-    w = written(w, out);
+    w = written(rt, w, out);
     if !w.lost {
-        say_kept();
+        say_kept(rt);
     }
 }
 
 // The state starts as a fresh 16 bus.
-fn main() {
+fn main(rt: HostRuntime) {
     let mut state = [0; 2048];
     state::fresh(&mut state, 16);
     let mut memory = [0; 300000];
@@ -758,6 +798,8 @@ fn main() {
     let mut input = [0; 400000];
     let mut out = [0; 200000];
     run(
+        &rt,
+        &mut rt.stdin(),
         &mut state,
         &mut memory,
         &mut store,

@@ -1,4 +1,6 @@
 // An event line of the bench, read.
+#![tactic(auto)]
+
 ghost use Rattle.std.specs.Prelude.{◌≡◌, true, length};
 ghost use Rattle.text.specs.Text.{fields_of, field_of};
 ghost use Rattle.event.specs.Events.{unit_of, on, hexes as hexes_of, head_of, arrive_of, event_of};

@@ -206,7 +206,7 @@ module _ (d : Shelf) (buffer : List ℕ) where
   by_sender (At place) f e p =
       let w = found (moved d).units d.granted place f in
       let u = unit_at (moved d) place in
-      from_inlet place (omega (arith, w.0, lists.length_map d.units moved_unit)) (sym (ap number_of (moved_unit_lem d.units place) ∙ number_moved (unit_at d place)) ∙ w.1) u (chosen_of u)
+      from_inlet place (omega (arith, w.0, lists.length-map d.units moved_unit)) (sym (ap number_of (moved_unit_lem d.units place) ∙ number_moved (unit_at d place)) ∙ w.1) u (chosen_of u)
       (e ∙ ap (λ o. (sends_one o (moved d) place buffer).bytes) (as_sending_lem u)) p
   by_sender Nothing f e p = inr (idle_frame e (λ i. ap out_by (p i)))
 

@@ -97,9 +97,9 @@ occurs_both (c ∷ cs) ds k =
     let e = occurs_both cs ds k in
     decide (eqb (place_of c) k) (λ t. rw t (omega (arith, e))) (λ f. rw f e)
 
-bit_or : (x y : ℕ) → x + y ≤ 1 → bit_or x y ≡ x + y
-bit_or none y h = or_zero_l y ∙ omega arith
-bit_or (suc x) y h = let e : y ≡ 0 = omega arith in ap (bit_or (suc x)) e ∙ or_zero_r (suc x) ∙ omega arith
+or_of_bits : (x y : ℕ) → x + y ≤ 1 → bit_or x y ≡ x + y
+or_of_bits none y h = or_zero_l y ∙ omega arith
+or_of_bits (suc x) y h = let e : y ≡ 0 = omega arith in ap (bit_or (suc x)) e ∙ or_zero_r (suc x) ∙ omega arith
 
 pub agree_both : (a b : ℕ) (cs ds : List Counter) → Agree a cs → Agree b ds → ((c : Counter) → occurs cs (place_of c) + occurs ds (place_of c) ≤ 1) → Agree (bit_or a b) (cs ++ ds)
 agree_both a b cs ds agrees agrees' apart c =
@@ -110,7 +110,7 @@ agree_both a b cs ds agrees agrees' apart c =
     let q = agrees' c in
     let most = apart c in
     let one : x + y ≤ 1 = omega arith in
-    ap (λ n. n % 2) (or_shr a b k) ∙ or_mod (a / 2 ^ k) (b / 2 ^ k) 1 ∙ bit_or x y one ∙ ap₂ ◌+◌ p q ∙ sym (occurs_both cs ds k)
+    ap (λ n. n % 2) (or_shr a b k) ∙ or_mod (a / 2 ^ k) (b / 2 ^ k) 1 ∙ or_of_bits x y one ∙ ap₂ ◌+◌ p q ∙ sym (occurs_both cs ds k)
 
 -- 02, W1: "leaving either outlet is `taken`": a cell that moves at the start of a frame besides what the frame counts
 pub agree_moved : (n : ℕ) (cs : List Counter) → Agree n cs → occurs cs 12 ≡ 0 → Agree (bit_or #taken n) (taken ∷ cs)

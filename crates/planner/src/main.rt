@@ -1,8 +1,12 @@
 // The planner's program: a table on standard input, `narrow`, `wide` or `both` as its argument. It prints what comes of the table on each card, and
 // then its verdict; where it cannot read or write, it ends without one.
+#![tactic(auto)]
+
 ghost use Rattle.std.specs.Prelude.{◌≡◌, ◌-◌, ◌≤◌, length};
 
 use card::Card;
+use std::env::Env;
+use std::io::Read;
 use table::Outcome;
 use toowide::Next;
 
@@ -31,23 +35,29 @@ enum Said {
 }
 
 // Prints a line, and says what came of it.
-fn say(line: &[u8], said: Said) -> Said {
-    if io::write_all(1, line) {
+fn say(rt: &(impl Print + Eprint + Alloc), line: &[u8], said: Said) -> Said {
+    if streams::put(rt, line) {
         return said;
     }
     Said::Lost
 }
 
-fn say_ok(card: Card, used: u32, units: u8) -> Said {
+fn say_ok(rt: &(impl Print + Eprint + Alloc), card: Card, used: u32, units: u8) -> Said {
     let mut line = [0u8; 256];
     let n = report::ok_line(card, used, units, &mut line);
-    say(&line[..n], Said::Good)
+    say(rt, &line[..n], Said::Good)
 }
 
-fn say_refused(card: Card, number: u8, at: u32, text: &[u8]) -> Said {
+fn say_refused(
+    rt: &(impl Print + Eprint + Alloc),
+    card: Card,
+    number: u8,
+    at: u32,
+    text: &[u8],
+) -> Said {
     let mut line = [0u8; 256];
     let n = report::refused_line(card, number, at, text, &mut line);
-    say(&line[..n], Said::Refused)
+    say(rt, &line[..n], Said::Refused)
 }
 
 // Loads at full size: 32 units, their store and 262,144 bytes of memory.
@@ -65,14 +75,19 @@ fn wide_takes(text: &[u8], memory: &mut [u8; 262144]) -> bool {
 }
 
 // One line that asks for too much.
-fn say_wide(number: usize, bytes: &[u8], ask: card::Ask) -> Said {
+fn say_wide(
+    rt: &(impl Print + Eprint + Alloc),
+    number: usize,
+    bytes: &[u8],
+    ask: card::Ask,
+) -> Said {
     let mut line = [0u8; 256];
     let n = report::wide_line(number as u64, bytes, ask, &mut line);
-    say(&line[..n], Said::Refused)
+    say(rt, &line[..n], Said::Refused)
 }
 
 // Every line that asks for too much, or the first alone.
-fn list(text: &[u8], every: bool) -> Said {
+fn list(rt: &(impl Print + Eprint + Alloc), text: &[u8], every: bool) -> Said {
     let mut from: usize = 0;
     let mut lines: usize = 0;
     while from < text.len() {
@@ -86,7 +101,7 @@ fn list(text: &[u8], every: bool) -> Said {
             return Said::Refused;
         };
         lines = lines + before + 1;
-        if let Said::Lost = say_wide(lines, &text[start..end], ask) {
+        if let Said::Lost = say_wide(rt, lines, &text[start..end], ask) {
             return Said::Lost;
         }
         if !every {
@@ -98,24 +113,29 @@ fn list(text: &[u8], every: bool) -> Said {
 }
 
 // What comes of a table on a card; what it asks of a narrow card is listed, whole if the wide one takes it.
-fn on_card(card: Card, text: &[u8], memory: &mut [u8; 262144]) -> Said {
+fn on_card(
+    rt: &(impl Print + Eprint + Alloc),
+    card: Card,
+    text: &[u8],
+    memory: &mut [u8; 262144],
+) -> Said {
     let mut state = [0u8; 2048];
     match load(card, text, memory, &mut state) {
-        Outcome::Loaded(used) => say_ok(card, used, state[805]),
+        Outcome::Loaded(used) => say_ok(rt, card, used, state[805]),
         Outcome::Refused { number, line } => {
             if number == 5 {
-                return list(text, wide_takes(text, memory));
+                return list(rt, text, wide_takes(text, memory));
             }
-            say_refused(card, number, line, text)
+            say_refused(rt, card, number, line, text)
         }
     }
 }
 
 // Both cards: good if both take it.
-fn on_both(text: &[u8], memory: &mut [u8; 262144]) -> Said {
-    match on_card(Card::Narrow, text, memory) {
-        Said::Good => on_card(Card::Wide, text, memory),
-        Said::Refused => match on_card(Card::Wide, text, memory) {
+fn on_both(rt: &(impl Print + Eprint + Alloc), text: &[u8], memory: &mut [u8; 262144]) -> Said {
+    match on_card(rt, Card::Narrow, text, memory) {
+        Said::Good => on_card(rt, Card::Wide, text, memory),
+        Said::Refused => match on_card(rt, Card::Wide, text, memory) {
             Said::Lost => Said::Lost,
             _ => Said::Refused,
         },
@@ -123,22 +143,23 @@ fn on_both(text: &[u8], memory: &mut [u8; 262144]) -> Said {
     }
 }
 
-fn verdict(said: Said) {
+// The verdict is the last line; where what was said is lost there is none, and standard error has said so.
+fn verdict(rt: &impl Print, said: Said) {
     match said {
         Said::Good => {
-            io::write_all(1, b"verdict good\n");
+            let _ = rt.print("verdict good\n");
         }
         Said::Refused => {
-            io::write_all(1, b"verdict refused\n");
+            let _ = rt.print("verdict refused\n");
         }
-        Said::Lost => os::fail(b"standard output"),
+        Said::Lost => {}
     }
 }
 
 // The cards that the argument names.
-fn asked() -> Cards {
+fn asked(rt: &impl Env) -> Cards {
     let mut word = [0u8; 8];
-    let n = os::arg(1, &mut word);
+    let n = streams::argument(rt, &mut word);
     if text::is(&word[..n], b"narrow") {
         return Cards::Narrow;
     }
@@ -161,14 +182,15 @@ fn less(left: usize, n: usize) -> usize
 }
 
 // Reads on, so that who writes the input is not stopped.
-fn read_on() -> bool {
+fn read_on(rt: &(impl Eprint + Alloc), from: &mut impl Read) -> bool {
     let mut left = FURTHER;
     while 0 < left {
-        let mut part = io::large_buffer();
-        let got = libc::read(0, &mut part);
-        let n = io::count(got, &part);
+        let mut part = [0u8; 65536];
+        let Some(n) = streams::get(rt, from, "standard input", &mut part) else {
+            return false;
+        };
         if n == 0 {
-            return got == 0;
+            return true;
         }
         left = less(left, n);
     }
@@ -176,48 +198,52 @@ fn read_on() -> bool {
 }
 
 // Reads the input and keeps what there is room for, which is more than a table may have.
-fn read(text: &mut [u8]) -> Input
+fn read(rt: &(impl Eprint + Alloc), from: &mut impl Read, text: &mut [u8]) -> Input
     ensures { result.kept ≤ length text.new }
 {
     let mut n: usize = 0;
     while n < text.len() {
-        let got = libc::read(0, &mut text[n..]);
-        let more = io::count(got, &text[n..]);
+        let Some(more) = streams::get(rt, from, "standard input", &mut text[n..]) else {
+            return Input {
+                kept: n,
+                good: false,
+            };
+        };
         if more == 0 {
             return Input {
                 kept: n,
-                good: got == 0,
+                good: true,
             };
         }
         n += more;
     }
     Input {
         kept: n,
-        good: read_on(),
+        good: read_on(rt, from),
     }
 }
 
 // What comes of a table on the cards that are asked for.
-fn check(cards: Cards, text: &[u8]) {
+fn check(rt: &(impl Print + Eprint + Alloc), cards: Cards, text: &[u8]) {
     let mut memory = [0u8; 262144];
     match cards {
-        Cards::Narrow => verdict(on_card(Card::Narrow, text, &mut memory)),
-        Cards::Wide => verdict(on_card(Card::Wide, text, &mut memory)),
-        Cards::Both => verdict(on_both(text, &mut memory)),
+        Cards::Narrow => verdict(rt, on_card(rt, Card::Narrow, text, &mut memory)),
+        Cards::Wide => verdict(rt, on_card(rt, Card::Wide, text, &mut memory)),
+        Cards::Both => verdict(rt, on_both(rt, text, &mut memory)),
         Cards::Unknown => {
-            io::write_all(2, b"usage: planner narrow|wide|both\n");
+            let _ = rt.eprint("usage: planner narrow|wide|both\n");
         }
     }
 }
 
-fn main() {
+fn main(rt: HostRuntime) {
     // one byte more than a text may have tells a longer one
     let mut text = [0u8; 65537];
-    let input = read(&mut text);
+    let mut from = rt.stdin();
+    let input = read(&rt, &mut from, &mut text);
     if !input.good {
-        os::fail(b"standard input");
         return;
     }
     let n = input.kept;
-    check(asked(), &text[..n]);
+    check(&rt, asked(&rt), &text[..n]);
 }

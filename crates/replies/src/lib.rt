@@ -1,4 +1,6 @@
 // The lines that the programs print: a fate, a unit and the counters as fields; what an event answered; the lines of the bench; those of the console.
+#![tactic(auto)]
+
 ghost use Rattle.std.specs.Prelude.{◌≡◌, ◌+◌, ◌≤◌, ◌*◌, length, [], ◌∷◌, ◌++◌};
 ghost use Rattle.answer.specs.Answers.{arrival_word, hearing_word};
 ghost use Rattle.answer.specs.Counting.{listed as listed_of};

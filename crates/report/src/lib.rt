@@ -1,4 +1,6 @@
 // What the planner's tool says of a table on a card. Each function writes from a place on and says where it ends; the last three write a whole line.
+#![tactic(auto)]
+
 ghost use Rattle.std.specs.Prelude.{◌≡◌, ◌+◌, ◌≤◌, min, length};
 ghost use Rattle.text.specs.Writing.{Wrote};
 ghost use Rattle.report.specs.Messages.{card_word, units_word, ok_line, shown_byte, cut_mark, shown as shown_of, showing, line_in, place, head, ask_words, wide_line, slip_words, form_words, why, shown_in, refused_line};

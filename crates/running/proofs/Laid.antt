@@ -46,6 +46,7 @@ pub record Split (l : Line) (told : List Line) : Type 0 where
   pub all : told ≡ after ++ (l ∷ before)
 
 pub in_split : (l : Line) (told : List Line) → In l told → Split l told
+in_split l [] m = elim m [ ]
 in_split l (x ∷ told) (In.head e) = record { after = []; before = told; all = ap (λ y. y ∷ told) (sym e) }
 in_split l (x ∷ told) (In.tail m) =
     let s = in_split l told m in record { after = x ∷ s.after; before = s.before; all = ap (λ y. x ∷ y) s.all }
@@ -278,6 +279,7 @@ module _ (card : Card) (memory : List ℕ) (told : List Line) (fits : size * tot
 
 -- D. what the lines' numbers are
 ranged_in : (l : Line) (told : List Line) → In l told → AllInRange told → InRange l
+ranged_in l [] m r = elim m [ ]
 ranged_in l (x ∷ told) (In.head e) r = subst InRange (sym e) r.0
 ranged_in l (x ∷ told) (In.tail m) r = ranged_in l told m r.1
 
@@ -287,6 +289,7 @@ split_in l (x ∷ after) before = In.tail (split_in l after before)
 
 -- on the narrow card no outgoing VPI is above 255
 not_wide : (card : Card) (memory : List ℕ) (l : Line) (told : List Line) → In l told → Faultless card memory told → card ≡ Narrow → IsWide l → ⊥
+not_wide card memory l [] m f n w = elim m [ ]
 not_wide card memory l (x ∷ told) (In.head e) f n w = f.0 5 (wide n (subst IsWide e w) refl)
 not_wide card memory l (x ∷ told) (In.tail m) f n w = not_wide card memory l told m f.1 n w
 

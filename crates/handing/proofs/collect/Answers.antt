@@ -33,13 +33,16 @@ returns-in-At c =
     let i = c.in-At.place in
     let e = sym c.admit.ensures ∙ c.in-At.is in
     let w = in_place a.card b store a.rows a.unit right i e in
-    let done = c.collect_at.ensures in record { result_value = (
+    let done = c.collect_at.ensures in record {
+      result_value = (
         done.result_value ∙ came_in outcome_of (collect_at (shelf_in b)) (refused (shelf_in b)) (refused_with 8) a.card b store a.rows a.unit right i e,
         (
           done.kept.0 ∙ decided_at _ _ _ _ e,
           done.kept.1 ∙ came_in (λ x. x) (λ place. collect_buffer_at (shelf_in b) place a.store.now a.buffer.now) (λ number. a.buffer.now) a.buffer.now a.card b store a.rows a.unit right i e,
         ),
-      ); fits = subst (λ (x : Outcome). (x.rises.to ≤ 32) × (x.rises.to ≤ a.rows)) (sym done.result_value) (collect_fits (shelf_in b) i a.rows w.below w.row) }
+      );
+      fits = subst (λ (x : Outcome). (x.rises.to ≤ 32) × (x.rises.to ≤ a.rows)) (sym done.result_value) (collect_fits (shelf_in b) i a.rows w.below w.row);
+    }
 
 pub returns-in-Refused : goal.returns-in-Refused
 unfolding spread
@@ -49,10 +52,13 @@ returns-in-Refused c =
     let store = length a.store.now in
     let right = eqb (length a.buffer.now) 56 in
     let n = c.in-Refused.number in
-    let e = sym c.admit.ensures ∙ c.in-Refused.is in record { result_value = (
+    let e = sym c.admit.ensures ∙ c.in-Refused.is in record {
+      result_value = (
         ap outcome_by c.uncounted.ensures ∙ kept_out outcome_of (collect_at (shelf_in b)) (refused (shelf_in b)) (refused_with 8) a.card b store a.rows a.unit right n e refl,
         (
           decided_refused _ _ _ _ e,
           kept_out (λ x. x) (λ place. collect_buffer_at (shelf_in b) place a.store.now a.buffer.now) (λ number. a.buffer.now) a.buffer.now a.card b store a.rows a.unit right n e refl,
         ),
-      ); fits = subst (λ (x : Outcome). (x.rises.to ≤ 32) × (x.rises.to ≤ a.rows)) (sym (ap outcome_by c.uncounted.ensures)) (omega arith, omega arith) }
+      );
+      fits = subst (λ (x : Outcome). (x.rises.to ≤ 32) × (x.rises.to ≤ a.rows)) (sym (ap outcome_by c.uncounted.ensures)) (omega arith, omega arith);
+    }

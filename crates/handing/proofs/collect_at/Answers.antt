@@ -49,9 +49,12 @@ returns c =
     let below = c.requires.2.below in
     let r = c.ring_at-ring in
     let cell = c.get_cell in
-    let h = ne_eqb r.result.count 0 c.if-ring-eq0.false in record { result_value = ap outcome_by c.counted.ensures ∙ collect_out_by a.s.now a.place below r.result r.ensures false h; kept = (
+    let h = ne_eqb r.result.count 0 c.if-ring-eq0.false in record {
+      result_value = ap outcome_by c.counted.ensures ∙ collect_out_by a.s.now a.place below r.result r.ensures false h;
+      kept = (
         c.put_ring.ensures ∙ ap (with_ring a.s.now 28 29 a.place) c.popped.ensures ∙ collect_state_by a.s.now a.place below r.result r.ensures false h,
         c.copy.ensures ∙ buffer_filled a.buffer.now cell.result.now c.requires.1 (whole (goal.at.returns c).After-get_cell) ∙ cell.ensures
             ∙ ap (λ n. part a.store.now n 56) c.control_at.ensures
             ∙ collect_buffer_by a.s.now a.place below r.result r.ensures false h a.store.now a.buffer.now,
-      ) }
+      );
+    }

@@ -28,7 +28,10 @@ returns c =
     let a = c.args in
     let below = c.requires.2.below in
     let n = c.at in
-    let h = lt-leb 1 n.result c.if-at-ge1.false in record { result_value = ap outcome_by c.uncounted-2.ensures ∙ hand_out_by a.s.now a.place below n.result n.ensures false h; kept = (
+    let h = lt-leb 1 n.result c.if-at-ge1.false in record {
+      result_value = ap outcome_by c.uncounted-2.ensures ∙ hand_out_by a.s.now a.place below n.result n.ensures false h;
+      kept = (
         c.put_byte.ensures ∙ hand_state_by a.s.now a.place below n.result n.ensures false h,
         c.put_cell.ensures ∙ ap (λ k. splice a.store.now k a.cell.now) c.slot_at.ensures ∙ hand_store_by a.s.now a.place below n.result n.ensures false h a.store.now a.cell.now,
-      ) }
+      );
+    }

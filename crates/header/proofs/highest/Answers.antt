@@ -1,4 +1,3 @@
-
 use Rattle.header.proofs.highest.Goals as goal
 
 pub returns-in-Uni : goal.returns-in-Uni

@@ -34,14 +34,17 @@ returns-in-At c =
     let right = eqb (length a.buffer.now) 53 in
     let i = c.in-At.place in
     let e = sym c.admit.ensures ∙ c.in-At.is in
-    let w = in_place a.card b store a.rows a.unit right i e in record { result_value = (
+    let w = in_place a.card b store a.rows a.unit right i e in record {
+      result_value = (
         c.take_at.ensures.result_value ∙ came_in outcome_of (done_at (shelf_in b)) (refused (shelf_in b)) (refused_with 8) a.card b store a.rows a.unit right i e,
         (
           c.take_at.ensures.kept.0 ∙ decided_at _ _ _ _ e,
           c.take_at.ensures.kept.1
               ∙ came_in (λ x. x) (λ place. buffer_at (shelf_in b) place a.store.now a.buffer.now) (λ number. a.buffer.now) a.buffer.now a.card b store a.rows a.unit right i e,
         ),
-      ); fits = subst (λ (x : Outcome). (x.rises.to ≤ 32) × (x.rises.to ≤ a.rows)) (sym c.take_at.ensures.result_value) (out_fits (leaving (unit_at (shelf_in b) i).outlet) b i a.rows w.below w.row) }
+      );
+      fits = subst (λ (x : Outcome). (x.rises.to ≤ 32) × (x.rises.to ≤ a.rows)) (sym c.take_at.ensures.result_value) (out_fits (leaving (unit_at (shelf_in b) i).outlet) b i a.rows w.below w.row);
+    }
 
 pub returns-in-Refused : goal.returns-in-Refused
 unfolding spread
@@ -51,10 +54,13 @@ returns-in-Refused c =
     let store = length a.store.now in
     let right = eqb (length a.buffer.now) 53 in
     let n = c.in-Refused.number in
-    let e = sym c.admit.ensures ∙ c.in-Refused.is in record { result_value = (
+    let e = sym c.admit.ensures ∙ c.in-Refused.is in record {
+      result_value = (
         ap outcome_by c.uncounted.ensures ∙ kept_out outcome_of (done_at (shelf_in b)) (refused (shelf_in b)) (refused_with 8) a.card b store a.rows a.unit right n e refl,
         (
           decided_refused _ _ _ _ e,
           kept_out (λ x. x) (λ place. buffer_at (shelf_in b) place a.store.now a.buffer.now) (λ number. a.buffer.now) a.buffer.now a.card b store a.rows a.unit right n e refl,
         ),
-      ); fits = subst (λ (x : Outcome). (x.rises.to ≤ 32) × (x.rises.to ≤ a.rows)) (sym (ap outcome_by c.uncounted.ensures)) (omega arith, omega arith) }
+      );
+      fits = subst (λ (x : Outcome). (x.rises.to ≤ 32) × (x.rises.to ≤ a.rows)) (sym (ap outcome_by c.uncounted.ensures)) (omega arith, omega arith);
+    }

@@ -66,11 +66,14 @@ returns c =
     let e = c.in-Queue.is in
     let w = c.outlet_at-at.ensures ∙ ap (λ r. slot_at a.place (outlet_slot o.result.limits q r.head)) c.queue-ring.ensures in
     let r = c.queue-ring.ensures in
-    let k = c.link_of-link.ensures ∙ ap link_of c.at.ensures in record { result_value = ap outcome_by c.counted.ensures ∙ taken_out a.s.now a.place below o.result o.ensures l.result l.ensures q e; kept = (
+    let k = c.link_of-link.ensures ∙ ap link_of c.at.ensures in record {
+      result_value = ap outcome_by c.counted.ensures ∙ taken_out a.s.now a.place below o.result o.ensures l.result l.ensures q e;
+      kept = (
         c.put_ring.ensures
             ∙ (λ t. with_ring a.s.now (16 + q) (20 + q) a.place ((c.popped-left.ensures ∙ (λ k. popped (r k) (c.capacity.ensures k))) t))
             ∙ taken_state a.s.now a.place below o.result o.ensures l.result l.ensures q e,
         c.hand_out.ensures
             ∙ ap (outward c.link_of-link.result o.result) (c.get_cell.ensures ∙ ap (λ n. part a.store.now n 56) w)
             ∙ taken_buffer a.s.now a.place below o.result o.ensures l.result l.ensures q e c.link_of-link.result k a.store.now a.buffer.now,
-      ) }
+      );
+    }

@@ -23,12 +23,6 @@ copy-requires-2 c =
     let e = ap length (payload (goal.at.copy-requires-2 c).After-copy) in
     rw length-set (omega (arith, e, p.0, p.1))
 
-pub shape_of-buffer : goal.shape_of-buffer
-shape_of-buffer c =
-    c.buffer-2-1.given
-    ∙ length-set c.put_four.new.b 4 c.check.result
-    ∙ c.buffer-1.given
-
 pub returns : goal.returns
 returns c =
     let s = c in

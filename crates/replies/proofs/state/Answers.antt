@@ -1,0 +1,6 @@
+use Rattle.text.proofs.Splices.{then}
+use native.Mathlib.Omega.{arith}
+use Rattle.replies.proofs.state.Goals as goal
+
+pub returns : goal.returns
+returns c = then _ _ _ _ _ _ _ _ c.put-next.ensures c.put_bytes.ensures.0 (omega arith)

@@ -1,0 +1,13 @@
+use borrow.Author.Tests.{ne_eqb}
+use Rattle.text.proofs.Splices.{nothing, then}
+use Rattle.report.specs.Messages.{place}
+use native.Mathlib.Omega.{arith}
+use Rattle.report.proofs.put_place.Goals as goal
+
+pub returns-then-line-eq0 : goal.returns-then-line-eq0
+unfolding place
+returns-then-line-eq0 c = (rw c.if-line-eq0.true (nothing _ _), omega arith)
+
+pub returns : goal.returns
+unfolding place
+returns c = (rw (ne_eqb _ 0 c.if-line-eq0.false) (then _ _ _ _ _ _ _ _ c.put_decimal-next.ensures.0 c.put.ensures (omega arith)), omega arith)
