@@ -1,5 +1,2 @@
-pub mod Arrays
-pub mod Calls
-pub mod Row
 pub mod Settling
 pub mod Ticking
