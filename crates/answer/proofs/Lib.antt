@@ -1,2 +1,5 @@
+pub mod Arrays
+pub mod Calls
+pub mod Row
 pub mod Settling
 pub mod Ticking
