@@ -1,4 +1,4 @@
-// What a card's firmware calls, by the C interface: numbers, and pointers with lengths. Nothing large goes by value.
+// What a card's firmware calls; firmware_c has it for C. By numbers, and by slices, which go as pointers with lengths. Nothing large goes by value.
 #![tactic(auto)]
 
 ghost use Rattle.std.specs.Prelude.{◌≡◌, length};
@@ -95,8 +95,7 @@ fn count_code(card: Card, state: &[u8; 2048], store: &[u8], rows: usize, unit: u
 }
 
 // A route table is loaded.
-#[unsafe(no_mangle)]
-pub extern "C" fn plevandor_load(
+pub fn plevandor_load(
     card: u8,
     text: &[u8],
     memory: &mut [u8],
@@ -112,8 +111,7 @@ pub extern "C" fn plevandor_load(
 }
 
 // A cell arrives at a unit.
-#[unsafe(no_mangle)]
-pub extern "C" fn plevandor_arrive(
+pub fn plevandor_arrive(
     card: u8,
     state: &mut [u8; 2048],
     memory: &[u8],
@@ -130,8 +128,7 @@ pub extern "C" fn plevandor_arrive(
 }
 
 // A frame on the bus.
-#[unsafe(no_mangle)]
-pub extern "C" fn plevandor_frame(
+pub fn plevandor_frame(
     card: u8,
     state: &mut [u8; 2048],
     store: &mut [u8],
@@ -146,8 +143,7 @@ pub extern "C" fn plevandor_frame(
 }
 
 // A frame is handed in to a unit.
-#[unsafe(no_mangle)]
-pub extern "C" fn plevandor_hear(
+pub fn plevandor_hear(
     card: u8,
     state: &mut [u8; 2048],
     store: &mut [u8],
@@ -163,8 +159,7 @@ pub extern "C" fn plevandor_hear(
 }
 
 // The oldest cell is taken from a unit.
-#[unsafe(no_mangle)]
-pub extern "C" fn plevandor_take(
+pub fn plevandor_take(
     card: u8,
     state: &mut [u8; 2048],
     store: &[u8],
@@ -180,8 +175,7 @@ pub extern "C" fn plevandor_take(
 }
 
 // A unit's processor hands in a cell.
-#[unsafe(no_mangle)]
-pub extern "C" fn plevandor_hand(
+pub fn plevandor_hand(
     card: u8,
     state: &mut [u8; 2048],
     store: &mut [u8],
@@ -197,8 +191,7 @@ pub extern "C" fn plevandor_hand(
 }
 
 // A unit's processor takes the oldest cell from the control outlet.
-#[unsafe(no_mangle)]
-pub extern "C" fn plevandor_collect(
+pub fn plevandor_collect(
     card: u8,
     state: &mut [u8; 2048],
     store: &[u8],
@@ -214,8 +207,7 @@ pub extern "C" fn plevandor_collect(
 }
 
 // Which row has the counters of a unit: the caller has the rows, and reads it there.
-#[unsafe(no_mangle)]
-pub extern "C" fn plevandor_count(
+pub fn plevandor_count(
     card: u8,
     state: &[u8; 2048],
     store: &[u8],
