@@ -131,8 +131,8 @@ module _ {M : Type 1} {𝓤 : Ura M} (𝓛 : Logic 𝓤) where
 module _ {M : Type 1} {𝓤 : Ura M} (𝓛 : Logic 𝓤) (𝓜 : Model 𝓤 𝓛.H) (𝓡 : Running 𝓤 𝓛.H 𝓜) (γ : Names) where
   open 𝓛 use {H}
 
-  pub knows_card : Wired γ card_of_def.code → Card-known 𝓛 𝓜.mem 𝓡.returns (tables 𝓤 H 𝓜 𝓡 γ).C
-  knows_card w = cited 𝓤 H (CardOf 𝓛 𝓜.mem 𝓡.returns) 𝓜 𝓡 γ #card-of (γ #card-of) refl (card_of_thm.met 𝓤 𝓛 𝓜 (in_names 𝓤 H 𝓜 𝓡 γ) w)
+  pub knows_card : Wired γ card_of_def.code → Card-known 𝓛 𝓜.mem 𝓡.run (tables 𝓤 H 𝓜 𝓡 γ).C
+  knows_card w = cited 𝓤 H (CardOf 𝓛 𝓜.mem 𝓡.run) 𝓜 𝓡 γ #card-of (γ #card-of) refl (card_of_thm.met 𝓤 𝓛 𝓜 (in_names 𝓤 H 𝓜 𝓡 γ) w)
 
-  pub knows_code : Wired γ coded_def.code → Code-known 𝓛 𝓜.mem 𝓡.returns (tables 𝓤 H 𝓜 𝓡 γ).C
-  knows_code w = cited 𝓤 H (Coded 𝓛 𝓜.mem 𝓡.returns) 𝓜 𝓡 γ #coded (γ #coded) refl (coded_thm.met 𝓤 𝓛 𝓜 (in_names 𝓤 H 𝓜 𝓡 γ) w)
+  pub knows_code : Wired γ coded_def.code → Code-known 𝓛 𝓜.mem 𝓡.run (tables 𝓤 H 𝓜 𝓡 γ).C
+  knows_code w = cited 𝓤 H (Coded 𝓛 𝓜.mem 𝓡.run) 𝓜 𝓡 γ #coded (γ #coded) refl (coded_thm.met 𝓤 𝓛 𝓜 (in_names 𝓤 H 𝓜 𝓡 γ) w)

@@ -266,8 +266,8 @@ module _ {M : Type 1} {𝓤 : Ura M} (𝓛 : Logic 𝓤) where
 module _ {M : Type 1} {𝓤 : Ura M} (𝓛 : Logic 𝓤) (𝓜 : Model 𝓤 𝓛.H) (𝓡 : Running 𝓤 𝓛.H 𝓜) (γ : Names) where
   open 𝓛 use {H}
 
-  pub knows_within : Wired γ within_def.code → Within-known 𝓛 𝓜.mem 𝓡.returns (tables 𝓤 H 𝓜 𝓡 γ).C
-  knows_within w = cited 𝓤 H (Within 𝓛 𝓜.mem 𝓡.returns) 𝓜 𝓡 γ #within (γ #within) refl (within_thm.met 𝓤 𝓛 𝓜 (in_names 𝓤 H 𝓜 𝓡 γ) w)
+  pub knows_within : Wired γ within_def.code → Within-known 𝓛 𝓜.mem 𝓡.run (tables 𝓤 H 𝓜 𝓡 γ).C
+  knows_within w = cited 𝓤 H (Within 𝓛 𝓜.mem 𝓡.run) 𝓜 𝓡 γ #within (γ #within) refl (within_thm.met 𝓤 𝓛 𝓜 (in_names 𝓤 H 𝓜 𝓡 γ) w)
 
-  pub knows_joined : Wired γ joined_def.code → Joined-known 𝓛 𝓜.mem 𝓡.returns (tables 𝓤 H 𝓜 𝓡 γ).C
-  knows_joined w = cited 𝓤 H (Joined 𝓛 𝓜.mem 𝓡.returns) 𝓜 𝓡 γ #joined (γ #joined) refl (joined_thm.met 𝓤 𝓛 𝓜 (in_names 𝓤 H 𝓜 𝓡 γ) w)
+  pub knows_joined : Wired γ joined_def.code → Joined-known 𝓛 𝓜.mem 𝓡.run (tables 𝓤 H 𝓜 𝓡 γ).C
+  knows_joined w = cited 𝓤 H (Joined 𝓛 𝓜.mem 𝓡.run) 𝓜 𝓡 γ #joined (γ #joined) refl (joined_thm.met 𝓤 𝓛 𝓜 (in_names 𝓤 H 𝓜 𝓡 γ) w)
