@@ -1,4 +1,6 @@
 // Arrival at a unit: one of hec, ignored, misrouted, inletfull, queued.
+#![tactic(auto)]
+
 ghost use Rattle.std.specs.Prelude.{◌≡◌, ◌≤◌, length};
 ghost use Rattle.soundness.specs.Admission.{Housed};
 ghost use Rattle.answer.specs.Done.{outcome_of};

@@ -1,4 +1,6 @@
 // The eight functions that others call, with the state lent. Each has a covered function do all but the counters, and `counters` writes those.
+#![tactic(auto)]
+
 ghost use Rattle.std.specs.Prelude.{◌≡◌, length};
 ghost use Rattle.entry.specs.Outcomes.{arrives, frames, hears, takes, hands, collects, counts_of, loads, LeavesStore, LeavesAll, LeavesBytes, LeavesCell, LeavesMemory};
 ghost use Rattle.entry.specs.declared.Counted.TheVariants as counted;

@@ -1,4 +1,3 @@
 pub mod Bits
-pub mod Calling
 pub mod Placed
 pub mod Told

@@ -1,4 +1,6 @@
-// What a card's firmware calls, by the C interface: numbers, and pointers with lengths. Nothing large goes by value.
+// What a card's firmware calls; firmware_c has it for C. By numbers, and by slices, which go as pointers with lengths. Nothing large goes by value.
+#![tactic(auto)]
+
 ghost use Rattle.std.specs.Prelude.{◌≡◌, length};
 ghost use Rattle.soundness.specs.Admission.{counted_in};
 ghost use Rattle.entry.specs.Outcomes.{arrives, frames, hears, takes, hands, collects, loads, LeavesStore, LeavesAll, LeavesBytes, LeavesCell, LeavesMemory};
@@ -8,6 +10,7 @@ use answer::{Answer, Arrival, Counters, Hearing};
 use card::Card;
 
 // The card with this number.
+#[tactic(auto, unfolding(crate::specs::Codes::card_of))]
 fn card_of(number: u8) -> Card
     ensures { result ≡ card_of number }
 {
@@ -19,6 +22,7 @@ fn card_of(number: u8) -> Card
 }
 
 // The parts of an answer as numbers.
+#[tactic(auto, unfolding(crate::specs::Codes::arrival_code))]
 fn arrival_code(fate: Arrival) -> u8
     ensures { result ≡ arrival_code fate }
 {
@@ -31,6 +35,7 @@ fn arrival_code(fate: Arrival) -> u8
     }
 }
 
+#[tactic(auto, unfolding(crate::specs::Codes::hearing_code))]
 fn hearing_code(fate: Hearing) -> u8
     ensures { result ≡ hearing_code fate }
 {
@@ -56,6 +61,7 @@ fn pack(kind: u8, low: u8, sender: u8, granted: u8, high: u32) -> u64
 }
 
 // An answer as one number.
+#[tactic(auto, unfolding(crate::specs::Codes::code))]
 fn code(answer: Answer) -> u64
     ensures { result ≡ code_of answer }
 {
@@ -89,8 +95,7 @@ fn count_code(card: Card, state: &[u8; 2048], store: &[u8], rows: usize, unit: u
 }
 
 // A route table is loaded.
-#[unsafe(no_mangle)]
-pub extern "C" fn plevandor_load(
+pub fn plevandor_load(
     card: u8,
     text: &[u8],
     memory: &mut [u8],
@@ -106,8 +111,7 @@ pub extern "C" fn plevandor_load(
 }
 
 // A cell arrives at a unit.
-#[unsafe(no_mangle)]
-pub extern "C" fn plevandor_arrive(
+pub fn plevandor_arrive(
     card: u8,
     state: &mut [u8; 2048],
     memory: &[u8],
@@ -124,8 +128,7 @@ pub extern "C" fn plevandor_arrive(
 }
 
 // A frame on the bus.
-#[unsafe(no_mangle)]
-pub extern "C" fn plevandor_frame(
+pub fn plevandor_frame(
     card: u8,
     state: &mut [u8; 2048],
     store: &mut [u8],
@@ -140,8 +143,7 @@ pub extern "C" fn plevandor_frame(
 }
 
 // A frame is handed in to a unit.
-#[unsafe(no_mangle)]
-pub extern "C" fn plevandor_hear(
+pub fn plevandor_hear(
     card: u8,
     state: &mut [u8; 2048],
     store: &mut [u8],
@@ -157,8 +159,7 @@ pub extern "C" fn plevandor_hear(
 }
 
 // The oldest cell is taken from a unit.
-#[unsafe(no_mangle)]
-pub extern "C" fn plevandor_take(
+pub fn plevandor_take(
     card: u8,
     state: &mut [u8; 2048],
     store: &[u8],
@@ -174,8 +175,7 @@ pub extern "C" fn plevandor_take(
 }
 
 // A unit's processor hands in a cell.
-#[unsafe(no_mangle)]
-pub extern "C" fn plevandor_hand(
+pub fn plevandor_hand(
     card: u8,
     state: &mut [u8; 2048],
     store: &mut [u8],
@@ -191,8 +191,7 @@ pub extern "C" fn plevandor_hand(
 }
 
 // A unit's processor takes the oldest cell from the control outlet.
-#[unsafe(no_mangle)]
-pub extern "C" fn plevandor_collect(
+pub fn plevandor_collect(
     card: u8,
     state: &mut [u8; 2048],
     store: &[u8],
@@ -208,8 +207,7 @@ pub extern "C" fn plevandor_collect(
 }
 
 // Which row has the counters of a unit: the caller has the rows, and reads it there.
-#[unsafe(no_mangle)]
-pub extern "C" fn plevandor_count(
+pub fn plevandor_count(
     card: u8,
     state: &[u8; 2048],
     store: &[u8],

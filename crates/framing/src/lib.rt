@@ -1,5 +1,7 @@
 // Frame: first the loopback cells move, then requests, then the unit granted in the frame before sends and every declared unit hears it, then the
 // grant.
+#![tactic(auto)]
+
 ghost use Rattle.std.specs.Prelude.{◌≡◌, ℕ, ◌<◌, ◌≤◌, min, List, length, replicate, slice_index};
 ghost use Rattle.bus.specs.Frame.{heard_as, carried};
 ghost use Rattle.store.specs.Places.{slot_at, Inside};

@@ -1,4 +1,6 @@
 // Hand and collect: what a unit's processor hands in to be sent, and takes from the control outlet.
+#![tactic(auto)]
+
 ghost use Rattle.std.specs.Prelude.{◌≡◌, ◌≤◌, length};
 ghost use Rattle.soundness.specs.Admission.{Housed};
 ghost use Rattle.answer.specs.Done.{outcome_of};

@@ -1,4 +1,6 @@
 // Hearing: one of damaged, other, wide, full, clp, queued, of a frame at a unit.
+#![tactic(auto)]
+
 ghost use Rattle.std.specs.Prelude.{◌≡◌, ◌<◌, ◌≤◌, length, get_or, take};
 ghost use Rattle.answer.specs.Answers.{outcome_by};
 ghost use Rattle.bus.specs.Frame.{third, carried, heard as heard_of};

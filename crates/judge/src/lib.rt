@@ -1,4 +1,6 @@
 // A line of a table held against what came before it, as shelf and memory have it: first what it is judged by, then the lines.
+#![tactic(auto)]
+
 ghost use Rattle.std.specs.Prelude.{◌≡◌, ◌*◌, ◌+◌, ◌<◌, ◌≤◌, length};
 ghost use Rattle.lookup.specs.Record.{size, record_at};
 ghost use Rattle.state.specs.Bytes.{shelf_in};

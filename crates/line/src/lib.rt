@@ -1,5 +1,7 @@
 // One line of a table read: its values, or what is wrong with it and in which field. First a number in its range or a target in a field, then
 // what a `unit` line gives, then the lines.
+#![tactic(auto)]
+
 ghost use Rattle.std.specs.Prelude.{◌≡◌, length};
 ghost use Rattle.text.specs.Text.{fields_of, at, from2, from4, from6, from7, from9};
 ghost use Rattle.line.specs.Ranged.{ranged as ranged_of, num as num_gives, aim_of};

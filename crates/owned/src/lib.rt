@@ -1,4 +1,6 @@
 // The entry points for a program that keeps 40 counter rows in an array and lends the first so many of them: rows go in by value and come back.
+#![tactic(auto)]
+
 ghost use Rattle.std.specs.Prelude.{◌≡◌, min};
 ghost use Rattle.entry.specs.Outcomes.{arrives, frames, hears, takes, hands, collects, counts_of, loads, LeavesStore, LeavesAll, LeavesBytes, LeavesCell, LeavesMemory};
 

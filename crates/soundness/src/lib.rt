@@ -1,4 +1,6 @@
 // When lent bytes are a sound state; and what every event asks before anything else.
+#![tactic(auto)]
+
 ghost use Rattle.std.specs.Prelude.{◌≡◌, ℕ, ◌+◌, ◌-◌, ◌*◌, ◌/◌, ◌%◌, ◌^◌, ◌<◌, ◌≤◌, true, ◌&&◌, ◌⊎◌, length, if◌then◌else◌, ◌==◌, ◌≢◌, nat_eq, nat_le, slice_index};
 ghost use Rattle.outlet.specs.Outlets.{between, ring_fits};
 ghost use Rattle.state.specs.Bytes.{col, ring_by};

@@ -1,4 +1,6 @@
 // The loader: what a line that is fine gives; text into lines, lines judged and enacted; and loading as an event.
+#![tactic(auto)]
+
 ghost use Rattle.std.specs.Prelude.{◌≡◌, ◌≤◌, min, length, []};
 ghost use Rattle.shelf.specs.Shelves.{declared as declared_in, find_in};
 ghost use Rattle.state.specs.Bytes.{shelf_in};

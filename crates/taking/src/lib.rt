@@ -1,4 +1,6 @@
 // Take: the oldest cell of a unit's outlet, or of the lowest class held, as it leaves on the link; or empty.
+#![tactic(auto)]
+
 ghost use Rattle.std.specs.Prelude.{◌≡◌, ◌<◌, ◌≤◌, length};
 ghost use Rattle.soundness.specs.Admission.{Housed};
 ghost use Rattle.answer.specs.Done.{outcome_of};

@@ -1,4 +1,4 @@
-//! The traffic through this program. independent/pace/main.rt.txt does the same through the proved shelf:
+//! The traffic through this program. independent/pace/main.c does the same through the proved shelf:
 //!
 //! 1. The table is loaded `LOADS` times, all in one batch of the clock.
 //! 2. One cell arrives at each unit, and one frame follows.

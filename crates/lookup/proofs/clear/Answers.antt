@@ -1,5 +1,5 @@
 use mathlib.Core.Path.{◌≡◌, refl, ◌∙◌}
-use Prim.Native.Nat.{◌-◌, min}
+use Prim.Native.Nat.{min}
 use lib.ListN.{length, length-set}
 use borrow.Author.Fill.{fill_more}
 use Rattle.lookup.specs.Record.{most, cleared}

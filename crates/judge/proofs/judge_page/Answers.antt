@@ -1,0 +1,23 @@
+use mathlib.Core.Path.{sym, ap, ◌∙◌}
+use Rattle.lookup.specs.Record.{record_at}
+use Rattle.judge.specs.Verdicts.{taken}
+use Rattle.judge.proofs.Chains.{nobody, somebody, page_above, page_taken, page_room}
+use Rattle.judge.proofs.judge_page.Goals as goal
+
+pub returns-then-not-o : goal.returns-then-not-o
+returns-then-not-o c = nobody c.args.o _ c.if-not-o.true
+
+pub returns-then-o-vpi : goal.returns-then-o-vpi
+returns-then-o-vpi c =
+    let a = c.args in
+    somebody a.o _ _ c.if-not-o.false (page_above _ a.vpi _ a.room a.used a.top c.if-o-vpi.true)
+
+pub returns-then-taken : goal.returns-then-taken
+returns-then-taken c =
+    let a = c.args in
+    somebody a.o _ _ c.if-not-o.false (page_taken _ a.vpi _ a.room a.used a.top c.if-o-vpi.false (sym (c.taken.ensures ∙ ap taken (c.get.ensures ∙ ap (record_at a.card a.memory.now) c.spot.ensures)) ∙ c.if-taken.true))
+
+pub returns : goal.returns
+returns c =
+    let a = c.args in
+    somebody a.o _ _ c.if-not-o.false (page_room _ a.vpi _ a.room a.used a.top _ c.if-o-vpi.false (sym (c.taken.ensures ∙ ap taken (c.get.ensures ∙ ap (record_at a.card a.memory.now) c.spot.ensures)) ∙ c.if-taken.false) c.room_for.ensures)

@@ -1,0 +1,15 @@
+-- `owned::arrive` meets its contract. Assumes nothing.
+use Rattle.std.proofs.Common.{◌≡◌, ℕ, ◌++◌, length, take, drop, ap, subst, ◌∙◌, rules}
+use Rattle.entry.specs.Outcomes.{arrives, LeavesStore}
+use Rattle.owned.proofs.Few.{arrives_few}
+use Rattle.owned.proofs.arrive.Goals as goal
+
+pub returns : goal.returns
+returns c =
+    let a = c.args in
+    let rows = c.args.rows in
+    let w = c.arrive-answer in
+    let zs = c.arrive-answer.new.rows in
+    let long : length c.args.rows ≡ 40 = search rules in
+    let g = arrives_few rows a.lent long a.card w.result zs a.state.now a.store.now w.new.state a.memory.now a.unit a.cell.now w.new.store (subst (λ (k : ℕ). LeavesStore (arrives a.card a.state.now a.memory.now a.store.now (take k rows) (length (take k rows)) a.unit a.cell.now) w.result w.new.state w.new.store zs) c.within-n.ensures w.ensures) in
+    (c.joined.ensures.0 ∙ g.0, (g.1.0, (g.1.1.0, c.joined.ensures.1 ∙ ap (λ (k : ℕ). zs ++ drop k rows) c.within-n.ensures ∙ g.1.1.1)))
