@@ -1,4 +1,6 @@
 // The lines of a table that ask for too much of a narrow card: where each stands, and what it asks.
+#![tactic(auto)]
+
 ghost use Rattle.std.specs.Prelude.{◌≡◌};
 ghost use Rattle.toowide.specs.Asks.{ask_of, asked};
 ghost use Rattle.toowide.specs.Listing.{next_wide, Inside};

@@ -1,5 +1,5 @@
 -- `firmware::count_code` meets its contract. Assumes nothing.
-use Rattle.std.proofs.Common.{◌≡◌, ◌<◌, length, ap, ◌∙◌, arith}
+use Rattle.std.proofs.Common.{length, ap, ◌∙◌, arith}
 use Rattle.firmware.specs.Codes.{place_code}
 use Rattle.firmware.proofs.Placed.{place_told, refusal_told, row_fits}
 use Rattle.firmware.proofs.count_code.Goals as goal

@@ -13,13 +13,13 @@ pub loop-i-init : goal.loop-i-init
 loop-i-init c = (omega arith, omega arith, omega arith)
 
 pub overflow_add-n : goal.overflow_add-n
-overflow_add-n c = let x = c.shared_slice_known-1.given c.loop-i.i in record { fits = omega (arith, x) }
+overflow_add-n c = let x = c.type_inv.held c.loop-i.i in record { fits = omega (arith, x) }
 
 pub loop-i-preserved : goal.loop-i-preserved
 loop-i-preserved c =
     let held = c.args.held.now in
     let l = c.loop-i in
-    let x = c.shared_slice_known-1.given l.i in
+    let x = c.type_inv.held l.i in
     let m = many_next held l.i (omega arith) in
     let n = halved (get_or held l.i 0) (omega (arith, x)) in
     (omega arith, omega arith, omega arith)

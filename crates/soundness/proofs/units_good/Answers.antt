@@ -25,5 +25,5 @@ returns c =
     let l = c.loop-i in
     let known = over in
     let a = known.args in
-    places_end over.highest_link-links.result over.over-last.result a.s.now a.count a.card a.bus l.i l.worst known.requires.1 (λ j. let k = known.shared_slice_known-1.given j in omega (arith, k)) over.highest_link-links.ensures over.over-last.ensures.0
+    places_end over.highest_link-links.result over.over-last.result a.s.now a.count a.card a.bus l.i l.worst known.requires.1 (λ j. let k = c.type_inv.s j in omega (arith, k)) over.highest_link-links.ensures over.over-last.ensures.0
     (places_left over.highest_link-links.result over.over-last.result a.s.now a.count l.i c.reach-end.result (omega arith) l.invariant.0.1) (sym l.invariant.2)
