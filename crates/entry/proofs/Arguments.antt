@@ -1,7 +1,7 @@
 -- The arguments of an entry point, and what its walk says of them: types, values, tokens, locals. All of it computes from the list of the arguments.
 --     Got, Lent, Whole    plain data with its machine value; a slice, where it lies and what it holds; the state likewise
 --     Arg              an argument: plain data, the state, bytes that are read or written, the rows that are written or read, an array of them, the room for what rises at each unit
---     kinds, args, valss, tokens-of, machine     of a list of them, the lifetimes numbered on from j
+--     kinds, args, valss, tokens_of, machine     of a list of them, the lifetimes numbered on from j
 --     numbered         the same for the covered function: the number of the rows in place of the rows
 -- Assumes nothing, but for the laws `typed`, which take `Logic`.
 use mathlib.Core.Path.{refl}

@@ -1,6 +1,6 @@
 -- The first so many of 40 rows are lent: what comes of an event is what comes of it with all of them, and the rows behind are as they were. Assumes nothing.
 --     many, whole        as many are lent as are said, and with those behind they are 40
---     loads-few, arrives-few, ..     what the entry point leaves, of the rows that are lent, is what `owned` ensures, of all of them.        hands-few, counts-few     and what a hand leaves, which changes none; what a count answers
+--     loads_few, arrives_few, ..     what the entry point leaves, of the rows that are lent, is what `owned` ensures, of all of them.        hands_few, counts_few     and what a hand leaves, which changes none; what a count answers
 use Prim.Native.Nat.{ℕ, zero, suc, ◌*◌, ◌≤◌, ◌<◌, min}
 use native.Mathlib.Omega.{arith}
 use mathlib.Core.Path.{◌≡◌, refl, sym, ap, subst, ◌∙◌}

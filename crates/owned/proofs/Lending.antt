@@ -1,5 +1,5 @@
 -- What the walks of `owned` share: the first so many of 40 rows in a local array are lent to an entry point, and the array is whole again afterwards.
---     to_write, to_read     how they are lent and come back, as a `&mut` slice and as a `&` one.        lends-to     the call of an entry point with them
+--     to_write, to_read     how they are lent and come back, as a `&mut` slice and as a `&` one.        lends_to     the call of an entry point with them
 --     withins, joins     the other two calls
 -- Assumes `Logic`, and that the table of calls is monotone under a frame.
 pub use Rattle.entry.proofs.Walking.{◌≡◌, refl, none, ℕ, List, [], ◌∷◌, ◌++◌, length, Ura, full_share, named, imm, mut, w8, w64, ty_ref, Val, vint, vptr, SProp, ent, emp, id⊢, via, fst∗, Lft, Share, Memory, Routine, Heap, Env, WpFn, Tables, Atoms, Fun, tables, Item, ‵, raw, runs, at_ret, Sq, ◌$◌, ◌∵◌, !, qed, by, move, look, init, stop, hop, fld, from, load, addr, of_opd, and_then, no_more, assigns, land, returns, enter, alloc1, alloc0, params1, pass1, pass0, agg, whole, sub, look_in, fm_of, owns, Is, u8, usize, slice_ty, shr_slice_vals, mut_slice_vals, mut_slice_Tells, shr_slice_Tells, shr_vals, mut_vals, mut_Tells, shr_Tells, uint_vals, uint_Tells, on_entry, Meets, triple_of, Contract, Triple, entered, cited}
