@@ -1,3 +1,4 @@
 pub mod Bits
+pub mod Calling
 pub mod Placed
 pub mod Told
