@@ -1,7 +1,8 @@
 // What the programs read and write: bytes in and out, and what failed, said on standard error as C says it.
 #![tactic(auto)]
 
-ghost use Rattle.std.specs.Prelude.{◌≤◌, length, IfSome};
+ghost use Rattle.std.specs.Prelude.{◌≡◌, ◌<◌, ◌≤◌, length, take, IfSome, MatchOption};
+ghost use Rattle.std.specs.Io.KnownBytes.{Keeps, Consumes, IsAtEnd};
 
 use std::env::Env;
 use std::io;
@@ -35,13 +36,15 @@ pub fn put(rt: &(impl Print + Eprint + Alloc), bytes: &[u8]) -> bool {
 }
 
 // One read: how many bytes came to the front of the buffer, none at the end of the input. Where it fails that is said, and there is no number.
-pub fn get(
+pub fn get<R: Read>(
     rt: &(impl Eprint + Alloc),
-    from: &mut impl Read,
+    from: &mut R,
     what: &str,
     buffer: &mut [u8],
 ) -> Option<usize>
-    ensures { IfSome result (λ n. n ≤ length buffer.new) }
+    ensures in_bounds { IfSome result (λ n. n ≤ length buffer.new) }
+    ensures bytes { MatchOption result (Keeps (R.remaining from.old) (R.remaining from.new)) (λ n. Consumes (R.remaining from.old) (R.remaining from.new) (take n buffer.new)) }
+    ensures end { IfSome result (λ n. n ≡ 0 → 0 < length buffer.new → IsAtEnd (R.remaining from.new)) }
 {
     match from.read(buffer) {
         Ok(n) => Some(n),
