@@ -31,7 +31,7 @@ use Rattle.running.specs.Events.{count_said}
 use Rattle.running.specs.Lent.{does}
 use Rattle.running.specs.EntryContracts.{EntrySays, EntryAsksNothing, EntryMeets, Steps, Only, Determined}
 
--- by computing, each entry point's `ensures` is what `running: Contracts` writes out
+-- by computing, each entry point's `ensures` is what `running: EntryContracts` writes out
 pub entry_says : EntrySays
 entry_says M 𝓤 𝓛 mem run =
     record {
