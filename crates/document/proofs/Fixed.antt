@@ -1,4 +1,5 @@
 -- What no event changes: the lines, and the settings and limits of the units. Assumes nothing.
+use Rattle.std.specs.Prelude.{None, Some}
 use Prim.Native.Nat.{ℕ}
 use native.Mathlib.Omega.{arith}
 use mathlib.Core.Path.{◌≡◌, refl, sym, ap, ◌∙◌}
@@ -13,8 +14,6 @@ use Rattle.outlet.specs.declared.Limits.{Limits}
 use Rattle.outlet.specs.declared.Leaving as L
 use Rattle.outlet.specs.declared.Leaving.TheVariants as leaves
 use Rattle.shelf.specs.declared.Settings.{Settings}
-use Rattle.shelf.specs.declared.Found as F
-use Rattle.shelf.specs.declared.Found.TheVariants as found
 use Rattle.line.specs.declared.Line.{Line}
 use Rattle.answer.specs.declared.Hearing as H
 use Rattle.answer.specs.declared.Hearing.TheVariants as hearing
@@ -91,10 +90,10 @@ sent_one (some s) d place buffer e =
     all_kept d.lines (set d.units place s.left) s.cell
     ∙ map-set_same given_of d.units place s.left blank (left_kept _ _ _ (unit_at d place) s e)
 
-pub sent_kept : (f : F.Found) (d : Shelf) (buffer : List ℕ) → map given_of (sends f d buffer).units ≡ given d
+pub sent_kept : (f : Option ℕ) (d : Shelf) (buffer : List ℕ) → map given_of (sends f d buffer).units ≡ given d
 unfolding sends
-sent_kept (found.At place) d buffer = sent_one (sending_of (unit_at d place)) d place buffer refl
-sent_kept found.Nothing d buffer = refl
+sent_kept (Some place) d buffer = sent_one (sending_of (unit_at d place)) d place buffer refl
+sent_kept None d buffer = refl
 
 -- a whole frame
 pub framed_kept : (d : Shelf) (buffer : List ℕ) → given (framed d buffer) ≡ given d
@@ -123,11 +122,11 @@ collected_from [] d place buffer = refl
 collected_from (c ∷ rest) d place buffer = map-set_same given_of d.units place _ blank refl
 
 -- an event at a unit
-at_unit : (P : Step → Type 0) (f : F.Found) (right : Bool) (inside outside : ℕ → Step) → ((place : ℕ) → P (inside place)) → ((number : ℕ) → P (outside number)) → P (admitted f right inside outside)
+at_unit : (P : Step → Type 0) (f : Option ℕ) (right : Bool) (inside outside : ℕ → Step) → ((place : ℕ) → P (inside place)) → ((number : ℕ) → P (outside number)) → P (admitted f right inside outside)
 unfolding admitted
-at_unit P (found.At place) true inside outside h k = h place
-at_unit P (found.At place) false inside outside h k = k 10
-at_unit P found.Nothing right inside outside h k = k 9
+at_unit P (Some place) true inside outside h k = h place
+at_unit P (Some place) false inside outside h k = k 10
+at_unit P None right inside outside h k = k 9
 
 -- a frame: let in, or refused
 either_way : (P : Step → Type 0) (b : Bool) (x y : Step) → P x → P y → P (cond b x y)

@@ -1,5 +1,5 @@
 -- 01's Frame, with 02's moves before it and 02's order of sending. Assumes nothing.
-use Rattle.std.specs.Prelude.{ℕ, ◌+◌, ◌%◌, ◌^◌, Bool, false, ◌||◌, List, [], ◌∷◌, ◌++◌, map, drop, set, replicate}
+use Rattle.std.specs.Prelude.{ℕ, ◌+◌, ◌%◌, ◌^◌, Bool, false, ◌||◌, List, [], ◌∷◌, ◌++◌, map, drop, set, replicate, None, Some}
 use Rattle.std.proofs.Math.Option.{Option, none, some}
 use Rattle.octets.specs.Octets.{part}
 use Rattle.bus.specs.Routing.{routing}
@@ -8,8 +8,6 @@ use Rattle.bus.specs.Heard as frame
 use Rattle.arbiter.specs.Arbitration.{asks_now, renewed, granted_by}
 use Rattle.arbiter.specs.declared.Arbiter.{Arbiter}
 use Rattle.arbiter.specs.declared.Granted.{Granted}
-use Rattle.shelf.specs.declared.Found as F
-use Rattle.shelf.specs.declared.Found.TheVariants.{At, Nothing}
 use Rattle.line.specs.declared.Line.{Line}
 use Rattle.answer.specs.declared.Answer.TheVariants.{Framed}
 use Rattle.answer.specs.declared.Answer as N
@@ -143,9 +141,9 @@ sends_one (some s) shelf place buffer =
       happened = entries (number_of (unit_at shelf place)) (sent_counts (some_addressed shelf.lines us s.cell)) ++ heard_entries shelf.lines us s.cell;
     }
 
-unfoldable pub sends : F.Found → Shelf → List ℕ → Sent
-sends (At place) shelf buffer = sends_one (sending_of (unit_at shelf place)) shelf place buffer
-sends Nothing shelf buffer = idle shelf buffer
+unfoldable pub sends : Option ℕ → Shelf → List ℕ → Sent
+sends (Some place) shelf buffer = sends_one (sending_of (unit_at shelf place)) shelf place buffer
+sends None shelf buffer = idle shelf buffer
 
 abbrev pub sent_in : Shelf → List ℕ → Sent
 sent_in shelf buffer = sends (find_in shelf.units shelf.granted) shelf buffer

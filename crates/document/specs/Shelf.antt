@@ -1,5 +1,5 @@
 -- The document's shelf: the table as its lines, inlets and outlets as lists of cells, requests and grants by unit number. Assumes nothing.
-use Rattle.std.specs.Prelude.{ℕ, ◌+◌, false, List, [], ◌∷◌, ◌++◌, map, length, get_or, set}
+use Rattle.std.specs.Prelude.{ℕ, ◌+◌, false, List, [], ◌∷◌, ◌++◌, map, length, get_or, set, Option}
 use Rattle.header.specs.declared.Link.TheVariants.{Uni}
 use Rattle.bus.specs.declared.Target.{Target}
 use Rattle.outlet.specs.declared.Limits.{Limits}
@@ -8,7 +8,6 @@ use Rattle.arbiter.specs.Arbitration.{nobody, fresh}
 use Rattle.arbiter.specs.declared.Arbiter.{Arbiter}
 use Rattle.shelf.specs.Shelves.{place_from}
 use Rattle.shelf.specs.declared.Settings.{Settings}
-use Rattle.shelf.specs.declared.Found.{Found}
 use Rattle.line.specs.declared.Line.{Line}
 use Rattle.line.specs.declared.Line.TheVariants.{Bus, Unit as L-as-Unit, Vp, Drop, Page, Vc, Mc}
 use Rattle.document.specs.Counters.{Entry}
@@ -101,7 +100,7 @@ abbrev pub empty_side : Side
 empty_side = record { controlin = []; loopbackin = []; controlout = []; loopbackout = [] }
 
 -- the place of the unit with a number, and the unit in a place
-abbrev pub find_in : List Unit → ℕ → Found
+abbrev pub find_in : List Unit → ℕ → Option ℕ
 find_in us number = place_from 0 (map number_of us) number
 
 abbrev pub blank : Unit

@@ -1,8 +1,6 @@
 -- One event on the document's shelf, and one after the other. Assumes nothing.
-use Rattle.std.specs.Prelude.{ℕ, Bool, true, cond, List, [], ◌∷◌, eqb, length}
+use Rattle.std.specs.Prelude.{ℕ, Bool, true, cond, List, [], ◌∷◌, eqb, length, None, Option, Some}
 use Rattle.bus.specs.Frame.{heard}
-use Rattle.shelf.specs.declared.Found as F
-use Rattle.shelf.specs.declared.Found.TheVariants.{At, Nothing}
 use Rattle.answer.specs.declared.Answer.TheVariants.{Refused, Arrived, Heard}
 use Rattle.document.specs.Events.{Event, arrive, frame, hear, take_cell, count, hand, collect, Said, answers, counts, Back}
 use Rattle.document.specs.Counters.{counters_of}
@@ -27,9 +25,9 @@ abbrev pub refused : Shelf → ℕ → List ℕ → Step
 refused shelf number bytes = step (answers (Refused number)) shelf bytes
 
 -- "9 Unit: unit not declared", "10 Length: cell slice or buffer not 53 bytes, frame not 57"
-unfoldable pub admitted : F.Found → Bool → (ℕ → Step) → (ℕ → Step) → Step
-admitted (At place) right inside outside = cond right (inside place) (outside 10)
-admitted Nothing right inside outside = outside 9
+unfoldable pub admitted : Option ℕ → Bool → (ℕ → Step) → (ℕ → Step) → Step
+admitted (Some place) right inside outside = cond right (inside place) (outside 10)
+admitted None right inside outside = outside 9
 
 abbrev pub took_step : Took → Step
 took_step t = step (answers t.answer) t.shelf t.bytes

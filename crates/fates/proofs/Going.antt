@@ -1,4 +1,5 @@
 -- Frames go on. Assumes nothing.
+use Rattle.std.specs.Prelude.{None, Option, Some}
 use Prim.Native.Nat.{ℕ, zero, suc, ◌+◌, ◌-◌, ◌%◌, ◌^◌, ◌<◌, ◌≤◌}
 use native.Mathlib.Omega.{arith}
 use mathlib.Core.Path.{◌≡◌, refl, sym, ap, subst, ◌∙◌}
@@ -16,8 +17,6 @@ use Rattle.arbiter.proofs.Requests.{renewed_many, renewed_at, asks_with, asks_wi
 use Rattle.arbiter.proofs.Grants.{not_granted, grants_if_asked, granted_highest, granted_first, granted_changes}
 use Rattle.store.proofs.Slots.{by_lt}
 use Rattle.shelf.specs.Shelves.{place_from}
-use Rattle.shelf.specs.declared.Found as F
-use Rattle.shelf.specs.declared.Found.TheVariants as found
 use Rattle.line.specs.declared.Line.{Line}
 use Rattle.meaning.proofs.Grown.{decide}
 use Rattle.answer.specs.declared.Answer.TheVariants.{Framed}
@@ -157,18 +156,18 @@ waits_in d b some = let w = b.grant some in record { place = w.place; declared =
 
 module _ (d : D.Shelf) (s : Stands d) where
   -- the unit with the open grant is found
-  pub open_grant : (some : d.granted ≡ nobody → ⊥) → D.find_in d.units d.granted ≡ found.At (waits_in d s.backed some).place
+  pub open_grant : (some : d.granted ≡ nobody → ⊥) → D.find_in d.units d.granted ≡ Some (waits_in d s.backed some).place
   open_grant some =
       let w = waits_in d s.backed some in
       ap (D.find_in d.units) (sym w.named) ∙ found_here d.units s.once w.place w.declared
 
   -- no unit is nobody
-  nobody_found : D.find_in (moved d).units nobody ≡ found.Nothing
+  nobody_found : D.find_in (moved d).units nobody ≡ None
   nobody_found = ap (λ l. place_from 0 l nobody) (numbers_moved d.units) ∙ go (D.find_in d.units nobody) refl
     where
-      go : (f : F.Found) → D.find_in d.units nobody ≡ f → f ≡ found.Nothing
-      go found.Nothing e = refl
-      go (found.At i) e =
+      go : (f : Option ℕ) → D.find_in d.units nobody ≡ f → f ≡ None
+      go None e = refl
+      go (Some i) e =
           let at = found_at d.units nobody i e in
           let n = at.1 in
           absurd (omega (arith, (s.units i at.0).below))
@@ -180,7 +179,7 @@ module _ (d : D.Shelf) (s : Stands d) where
       let u = D.unit_at d w.place in
       in_turn_one (moved_unit u) (omega (arith, w.cell, waits_moved u))
 
-  module _ (buffer : List ℕ) (whole : length buffer ≡ 57) (w : Waits d d.granted) (there : D.find_in d.units d.granted ≡ found.At w.place) (f : From) (turn : InTurn (moved_unit (D.unit_at d w.place)) f) where
+  module _ (buffer : List ℕ) (whole : length buffer ≡ 57) (w : Waits d d.granted) (there : D.find_in d.units d.granted ≡ Some w.place) (f : From) (turn : InTurn (moved_unit (D.unit_at d w.place)) f) where
     -- what is left when that cell has been on the bus
     pub sent_is : sent_in (moved d) buffer ≡ sends_one (O.some (record { cell = cell_of f; left = without f (D.unit_at (moved d) w.place) })) (moved d) w.place buffer
     unfolding sends as_sending

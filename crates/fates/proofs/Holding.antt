@@ -1,4 +1,5 @@
 -- A cell that is said to be queued is held. Assumes nothing.
+use Rattle.std.specs.Prelude.{Some}
 use Prim.Native.Nat.{ℕ, ◌<◌}
 use native.Mathlib.Omega.{arith}
 use mathlib.Core.Path.{◌≡◌, refl, sym, ap, subst, ◌∙◌}
@@ -18,7 +19,6 @@ use Rattle.bus.specs.Heard as sort
 use Rattle.outlet.specs.Hearing.{queue_of}
 use Rattle.outlet.proofs.Fates.{queue_lt}
 use Rattle.shelf.specs.Shelves.{place_from}
-use Rattle.shelf.specs.declared.Found.TheVariants as found
 use Rattle.line.specs.declared.Line.{Line}
 use Rattle.meaning.proofs.Grown.{decide}
 use Rattle.meaning.specs.Served.{Serving, by_vp, by_drop, by_vc}
@@ -222,12 +222,12 @@ is_chosen u (from_control c rest) e = λ t. chosen (e.0 t) (e.1 t) u.side.loopba
 is_chosen u (from_loopback c rest) e = λ t. chosen (e.0 t) (e.1 t) (e.2 t)
 
 -- the unit with the open grant stands where it stood when the cells have moved
-pub found_moved : (d : Shelf) (n place : ℕ) → find_in d.units n ≡ found.At place → find_in (moved d).units n ≡ found.At place
+pub found_moved : (d : Shelf) (n place : ℕ) → find_in d.units n ≡ Some place → find_in (moved d).units n ≡ Some place
 found_moved d n place there = ap (λ l. place_from 0 l n) (numbers_moved d.units) ∙ there
 
 -- 4. the events
 module _ (d : Shelf) (fours : (j : ℕ) → length (unit_at d j).queues ≡ 4) where
-  arrives : (unit place : ℕ) (c : List ℕ) → find_in d.units unit ≡ found.At place → length c ≡ 53 →
+  arrives : (unit place : ℕ) (c : List ℕ) → find_in d.units unit ≡ Some place → length c ≡ 53 →
       ArrivalHeld d.lines (unit_at d place) c (unit_after d (arrive unit c) place) × Others d (arrive unit c) place
   unfolding happens_to admitted arrived
   arrives unit place c there whole =
@@ -239,7 +239,7 @@ module _ (d : Shelf) (fours : (j : ℕ) → length (unit_at d j).queues ≡ 4) w
       )
 
   -- a frame handed in
-  hears_one : (unit place : ℕ) (f : List ℕ) → find_in d.units unit ≡ found.At place → length f ≡ 57 →
+  hears_one : (unit place : ℕ) (f : List ℕ) → find_in d.units unit ≡ Some place → length f ≡ 57 →
       CopyHeld d.lines (unit_at d place) (as_handed f) (unit_after d (hear unit f) place)
       × SameInlets (unit_at d place) (unit_after d (hear unit f) place)
       × Others d (hear unit f) place
@@ -255,7 +255,7 @@ module _ (d : Shelf) (fours : (j : ℕ) → length (unit_at d j).queues ≡ 4) w
       )
 
   -- a cell handed in, by what stands in its place
-  hands_in : (unit place : ℕ) (c : List ℕ) → find_in d.units unit ≡ found.At place → length c ≡ 56 →
+  hands_in : (unit place : ℕ) (c : List ℕ) → find_in d.units unit ≡ Some place → length c ≡ 56 →
       HandHeld (unit_at d place) c (happens_to d (hand unit c)).said (unit_after d (hand unit c) place) × Others d (hand unit c) place
   unfolding happens_to admitted hands_into
   hands_in unit place c there whole = rw (there, eq-eqb (length c) 56 whole) (go (unit_at d place).side.controlin refl)
@@ -285,7 +285,7 @@ module _ (d : Shelf) (fours : (j : ℕ) → length (unit_at d j).queues ≡ 4) w
       )
 
   -- a cell collected, by what stands in the outlet
-  collects_one : (unit place : ℕ) (buffer : List ℕ) → find_in d.units unit ≡ found.At place → length buffer ≡ 56 →
+  collects_one : (unit place : ℕ) (buffer : List ℕ) → find_in d.units unit ≡ Some place → length buffer ≡ 56 →
       CollectHeld (unit_at d place) buffer (happens_to d (collect unit buffer)).said (happens_to d (collect unit buffer)).bytes (unit_after d (collect unit buffer) place)
       × Others d (collect unit buffer) place
   unfolding happens_to admitted collects_from
@@ -310,7 +310,7 @@ module _ (d : Shelf) (fours : (j : ℕ) → length (unit_at d j).queues ≡ 4) w
           )
 
   -- a frame on the bus: what each unit does in it
-  module _ (buffer : List ℕ) (place : ℕ) (f : From) (whole : length buffer ≡ 57) (there : find_in d.units d.granted ≡ found.At place) (turn : InTurn (moved_unit (unit_at d place)) f) where
+  module _ (buffer : List ℕ) (place : ℕ) (f : From) (whole : length buffer ≡ 57) (there : find_in d.units d.granted ≡ Some place) (turn : InTurn (moved_unit (unit_at d place)) f) where
     pub part_is : (j : ℕ) → part_of d (frame buffer) j ≡ moves (cond (eqb j place) (sends f) (hears (cell_of f)))
     unfolding part_of sending_by sending
     part_is j =

@@ -1,4 +1,5 @@
 -- An event at a unit leaves everything else alone. Assumes nothing.
+use Rattle.std.specs.Prelude.{None, Some}
 use Prim.Native.Nat.{ℕ, ◌+◌, ◌≤◌, ◌<◌}
 use native.Mathlib.Omega.{arith}
 use mathlib.Core.Path.{◌≡◌, refl, sym, ap, subst, ◌∙◌}
@@ -19,7 +20,6 @@ use Rattle.store.specs.Rings.{tail, pushed}
 use Rattle.store.proofs.Slots.{by_lt}
 use Rattle.outlet.specs.Outlets.{queue, capacity}
 use Rattle.shelf.specs.Shelves.{declared, blank, find_in, is_at}
-use Rattle.shelf.specs.declared.Found.TheVariants as found
 use Rattle.shelf.specs.declared.Unit as U
 use Rattle.shelf.specs.Shelf.{Shelf}
 use Rattle.outlet.specs.Taking.{leaving}
@@ -160,7 +160,7 @@ only_none w i = no_unit_lem w i w.rows (no_row w.rows i) w.store (as_was i w.sto
 -- where the unit is found only its place has changed, and nothing where it is not
 abbrev Alone : World → ℕ → World → Type 0
 Alone w unit after =
-    ((place : ℕ) → find_in (declared w.shelf) unit ≡ found.At place → OnlyAt place w after) × (find_in (declared w.shelf) unit ≡ found.Nothing → after ≡ w)
+    ((place : ℕ) → find_in (declared w.shelf) unit ≡ Some place → OnlyAt place w after) × (find_in (declared w.shelf) unit ≡ None → after ≡ w)
 
 -- an event at a unit: refused, or let in at the place where the unit is found
 module _ (card : Card) (w : World) (unit : ℕ) (right : Bool) (out : A.Admitted → World) where
@@ -170,7 +170,7 @@ module _ (card : Card) (w : World) (unit : ℕ) (right : Bool) (out : A.Admitted
   -- let in at its place
   at_place : ((number : ℕ) → out (Refused number) ≡ w) →
       ((i : ℕ) → Housed i (unit_at w.shelf i) (length w.store) → right ≡ true → OnlyAt i w (out (At i))) →
-      (place : ℕ) → find_in (declared w.shelf) unit ≡ found.At place → OnlyAt place w (out way)
+      (place : ℕ) → find_in (declared w.shelf) unit ≡ Some place → OnlyAt place w (out way)
   at_place refusal let_in place there = go way refl
     where
       go : (a : A.Admitted) → way ≡ a → OnlyAt place w (out a)
@@ -183,7 +183,7 @@ module _ (card : Card) (w : World) (unit : ℕ) (right : Bool) (out : A.Admitted
           (let_in i (let_in_housed card w.shelf (length w.store) (length w.rows) unit right i l).0 l.fits)
 
   -- not declared
-  nowhere : ((number : ℕ) → out (Refused number) ≡ w) → find_in (declared w.shelf) unit ≡ found.Nothing → out way ≡ w
+  nowhere : ((number : ℕ) → out (Refused number) ≡ w) → find_in (declared w.shelf) unit ≡ None → out way ≡ w
   nowhere refusal missing = go way refl
     where
       go : (a : A.Admitted) → way ≡ a → out a ≡ w
@@ -329,10 +329,10 @@ module _ (card : Card) (l : Lent) (long : Long l) where
   abbrev r : ℕ
   r = length l.rows
 
-  same_place : (unit n : ℕ) (right : Bool) (i place : ℕ) → some unit ≡ some n → find_in (declared (shelf_in b)) n ≡ found.At place → admitted_in card b s r unit right ≡ At i → i ≡ place
+  same_place : (unit n : ℕ) (right : Bool) (i place : ℕ) → some unit ≡ some n → find_in (declared (shelf_in b)) n ≡ Some place → admitted_in card b s r unit right ≡ At i → i ≡ place
   same_place unit n right i place e there way = let f = (in_place card b s r unit right i way).let_in.found in let m : unit ≡ n = cc in cc
 
-  rings : (e : Event) (n : ℕ) → named e ≡ some n → (place : ℕ) → find_in (declared (shelf_in b)) n ≡ found.At place → OnlyRings place b (does card l e).lent.state
+  rings : (e : Event) (n : ℕ) → named e ≡ some n → (place : ℕ) → find_in (declared (shelf_in b)) n ≡ Some place → OnlyRings place b (does card l e).lent.state
   unfolding named does
   rings (arrive unit c) n e place there k apart =
       arrive_other card b l.memory s r unit c long k (λ i way p q x. apart (inl (p, q)) (x ∙ same_place unit n (eqb (length c) 53) i place e there way))
@@ -349,7 +349,7 @@ module _ (card : Card) (l : Lent) (long : Long l) where
   rings (count unit) n e place there k apart = refl
 
 -- a unit that is not declared
-strange : (shelf : Shelf) (e : Event) (n : ℕ) → named e ≡ some n → find_in (declared shelf) n ≡ found.Nothing → known shelf e ≡ false
+strange : (shelf : Shelf) (e : Event) (n : ℕ) → named e ≡ some n → find_in (declared shelf) n ≡ None → known shelf e ≡ false
 unfolding named known
 strange shelf (arrive unit c) n e missing = let m : unit ≡ n = cc in ap (λ x. is_at (find_in (declared shelf) x)) m ∙ ap is_at missing
 strange shelf (frame buffer) n e missing = let z : ◌≡◌ {A = ℕ} 0 1 = cc in absurd (omega arith)
@@ -369,8 +369,8 @@ isolation card l e n long names = by (formed_all l.state) refl
   where
     Apart : Lent → Type 0
     Apart after =
-        ((place : ℕ) → find_in (declared (seen l).shelf) n ≡ found.At place → OnlyAt place (seen l) (seen after) × OnlyRings place l.state after.state)
-        × (find_in (declared (seen l).shelf) n ≡ found.Nothing → after ≡ l)
+        ((place : ℕ) → find_in (declared (seen l).shelf) n ≡ Some place → OnlyAt place (seen l) (seen after) × OnlyRings place l.state after.state)
+        × (find_in (declared (seen l).shelf) n ≡ None → after ≡ l)
 
     by : (t : Bool) → formed_all l.state ≡ t → Apart (does card l e).lent
     by true f =

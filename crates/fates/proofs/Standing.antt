@@ -1,4 +1,5 @@
 -- What holds of the document's shelf from a good load on, as these proofs need it. Assumes nothing.
+use Rattle.std.specs.Prelude.{None, Option, Some}
 use Prim.Native.Nat.{ℕ, ◌<◌, ◌≤◌}
 use mathlib.Core.Path.{◌≡◌, refl, sym, subst, ◌∙◌}
 use mathlib.Core.Logic.{◌⊎◌}
@@ -10,8 +11,6 @@ use Rattle.bus.specs.Frame.{heard}
 use Rattle.arbiter.proofs.Requests.{renewed_many}
 use Rattle.arbiter.specs.declared.Arbiter.{Arbiter}
 use Rattle.arbiter.proofs.Grants.{granted_length}
-use Rattle.shelf.specs.declared.Found as F
-use Rattle.shelf.specs.declared.Found.TheVariants as found
 use Rattle.outlet.specs.declared.Leaving as L
 use Rattle.outlet.specs.declared.Leaving.TheVariants as leaves
 use Rattle.document.specs.Events.{Event, arrive, frame, hear, take_cell, count, hand, collect}
@@ -27,11 +26,11 @@ use Rattle.flow.proofs.Senders.{Backed}
 
 -- there are three last units granted and 32 requests, for ever
 module _ (P : document.Step → Type 0) where
-  pub at_unit : (f : F.Found) (right : Bool) (inside outside : ℕ → document.Step) → ((place : ℕ) → P (inside place)) → ((number : ℕ) → P (outside number)) → P (document.admitted f right inside outside)
+  pub at_unit : (f : Option ℕ) (right : Bool) (inside outside : ℕ → document.Step) → ((place : ℕ) → P (inside place)) → ((number : ℕ) → P (outside number)) → P (document.admitted f right inside outside)
   unfolding document.admitted
-  at_unit (found.At place) true inside outside h k = h place
-  at_unit (found.At place) false inside outside h k = k 10
-  at_unit found.Nothing right inside outside h k = k 9
+  at_unit (Some place) true inside outside h k = h place
+  at_unit (Some place) false inside outside h k = k 10
+  at_unit None right inside outside h k = k 9
 
   -- a frame is let in or refused
   either_way : (b : Bool) (x y : document.Step) → P x → P y → P (cond b x y)

@@ -1,6 +1,6 @@
 -- "Each arriving cell meets exactly one fate, each copy on the bus meets exactly one fate at each unit it addresses": each fate as a fact in document
 -- 01's words, on the document's shelf. Assumes nothing.
-use Rattle.std.specs.Prelude.{ℕ, ◌<◌, ◌≤◌, ◌≡◌, ◌↔◌, ◌⊎◌, length, get_or}
+use Rattle.std.specs.Prelude.{ℕ, ◌<◌, ◌≤◌, ◌≡◌, ◌↔◌, ◌⊎◌, length, get_or, Some}
 use mathlib.Core.List.{List, ◌++◌, Memᴰ as In}
 use Rattle.std.proofs.Math.Option.{Option, none, some}
 use Rattle.octets.specs.Octets.{four}
@@ -12,7 +12,6 @@ use Rattle.bus.specs.Frame.{heard}
 use Rattle.bus.specs.Heard as frame
 use Rattle.outlet.specs.Outlets.{capacity}
 use Rattle.outlet.specs.Hearing.{queue_of, limit, bus_clp, TooWide}
-use Rattle.shelf.specs.declared.Found.TheVariants.{At}
 use Rattle.line.specs.declared.Line.{Line}
 use Rattle.line.specs.declared.Line.TheVariants.{Vp, Drop, Vc, Mc}
 use Rattle.meaning.specs.Served.{Serving, by_vp, by_drop, by_vc, served}
@@ -143,7 +142,7 @@ pub record Tells (shelf : Shelf) (place : ℕ) (e : Event) (said : Said) (counte
 
 abbrev pub FateCounted : Type 0
 FateCounted =
-    (shelf : Shelf) (unit place : ℕ) → find_in shelf.units unit ≡ At place →
+    (shelf : Shelf) (unit place : ℕ) → find_in shelf.units unit ≡ Some place →
     ((c : List ℕ) → length c ≡ 53 → (fate : A.Arrival) → ArrivalIs shelf.lines (unit_at shelf place) c fate →
     Tells shelf place (arrive unit c) (answers (Arrived fate)) (arrival_counts fate))
     × ((f : List ℕ) → length f ≡ 57 → (fate : Q.Hearing) → HearingIs shelf.lines (unit_at shelf place) (heard f) fate →

@@ -1,8 +1,7 @@
 -- Frames go on: loopback cells move, who asks is granted in its turn, who is granted sends. Assumes nothing.
-use Rattle.std.specs.Prelude.{ℕ, ◌+◌, ◌%◌, ◌^◌, ◌<◌, ◌≤◌, ◌≡◌, ◌↔◌, List, [], ◌∷◌, ◌++◌, map, eqb, length, get_or}
+use Rattle.std.specs.Prelude.{ℕ, ◌+◌, ◌%◌, ◌^◌, ◌<◌, ◌≤◌, ◌≡◌, ◌↔◌, List, [], ◌∷◌, ◌++◌, map, eqb, length, get_or, Some}
 use Rattle.arbiter.specs.Arbitration.{nobody, besides, cyclic, last_at, Asks, FirstOf, Changed}
 use Rattle.arbiter.specs.declared.Grant.{Grant}
-use Rattle.shelf.specs.declared.Found.TheVariants.{At}
 use Rattle.line.specs.declared.Line.{Line}
 use Rattle.answer.specs.declared.Answer.TheVariants.{Framed}
 use Rattle.document.specs.Events.{frame, answers}
@@ -71,7 +70,7 @@ moving_all (u ∷ us) = moving u ++ moving_all us
 -- many cells the outlets have grown, but for those that have moved from there
 pub record SendsOldest (d : Shelf) (buffer : List ℕ) : Type 0 where
   pub sender : Waits d d.granted
-  pub found : find_in d.units d.granted ≡ At sender.place
+  pub found : find_in d.units d.granted ≡ Some sender.place
   pub from : From
   pub oldest : InTurn (moved_unit (unit_at d sender.place)) from
   pub copies : ℕ

@@ -1,11 +1,10 @@
 -- A cell that is said to be queued is held, that cell and nothing else, and no other cell is. Assumes nothing.
-use Rattle.std.specs.Prelude.{ℕ, ◌<◌, ◌≡◌, ◌↔◌, ◌≢◌, List, [], ◌∷◌, ◌++◌, length}
+use Rattle.std.specs.Prelude.{ℕ, ◌<◌, ◌≡◌, ◌↔◌, ◌≢◌, List, [], ◌∷◌, ◌++◌, length, Some}
 use Rattle.std.proofs.Math.Option.{Option, none, some}
 use Rattle.octets.specs.Octets.{part}
 use Rattle.header.specs.declared.Header as H
 use Rattle.bus.specs.Heard as sort
 use Rattle.outlet.specs.Hearing.{queue_of}
-use Rattle.shelf.specs.declared.Found.TheVariants.{At}
 use Rattle.line.specs.declared.Line.{Line}
 use Rattle.meaning.specs.Served.{Serving, by_vp, by_drop, by_vc}
 use Rattle.answer.specs.declared.Arrival.TheVariants as arrival
@@ -90,20 +89,20 @@ Others d e place = (j : ℕ) → j ≢ place → unit_after d e j ≡ unit_at d 
 
 -- arrive, hear, hand and collect at the unit in a place; and a frame at each unit that hears it, once its loopback cell has moved: the sender too, which is without the cell that it sent
 pub record Holds (d : Shelf) : Type 0 where
-  pub arrived : (unit place : ℕ) (c : List ℕ) → find_in d.units unit ≡ At place → length c ≡ 53 →
+  pub arrived : (unit place : ℕ) (c : List ℕ) → find_in d.units unit ≡ Some place → length c ≡ 53 →
       ArrivalHeld d.lines (unit_at d place) c (unit_after d (arrive unit c) place) × Others d (arrive unit c) place
-  pub heard_one : (unit place : ℕ) (f : List ℕ) → find_in d.units unit ≡ At place → length f ≡ 57 →
+  pub heard_one : (unit place : ℕ) (f : List ℕ) → find_in d.units unit ≡ Some place → length f ≡ 57 →
       CopyHeld d.lines (unit_at d place) (as_handed f) (unit_after d (hear unit f) place)
       × SameInlets (unit_at d place) (unit_after d (hear unit f) place)
       × Others d (hear unit f) place
-  pub heard_all : (buffer : List ℕ) (place : ℕ) (from : From) → length buffer ≡ 57 → find_in d.units d.granted ≡ At place →
+  pub heard_all : (buffer : List ℕ) (place : ℕ) (from : From) → length buffer ≡ 57 → find_in d.units d.granted ≡ Some place →
       InTurn (moved_unit (unit_at d place)) from → (j : ℕ) → j < length d.units →
       CopyHeld d.lines (moved_unit (unit_at d j)) (cell_of from) (unit_after d (frame buffer) j)
       × (j ≢ place → SameInlets (moved_unit (unit_at d j)) (unit_after d (frame buffer) j))
       × (j ≡ place → SameInlets (without from (moved_unit (unit_at d j))) (unit_after d (frame buffer) j))
-  pub handed : (unit place : ℕ) (c : List ℕ) → find_in d.units unit ≡ At place → length c ≡ 56 →
+  pub handed : (unit place : ℕ) (c : List ℕ) → find_in d.units unit ≡ Some place → length c ≡ 56 →
       HandHeld (unit_at d place) c (happens_to d (hand unit c)).said (unit_after d (hand unit c) place) × Others d (hand unit c) place
-  pub collected : (unit place : ℕ) (buffer : List ℕ) → find_in d.units unit ≡ At place → length buffer ≡ 56 →
+  pub collected : (unit place : ℕ) (buffer : List ℕ) → find_in d.units unit ≡ Some place → length buffer ≡ 56 →
       CollectHeld (unit_at d place) buffer (happens_to d (collect unit buffer)).said (happens_to d (collect unit buffer)).bytes (unit_after d (collect unit buffer) place)
       × Others d (collect unit buffer) place
 

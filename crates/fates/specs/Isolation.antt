@@ -1,10 +1,9 @@
 -- An event at a unit leaves everything else alone. Assumes nothing.
-use Rattle.std.specs.Prelude.{ℕ, ◌+◌, ◌%◌, ◌<◌, ◌≤◌, ◌≡◌, ◌≢◌, ◌⊎◌, List, length, get_or}
+use Rattle.std.specs.Prelude.{ℕ, ◌+◌, ◌%◌, ◌<◌, ◌≤◌, ◌≡◌, ◌≢◌, ◌⊎◌, List, length, get_or, None, Some}
 use Rattle.std.proofs.Math.Option.{some}
 use Rattle.card.specs.declared.Card.{Card}
 use Rattle.store.specs.Places.{part_of}
 use Rattle.shelf.specs.Shelves.{declared, find_in}
-use Rattle.shelf.specs.declared.Found.TheVariants.{At, Nothing}
 use Rattle.answer.specs.Counting.{zeros}
 use Rattle.soundness.specs.Admission.{unit_at}
 use Rattle.document.specs.Events.{Event, named}
@@ -43,5 +42,5 @@ OnlyRings place before after = (k : ℕ) → (Rings k → k % 32 ≡ place → �
 abbrev pub Isolation : Type 0
 Isolation =
     (card : Card) (l : Lent) (e : Event) (unit : ℕ) → Long l → named e ≡ some unit →
-    ((place : ℕ) → find_in (declared (seen l).shelf) unit ≡ At place → OnlyAt place (seen l) (seen (does card l e).lent) × OnlyRings place l.state (does card l e).lent.state)
-    × (find_in (declared (seen l).shelf) unit ≡ Nothing → (does card l e).lent ≡ l)
+    ((place : ℕ) → find_in (declared (seen l).shelf) unit ≡ Some place → OnlyAt place (seen l) (seen (does card l e).lent) × OnlyRings place l.state (does card l e).lent.state)
+    × (find_in (declared (seen l).shelf) unit ≡ None → (does card l e).lent ≡ l)

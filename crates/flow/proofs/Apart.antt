@@ -1,4 +1,5 @@
 -- What is one unit's is no other's, and no cell goes out twice. Assumes nothing.
+use Rattle.std.specs.Prelude.{None, Option, Some}
 use Prim.Native.Nat.{ℕ, ◌+◌, ◌≤◌}
 use native.Mathlib.Omega.{arith}
 use mathlib.Core.Path.{◌≡◌, refl, ap, subst, ◌∙◌}
@@ -8,8 +9,6 @@ use mathlib.Core.Option.{some}
 use lib.Dec.{eqb, leb}
 use lib.ListN.{length}
 use borrow.Author.Tests.{eqb-true}
-use Rattle.shelf.specs.declared.Found as F
-use Rattle.shelf.specs.declared.Found.TheVariants.{At, Nothing}
 use Rattle.bus.specs.Heard as frames
 use Rattle.outlet.specs.Hearing.{queue_of}
 use Rattle.line.specs.declared.Line.{Line}
@@ -33,15 +32,15 @@ use Rattle.flow.proofs.Turns.{does, unit_by, same_address, number_without}
 use Rattle.flow.proofs.Kept.{number_at, in_order}
 
 -- a unit that is not named rests
-not_named : (d : Shelf) (unit i : ℕ) → (number_of (unit_at d i) ≡ unit → ⊥) → (f : F.Found) → find_in d.units unit ≡ f → (right : Bool) (p : Part) → only_at f right i p ≡ rests
+not_named : (d : Shelf) (unit i : ℕ) → (number_of (unit_at d i) ≡ unit → ⊥) → (f : Option ℕ) → find_in d.units unit ≡ f → (right : Bool) (p : Part) → only_at f right i p ≡ rests
 unfolding only_at
-not_named d unit i other (At place) t right p = go right (eqb i place) refl
+not_named d unit i other (Some place) t right p = go right (eqb i place) refl
   where
     go : (a b : Bool) → eqb i place ≡ b → cond (a && b) p rests ≡ rests
     go true true x = absurd (other (ap (λ j. number_of (unit_at d j)) (eqb-true i place x) ∙ (found d.units unit place t).1))
     go true false x = refl
     go false b x = refl
-not_named d unit i other Nothing t right p = refl
+not_named d unit i other None t right p = refl
 
 -- whatever the event
 rests_there : (d : Shelf) (e : Event) (unit i : ℕ) → named e ≡ some unit → (number_of (unit_at d i) ≡ unit → ⊥) → part_of d e i ≡ rests

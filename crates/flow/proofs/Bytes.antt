@@ -1,4 +1,5 @@
 -- What leaves is what the lent bytes hold afterwards, and no class leaves before a lower one. Assumes nothing.
+use Rattle.std.specs.Prelude.{None, Some}
 use Prim.Native.Nat.{ℕ, zero, suc, ◌+◌, ◌<◌, ◌≤◌}
 use native.Mathlib.Omega.{arith}
 use mathlib.Core.Path.{◌≡◌, refl, sym, ap, ap₂, ◌∙◌}
@@ -13,8 +14,6 @@ use borrow.Author.Tests.{eqb-true, eqb-false, eq-eqb, ne_eqb, ltb-false}
 use Rattle.outlet.specs.Taking.{lowest, queues}
 use Rattle.outlet.specs.declared.Leaving as L
 use Rattle.outlet.specs.declared.Leaving.TheVariants as leaves
-use Rattle.shelf.specs.declared.Found as F
-use Rattle.shelf.specs.declared.Found.TheVariants.{At, Nothing}
 use Rattle.meaning.proofs.Grown.{decide}
 use Rattle.answer.specs.declared.Answer.TheVariants.{Taken}
 use Rattle.document.specs.Events.{Event, arrive, frame, hear, take_cell, count, hand, collect, answers}
@@ -110,14 +109,14 @@ module _ (d : Shelf) (unit : ℕ) (buffer : List ℕ) where
     by_leaving leaves.Empty l = inr (none_out (e ∙ ap (λ x. took_step (takes_by x d place buffer)) l) (λ k. ap (λ x. oldest_in x u k) l))
 
   -- by the unit that is found, and the length of the buffer
-  by_place : (f : F.Found) → find_in d.units unit ≡ f → (b : Bool) → eqb (length buffer) 53 ≡ b → HandedOut d unit buffer ⊎ NoneOut d unit buffer
+  by_place : (f : Option ℕ) → find_in d.units unit ≡ f → (b : Bool) → eqb (length buffer) 53 ≡ b → HandedOut d unit buffer ⊎ NoneOut d unit buffer
   unfolding happens_to part_of admitted only_at
-  by_place (At place) f true b =
+  by_place (Some place) f true b =
       by_leaving place (found d.units unit place f).0 (found d.units unit place f).1 (ap₂ (λ x y. admitted x y (λ k. took_step (takes·out d k buffer)) (λ n. refused d n buffer)) f b)
       (λ i. ap₂ (λ x y. only_at x y i takes) f b) (leaving (unit_at d place)) refl
-  by_place (At place) f false b =
+  by_place (Some place) f false b =
       inr (refused_out 10 (ap₂ (λ x y. admitted x y (λ k. took_step (takes·out d k buffer)) (λ n. refused d n buffer)) f b) (λ i. ap₂ (λ x y. only_at x y i takes) f b))
-  by_place Nothing f right b =
+  by_place None f right b =
       inr (refused_out 9 (ap (λ x. admitted x (eqb (length buffer) 53) (λ k. took_step (takes·out d k buffer)) (λ n. refused d n buffer)) f) (λ i. ap (λ x. only_at x (eqb (length buffer) 53) i takes) f))
 
 -- every take
@@ -164,14 +163,14 @@ module _ (d : Shelf) (unit : ℕ) (buffer : List ℕ) where
         })
 
   -- by the unit that is found, and the length of the buffer
-  by_found : (f : F.Found) → find_in d.units unit ≡ f → (b : Bool) → eqb (length buffer) 56 ≡ b → Collected d unit buffer ⊎ NoneCollected d unit buffer
+  by_found : (f : Option ℕ) → find_in d.units unit ≡ f → (b : Bool) → eqb (length buffer) 56 ≡ b → Collected d unit buffer ⊎ NoneCollected d unit buffer
   unfolding happens_to part_of admitted only_at collected_by
-  by_found (At place) f true b =
+  by_found (Some place) f true b =
       by_outlet place (found d.units unit place f).0 (found d.units unit place f).1 (ap₂ (λ x y. admitted x y (λ k. took_step (collects·out d k buffer)) (λ n. refused d n buffer)) f b)
       (λ i. ap₂ (λ x y. only_at x y i collects) f b) (unit_at d place).side.controlout refl
-  by_found (At place) f false b =
+  by_found (Some place) f false b =
       inr (none_got (refused d 10 buffer) (ap₂ (λ x y. admitted x y (λ k. took_step (collects·out d k buffer)) (λ n. refused d n buffer)) f b) (λ x. let z : ◌≡◌ {A = ℕ} 0 1 = cc in omega arith) refl (λ i. ap (collected_by (unit_at d i)) (ap₂ (λ x y. only_at x y i collects) f b)))
-  by_found Nothing f right b =
+  by_found None f right b =
       inr (none_got (refused d 9 buffer) (ap (λ x. admitted x (eqb (length buffer) 56) (λ k. took_step (collects·out d k buffer)) (λ n. refused d n buffer)) f) (λ x. let z : ◌≡◌ {A = ℕ} 0 1 = cc in omega arith) refl (λ i. ap (collected_by (unit_at d i)) (ap (λ x. only_at x (eqb (length buffer) 56) i collects) f)))
 
 -- every collect
@@ -201,14 +200,14 @@ module _ (d : Shelf) (buffer : List ℕ) where
       })
 
   -- by the unit granted in the frame before
-  by_sender : (f : F.Found) → find_in (moved d).units d.granted ≡ f → (happens_to d (frame buffer)).bytes ≡ (sends·out f (moved d) buffer).bytes → ((i : ℕ) → part_of d (frame buffer) i ≡ moves (sending_by f (moved d) i)) → Framed d buffer ⊎ Idle d buffer
+  by_sender : (f : Option ℕ) → find_in (moved d).units d.granted ≡ f → (happens_to d (frame buffer)).bytes ≡ (sends·out f (moved d) buffer).bytes → ((i : ℕ) → part_of d (frame buffer) i ≡ moves (sending_by f (moved d) i)) → Framed d buffer ⊎ Idle d buffer
   unfolding sends·out sending_by out_by
-  by_sender (At place) f e p =
+  by_sender (Some place) f e p =
       let w = found (moved d).units d.granted place f in
       let u = unit_at (moved d) place in
       from_inlet place (omega (arith, w.0, lists.length-map d.units moved_unit)) (sym (ap number_of (moved_unit_lem d.units place) ∙ number_moved (unit_at d place)) ∙ w.1) u (chosen_of u)
       (e ∙ ap (λ o. (sends_one o (moved d) place buffer).bytes) (as_sending_lem u)) p
-  by_sender Nothing f e p = inr (idle_frame e (λ i. ap out_by (p i)))
+  by_sender None f e p = inr (idle_frame e (λ i. ap out_by (p i)))
 
   -- by the length of the buffer
   by_length : (b : Bool) → eqb (length buffer) 57 ≡ b → Framed d buffer ⊎ Idle d buffer
@@ -269,10 +268,10 @@ pub lowest_first : LowestFirst
 lowest_first d e i q p h l = lower_moved (unit_at d i) (part_of d e i) q p h l
 
 -- E. a cell is sent in its turn
-turn_out : (m : Shelf) (i : ℕ) (g : F.Found) (f : From) → out_by (sending_by g m i) ≡ some f → chosen_of (unit_at m i) ≡ some f
+turn_out : (m : Shelf) (i : ℕ) (g : Option ℕ) (f : From) → out_by (sending_by g m i) ≡ some f → chosen_of (unit_at m i) ≡ some f
 unfolding sending_by sending out_by
-turn_out m i Nothing f e = let z : ◌≡◌ {A = ℕ} 0 1 = cc in absurd (omega arith)
-turn_out m i (At place) f e = go (chosen_of (unit_at m place)) refl e
+turn_out m i None f e = let z : ◌≡◌ {A = ℕ} 0 1 = cc in absurd (omega arith)
+turn_out m i (Some place) f e = go (chosen_of (unit_at m place)) refl e
   where
     pick : (h : From) → chosen_of (unit_at m place) ≡ some h → (b : Bool) → eqb i place ≡ b → out_by (cond b (sends h) (hears (cell_of h))) ≡ some f → chosen_of (unit_at m i) ≡ some f
     pick h t true q e = ap (λ j. chosen_of (unit_at m j)) (eqb-true i place q) ∙ t ∙ e
@@ -283,15 +282,15 @@ turn_out m i (At place) f e = go (chosen_of (unit_at m place)) refl e
     go (some h) t e = pick h t (eqb i place) refl e
 
 -- an event with a unit's number sends nothing
-pub only_out : (f : F.Found) (right : Bool) (i : ℕ) (p : Part) → out_by p ≡ none → out_by (only_at f right i p) ≡ none
+pub only_out : (f : Option ℕ) (right : Bool) (i : ℕ) (p : Part) → out_by p ≡ none → out_by (only_at f right i p) ≡ none
 unfolding only_at out_by
-only_out (At place) true i p e = go (eqb i place)
+only_out (Some place) true i p e = go (eqb i place)
   where
     go : (b : Bool) → out_by (cond b p rests) ≡ none
     go true = e
     go false = refl
-only_out (At place) false i p e = refl
-only_out Nothing right i p e = refl
+only_out (Some place) false i p e = refl
+only_out None right i p e = refl
 
 -- what is sent is sent in a frame, by the unit as it has moved
 pub sent_moved : (d : Shelf) (e : Event) (i : ℕ) (f : From) → out_from d e i ≡ some f → chosen_of (moved_unit (unit_at d i)) ≡ some f

@@ -1,4 +1,5 @@
 -- Over every sequence of events: a unit that asks has a cell besides one already granted, and a unit with an open grant has a cell to send. Assumes nothing.
+use Rattle.std.specs.Prelude.{None, Some}
 use Prim.Native.Nat.{ℕ, zero, suc, ◌+◌, ◌<◌, ◌≤◌}
 use native.Mathlib.Omega.{arith}
 use mathlib.Core.Path.{◌≡◌, refl, sym, ap, subst, ◌∙◌}
@@ -17,8 +18,6 @@ use Rattle.arbiter.proofs.Grants.{granted_asks, granted_changes, not_granted}
 use Rattle.outlet.specs.declared.Leaving as L
 use Rattle.outlet.specs.declared.Leaving.TheVariants as leaves
 use Rattle.shelf.specs.Shelves.{place_from}
-use Rattle.shelf.specs.declared.Found as F
-use Rattle.shelf.specs.declared.Found.TheVariants.{At, Nothing}
 use Rattle.store.proofs.Slots.{by_lt}
 use Rattle.meaning.proofs.Grown.{decide}
 use Rattle.lookup.specs.Record.{usable}
@@ -259,11 +258,11 @@ abbrev Leaves : Shelf → Shelf → Type 0
 Leaves d d' = (d'.arbiter ≡ d.arbiter) × (d'.granted ≡ d.granted)
 
 module _ (d : Shelf) where
-  at_unit : (f : F.Found) (right : Bool) (inside outside : ℕ → Step) → ((place : ℕ) → Leaves d (inside place).shelf) → ((number : ℕ) → Leaves d (outside number).shelf) → Leaves d (admitted f right inside outside).shelf
+  at_unit : (f : Option ℕ) (right : Bool) (inside outside : ℕ → Step) → ((place : ℕ) → Leaves d (inside place).shelf) → ((number : ℕ) → Leaves d (outside number).shelf) → Leaves d (admitted f right inside outside).shelf
   unfolding admitted
-  at_unit (At place) true inside outside h k = h place
-  at_unit (At place) false inside outside h k = k 10
-  at_unit Nothing right inside outside h k = k 9
+  at_unit (Some place) true inside outside h k = h place
+  at_unit (Some place) false inside outside h k = k 10
+  at_unit None right inside outside h k = k 9
 
   took_from : (cells : List Cell) (place q : ℕ) (buffer : List ℕ) → Leaves d (takes_from cells d place q buffer).shelf
   unfolding takes_from
@@ -342,24 +341,24 @@ pub backed_first : (lines : List Line) → Backed (opened lines)
 backed_first lines = record { grant = λ h. absurd (h refl); low = λ n h. absurd (h (zeros 32 n)); asked = λ n h. absurd (h (zeros 32 n)) }
 
 -- G. so the unit with the open grant sends
-not_nowhere : (us : List Unit) (k n : ℕ) → place_from k (map number_of us) n ≡ Nothing → (i : ℕ) → i < length us → number_of (get_or us i blank) ≡ n → ⊥
+not_nowhere : (us : List Unit) (k n : ℕ) → place_from k (map number_of us) n ≡ None → (i : ℕ) → i < length us → number_of (get_or us i blank) ≡ n → ⊥
 unfolding place_from
 not_nowhere [] k n e i h q = omega arith
 not_nowhere (u ∷ us) k n e i h q = go (eqb (number_of u) n) refl (not_nowhere us (suc k) n) e i h q
   where
-    go : (b : Bool) → eqb (number_of u) n ≡ b → (place_from (suc k) (map number_of us) n ≡ Nothing → (i : ℕ) → i < length us → number_of (get_or us i blank) ≡ n → ⊥) → cond b (At k) (place_from (suc k) (map number_of us) n) ≡ Nothing → (i : ℕ) → i < length (u ∷ us) → number_of (get_or (u ∷ us) i blank) ≡ n → ⊥
+    go : (b : Bool) → eqb (number_of u) n ≡ b → (place_from (suc k) (map number_of us) n ≡ None → (i : ℕ) → i < length us → number_of (get_or us i blank) ≡ n → ⊥) → cond b (Some k) (place_from (suc k) (map number_of us) n) ≡ None → (i : ℕ) → i < length (u ∷ us) → number_of (get_or (u ∷ us) i blank) ≡ n → ⊥
     go true t later e i h q = let z : ◌≡◌ {A = ℕ} 0 1 = cc in omega arith
     go false t later e zero h q = eqb-false (number_of u) n t q
     go false t later e (suc i) h q = later e i (omega arith) q
 
-pub found_here : (us : List Unit) → Different us → (i : ℕ) → i < length us → find_in us (number_of (get_or us i blank)) ≡ At i
+pub found_here : (us : List Unit) → Different us → (i : ℕ) → i < length us → find_in us (number_of (get_or us i blank)) ≡ Some i
 found_here us once i h = go (find_in us (number_of (get_or us i blank))) refl
   where
-    go : (f : F.Found) → find_in us (number_of (get_or us i blank)) ≡ f → f ≡ At i
-    go Nothing e = absurd (not_nowhere us 0 (number_of (get_or us i blank)) e i h refl)
-    go (At p) e =
+    go : (f : Option ℕ) → find_in us (number_of (get_or us i blank)) ≡ f → f ≡ Some i
+    go None e = absurd (not_nowhere us 0 (number_of (get_or us i blank)) e i h refl)
+    go (Some p) e =
         let w = found us (number_of (get_or us i blank)) p e in
-        decide (eqb p i) (λ t. ap At (eqb-true p i t)) (λ t. absurd (different_apart us once p i w.0 h (eqb-false p i t) w.1))
+        decide (eqb p i) (λ t. ap Some (eqb-true p i t)) (λ t. absurd (different_apart us once p i w.0 h (eqb-false p i t) w.1))
 
 pub record Sends (d : Shelf) (buffer : List ℕ) : Type 0 where
   pub place : ℕ
@@ -390,7 +389,7 @@ sends_oldest d b once granted_one buffer whole = go (chosen_of (unit_at m w.plac
     v : Waits (moved d) d.granted 1
     v = moved_waits d d.granted 1 (b.grant granted_one)
 
-    there : find_in (moved d).units d.granted ≡ At w.place
+    there : find_in (moved d).units d.granted ≡ Some w.place
     there = ap (find_in (moved d).units) (sym v.named) ∙ found_here (moved d).units (moved_different d once) v.place v.inside
 
     go : (o : Option From) → chosen_of (unit_at m w.place) ≡ o → Sends d buffer
@@ -412,10 +411,10 @@ pub sends_after : (lines : List Line) (es : List Event) → Different (becomes (
 sends_after lines es = sends_oldest (becomes (opened lines) es) (backed (opened lines) es (backed_first lines))
 
 -- H. a cell that moves is not sent in that frame
-turn_still : (u : Unit) (g : F.Found) (m : Shelf) (i : ℕ) → moved_from u (sending_by g m i) ≡ []
+turn_still : (u : Unit) (g : Option ℕ) (m : Shelf) (i : ℕ) → moved_from u (sending_by g m i) ≡ []
 unfolding sending_by sending moved_from
-turn_still u Nothing m i = refl
-turn_still u (At place) m i = go (chosen_of (unit_at m place))
+turn_still u None m i = refl
+turn_still u (Some place) m i = go (chosen_of (unit_at m place))
   where
     pick : (f : From) (b : Bool) → moved_from u (cond b (sends f) (hears (cell_of f))) ≡ []
     pick f true = refl

@@ -1,4 +1,5 @@
 -- How often something stands in a history, and which unit a number finds. Assumes nothing.
+use Rattle.std.specs.Prelude.{Some}
 use Prim.Native.Nat.{ℕ, zero, suc, ◌+◌, ◌<◌}
 use native.Mathlib.Omega.{arith}
 use mathlib.Core.Path.{◌≡◌, refl, sym, ap, ◌∙◌}
@@ -9,7 +10,6 @@ use lib.ListN.{length, get_or, set, length-set, get_or-map}
 use lib.Seq.{map-set_same}
 use borrow.Author.Tests.{eqb-true, eq-eqb, ne_eqb, ltb-true, ltb-false}
 use Rattle.shelf.specs.Shelves.{place_from}
-use Rattle.shelf.specs.declared.Found.TheVariants.{At}
 use Rattle.line.specs.declared.Line.{Line}
 use Rattle.meaning.proofs.Grown.{decide}
 use Rattle.paper.specs.Counters.{Counter, place_of, hearing_counts, occurs}
@@ -132,17 +132,17 @@ moved_times (u ∷ us) once (suc k) h c =
     omega (arith, a, b, e)
 
 -- a number that is found is found in a place that there is, and stands there
-found_from : (us : List Unit) (k number p : ℕ) → place_from k (map number_of us) number ≡ At p → (i : ℕ) × (p ≡ k + i) × (i < length us) × (number_of (get_or us i blank) ≡ number)
+found_from : (us : List Unit) (k number p : ℕ) → place_from k (map number_of us) number ≡ Some p → (i : ℕ) × (p ≡ k + i) × (i < length us) × (number_of (get_or us i blank) ≡ number)
 unfolding place_from
 found_from [] k number p e = let z : ◌≡◌ {A = ℕ} 0 1 = cc in absurd (omega arith)
 found_from (u ∷ us) k number p e = pick (eqb (number_of u) number) refl (found_from us (suc k) number p) e
   where
-    pick : (b : Bool) → eqb (number_of u) number ≡ b → (place_from (suc k) (map number_of us) number ≡ At p → (i : ℕ) × (p ≡ suc k + i) × (i < length us) × (number_of (get_or us i blank) ≡ number)) → cond b (At k) (place_from (suc k) (map number_of us) number) ≡ At p → (i : ℕ) × (p ≡ k + i) × (i < length (u ∷ us)) × (number_of (get_or (u ∷ us) i blank) ≡ number)
+    pick : (b : Bool) → eqb (number_of u) number ≡ b → (place_from (suc k) (map number_of us) number ≡ Some p → (i : ℕ) × (p ≡ suc k + i) × (i < length us) × (number_of (get_or us i blank) ≡ number)) → cond b (Some k) (place_from (suc k) (map number_of us) number) ≡ Some p → (i : ℕ) × (p ≡ k + i) × (i < length (u ∷ us)) × (number_of (get_or (u ∷ us) i blank) ≡ number)
     pick true t later e = let q : k ≡ p = cc in (0, omega arith, omega arith, eqb-true (number_of u) number t)
     pick false t later e = let w = later e in (suc w.0, omega (arith, w.1), omega (arith, w.2), w.3)
 
 -- from the first place on
-pub found : (us : List Unit) (number p : ℕ) → find_in us number ≡ At p → (p < length us) × (number_of (get_or us p blank) ≡ number)
+pub found : (us : List Unit) (number p : ℕ) → find_in us number ≡ Some p → (p < length us) × (number_of (get_or us p blank) ≡ number)
 found us number p e =
     let w = found_from us 0 number p e in
     let q : w.0 ≡ p = omega (arith, w.1) in

@@ -1,4 +1,5 @@
 -- An event is, for each unit, its part in it: what becomes of the unit, what the history counts there, and why. Assumes nothing.
+use Rattle.std.specs.Prelude.{None, Some}
 use Prim.Native.Nat.{ℕ, zero, suc, ◌+◌, ◌<◌}
 use native.Mathlib.Omega.{arith}
 use mathlib.Core.Path.{◌≡◌, refl, sym, ap, ap₂, subst, ◌∙◌}
@@ -18,8 +19,6 @@ use Rattle.outlet.specs.Hearing.{queue_of, limit, too_wide, bus_clp}
 use Rattle.outlet.specs.Taking.{lowest, queues}
 use Rattle.outlet.specs.declared.Leaving as L
 use Rattle.outlet.specs.declared.Leaving.TheVariants as leaves
-use Rattle.shelf.specs.declared.Found as F
-use Rattle.shelf.specs.declared.Found.TheVariants.{At, Nothing}
 use Rattle.line.specs.declared.Line.{Line}
 use Rattle.meaning.specs.Told.{hears_in}
 use Rattle.answer.specs.declared.Hearing.TheVariants as hearing
@@ -280,11 +279,11 @@ module _ (d d' : Shelf) (e : Event) (i place : ℕ) (p : Part) (within : i < len
       go false t = does_other (eqb-false i place t)
 
 -- an event with a unit's number
-at_unit : (W : Part → Type 0) (d : Shelf) (i number : ℕ) (f : F.Found) → find_in d.units number ≡ f → (right : Bool) (inside outside : ℕ → Step) (p : Part) → ((place : ℕ) → place < length d.units → number_of (unit_at d place) ≡ number → right ≡ true → Does W d.units d (inside place).shelf i (cond (eqb i place) p rests)) → ((k : ℕ) → Does W d.units d (outside k).shelf i rests) → Does W d.units d (admitted f right inside outside).shelf i (only_at f right i p)
+at_unit : (W : Part → Type 0) (d : Shelf) (i number : ℕ) (f : Option ℕ) → find_in d.units number ≡ f → (right : Bool) (inside outside : ℕ → Step) (p : Part) → ((place : ℕ) → place < length d.units → number_of (unit_at d place) ≡ number → right ≡ true → Does W d.units d (inside place).shelf i (cond (eqb i place) p rests)) → ((k : ℕ) → Does W d.units d (outside k).shelf i rests) → Does W d.units d (admitted f right inside outside).shelf i (only_at f right i p)
 unfolding admitted only_at
-at_unit W d i number (At place) t true inside outside p h k = let w = found d.units number place t in h place w.0 w.1 refl
-at_unit W d i number (At place) t false inside outside p h k = k 10
-at_unit W d i number Nothing t right inside outside p h k = k 9
+at_unit W d i number (Some place) t true inside outside p h k = let w = found d.units number place t in h place w.0 w.1 refl
+at_unit W d i number (Some place) t false inside outside p h k = k 10
+at_unit W d i number None t right inside outside p h k = k 9
 
 module _ (d : Shelf) (i : ℕ) (within : i < length d.units) where
   abbrev Done : Event → Shelf → Part → Type 0
@@ -486,14 +485,14 @@ module _ (W : Part → Type 0) (us : List Unit) (d d' : Shelf) (i : ℕ) (within
       all_do place inside f turn units told why.0 why.1
 
   -- by the unit granted
-  sent_does : (g : F.Found) → find_in d.units d.granted ≡ g → (buffer : List ℕ) → W rests → ((place : ℕ) → place < length d.units → g ≡ At place → (f : From) → InTurn (unit_at d place) f → chosen_of (unit_at d place) ≡ some f → W (sends f) × W (hears (cell_of f))) → d'.units ≡ (sends·out g d buffer).units → d'.history ≡ (sends·out g d buffer).happened ++ d.history → Does W us d d' i (sending_by g d i)
+  sent_does : (g : Option ℕ) → find_in d.units d.granted ≡ g → (buffer : List ℕ) → W rests → ((place : ℕ) → place < length d.units → g ≡ Some place → (f : From) → InTurn (unit_at d place) f → chosen_of (unit_at d place) ≡ some f → W (sends f) × W (hears (cell_of f))) → d'.units ≡ (sends·out g d buffer).units → d'.history ≡ (sends·out g d buffer).happened ++ d.history → Does W us d d' i (sending_by g d i)
   unfolding sends·out sending_by
-  sent_does (At place) t buffer w v units told =
+  sent_does (Some place) t buffer w v units told =
       let inside = (found d.units d.granted place t).0 in
       let as_is = as_sending_lem (unit_at d place) in
       sent_from place inside buffer w (v place inside refl) (chosen_of (unit_at d place)) refl
       (units ∙ ap (λ o. (sends_one o d place buffer).units) as_is) (told ∙ ap (λ o. (sends_one o d place buffer).happened ++ d.history) as_is)
-  sent_does Nothing t buffer w v units told = idle_does w units told
+  sent_does None t buffer w v units told = idle_does w units told
 
 -- no number is there twice once the cells have moved
 pub moved_different : (d : Shelf) → Different d.units → Different (moved d).units
@@ -548,7 +547,7 @@ does d (frame buffer) i within = go (eqb (length buffer) 57) refl
     go true t =
         let m = moved d in
         let l = length-map d.units moved_unit in
-        let sent : (place : ℕ) → place < length m.units → find_in m.units m.granted ≡ At place → (f : From) → InTurn (unit_at m place) f → chosen_of (unit_at m place) ≡ some f → (⊥ → ⊥) × (Handed d (frame buffer) i (cell_of f) ⊎ Sent d (frame buffer) (cell_of f))
+        let sent : (place : ℕ) → place < length m.units → find_in m.units m.granted ≡ Some place → (f : From) → InTurn (unit_at m place) f → chosen_of (unit_at m place) ≡ some f → (⊥ → ⊥) × (Handed d (frame buffer) i (cell_of f) ⊎ Sent d (frame buffer) (cell_of f))
         = λ place inside g f turn has. (
           λ x. x,
           inr
@@ -573,9 +572,9 @@ does d (take_cell unit buffer) i within =
     (λ place inside named right. took d i within (take_cell unit buffer) place inside buffer (leaving (unit_at d place)) refl) (λ k. still _ d.units d i (λ x. x))
 does d (count unit) i within = count_does (find_in d.units unit)
   where
-    count_does : (f : F.Found) → Does (Because d (count unit) i) d.units d (admitted f true (λ place. step (counts (counters_of d.history (number_of (unit_at d place)))) d []) (λ number. refused d number [])).shelf i rests
-    count_does (At place) = still _ d.units d i (λ x. x)
-    count_does Nothing = still _ d.units d i (λ x. x)
+    count_does : (f : Option ℕ) → Does (Because d (count unit) i) d.units d (admitted f true (λ place. step (counts (counters_of d.history (number_of (unit_at d place)))) d []) (λ number. refused d number [])).shelf i rests
+    count_does (Some place) = still _ d.units d i (λ x. x)
+    count_does None = still _ d.units d i (λ x. x)
 does d (hand unit c) i within =
     at_unit (Because d (hand unit c) i) d i unit (find_in d.units unit) refl (eqb (length c) 56) _ _ (hands c)
     (λ place inside named right. handed d i within unit c place inside named right (unit_at d place).side.controlin refl) (λ k. still _ d.units d i (λ x. x))

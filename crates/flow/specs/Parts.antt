@@ -1,12 +1,10 @@
 -- One unit's part in an event: what the unit in a place does when something happens to the shelf. Assumes nothing.
-use Rattle.std.specs.Prelude.{ℕ, Bool, false, cond, ◌&&◌, List, [], ◌∷◌, ◌++◌, map, eqb, leb, length, take}
+use Rattle.std.specs.Prelude.{ℕ, Bool, false, cond, ◌&&◌, List, [], ◌∷◌, ◌++◌, map, eqb, leb, length, take, None, Some}
 use Rattle.std.proofs.Math.Option.{Option, none, some}
 use Rattle.bus.specs.Heard as frames
 use Rattle.outlet.specs.Hearing.{queue_of}
 use Rattle.outlet.specs.declared.Leaving as L
 use Rattle.outlet.specs.declared.Leaving.TheVariants as leaves
-use Rattle.shelf.specs.declared.Found as F
-use Rattle.shelf.specs.declared.Found.TheVariants.{At, Nothing}
 use Rattle.line.specs.declared.Line.{Line}
 use Rattle.answer.specs.Answers.{queued_one}
 use Rattle.paper.specs.Counters.{Counter, taken, arrival_counts, hearing_counts, sent_counts}
@@ -56,18 +54,18 @@ pub data Part : Type 0 where
   moves : Part → Part
 
 -- "unit not declared", "cell slice or buffer not 53 bytes, frame not 57" "change nothing"; an event with a unit's number is that unit's alone
-unfoldable pub only_at : F.Found → Bool → ℕ → Part → Part
-only_at (At place) right i p = cond (right && eqb i place) p rests
-only_at Nothing right i p = rests
+unfoldable pub only_at : Option ℕ → Bool → ℕ → Part → Part
+only_at (Some place) right i p = cond (right && eqb i place) p rests
+only_at None right i p = rests
 
 -- "the unit granted in the frame before sends its oldest cell"; "a sent frame is heard by every declared unit"
 unfoldable pub sending : Option From → ℕ → ℕ → Part
 sending none place i = rests
 sending (some f) place i = cond (eqb i place) (sends f) (hears (cell_of f))
 
-unfoldable pub sending_by : F.Found → Shelf → ℕ → Part
-sending_by (At place) d i = sending (chosen_of (unit_at d place)) place i
-sending_by Nothing d i = rests
+unfoldable pub sending_by : Option ℕ → Shelf → ℕ → Part
+sending_by (Some place) d i = sending (chosen_of (unit_at d place)) place i
+sending_by None d i = rests
 
 -- the part of the unit in place i, once the loopback cells have moved
 abbrev pub turn_of : Shelf → ℕ → Part

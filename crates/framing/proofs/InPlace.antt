@@ -1,13 +1,11 @@
 -- Frame, of a state in lent bytes: State and Length go by the bytes; the bytes afterwards are the shelf after the frame, and what of them is kept. Assumes nothing.
-use Rattle.std.proofs.Common.{◌≡◌, ℕ, ◌+◌, ◌*◌, ◌%◌, ◌^◌, ◌<◌, ◌≤◌, min, Bool, true, false, cond, ◌&&◌, eqb, ◌⊎◌, List, length, get_or, take, replicate, sym, refl, ap, ◌∙◌, inl, inr, arith, length-drop, length-take}
+use Rattle.std.proofs.Common.{◌≡◌, ℕ, ◌+◌, ◌*◌, ◌%◌, ◌^◌, ◌<◌, ◌≤◌, min, Bool, true, false, cond, ◌&&◌, eqb, ◌⊎◌, List, length, get_or, take, replicate, sym, refl, ap, ◌∙◌, inl, inr, arith, length-drop, length-take, None, Option, Some}
 use Rattle.octets.specs.Octets.{part}
 use Rattle.card.specs.declared.Card.{Card}
 use Rattle.bus.specs.Frame.{heard}
 use Rattle.arbiter.proofs.Grants.{granted_length}
 use Rattle.arbiter.proofs.Requests.{renewed_many}
 use Rattle.shelf.specs.Shelves.{declared}
-use Rattle.shelf.specs.declared.Found as F
-use Rattle.shelf.specs.declared.Found.TheVariants.{At, Nothing}
 use Rattle.shelf.proofs.Finding.{find_at, declared_length}
 use Rattle.state.specs.Bytes.{shelf_in, turn_put}
 use Rattle.state.proofs.Laws.{units_length}
@@ -67,7 +65,7 @@ module _ (b store : List ℕ) (long : length b ≡ 2048) where
   last_long = let r = requests (shelf_in b) in (granted_length r.last r.asks).0
 
   -- the sender, if there is one, is a declared unit
-  inside : (place : ℕ) → sender (shelf_in b) ≡ At place → place < min (get_or b 805 0) 32
+  inside : (place : ℕ) → sender (shelf_in b) ≡ Some place → place < min (get_or b 805 0) 32
   inside place e = omega (arith, ((find_at (get_or b 803 0) (declared (shelf_in b)) place).0 e).inside, declared_length (shelf_in b) (units_length b 0 32))
 
   -- what holds of the bytes before, and after a unit has sent
@@ -75,9 +73,9 @@ module _ (b store : List ℕ) (long : length b ≡ 2048) where
   unfolding state_by
   sending P was is = by (sender (shelf_in b)) refl
     where
-      by : (x : F.Found) → sender (shelf_in b) ≡ x → P (state_by x b store)
-      by (At place) e = is place (inside place e)
-      by Nothing e = was
+      by : (x : Option ℕ) → sender (shelf_in b) ≡ x → P (state_by x b store)
+      by (Some place) e = is place (inside place e)
+      by None e = was
 
   abbrev f : ℕ → List ℕ
   f place = sent_frame (shelf_in b) place store
@@ -106,9 +104,9 @@ module _ (b store : List ℕ) (long : length b ≡ 2048) where
   unfolding state_by listened_by
   sent_decodes each = by (sender (shelf_in b)) refl
     where
-      by : (x : F.Found) → sender (shelf_in b) ≡ x → shelf_in (state_by x b store) ≡ (listened_by x (shelf_in b) store each).shelf
-      by (At place) e = sent_shelf b place store long (inside place e) each
-      by Nothing e = refl
+      by : (x : Option ℕ) → sender (shelf_in b) ≡ x → shelf_in (state_by x b store) ≡ (listened_by x (shelf_in b) store each).shelf
+      by (Some place) e = sent_shelf b place store long (inside place e) each
+      by None e = refl
 
   -- requests, sending and grant
   abbrev next : ℕ

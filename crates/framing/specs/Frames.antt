@@ -1,12 +1,10 @@
 -- Frame. Assumes nothing.
-use Rattle.std.specs.Prelude.{ℕ, ◌+◌, ◌%◌, ◌^◌, Bool, false, cond, List, length, ◌==◌}
+use Rattle.std.specs.Prelude.{ℕ, ◌+◌, ◌%◌, ◌^◌, Bool, false, cond, List, length, ◌==◌, None, Option, Some}
 use Rattle.card.specs.declared.Card.{Card}
 use Rattle.arbiter.specs.Arbitration.{granted_by}
 use Rattle.arbiter.specs.declared.Granted.{Granted}
 use Rattle.shelf.specs.Shelves.{declared, find_in}
 use Rattle.shelf.specs.Shelf.{Shelf}
-use Rattle.shelf.specs.declared.Found as F
-use Rattle.shelf.specs.declared.Found.TheVariants.{At, Nothing}
 use Rattle.soundness.specs.State.{sound_of}
 use Rattle.answer.specs.declared.Answer.TheVariants.{Framed}
 use Rattle.answer.specs.Done.{Done}
@@ -16,20 +14,20 @@ use Rattle.framing.specs.Requests.{requests}
 use Rattle.framing.specs.Sending.{Listened, silence, sent_by, sent_store, sent_frame}
 
 -- "Then the unit granted in the frame before sends its oldest cell." "An idle frame has no bytes and leaves the frame buffer unchanged."
-abbrev pub sender : Shelf → F.Found
+abbrev pub sender : Shelf → Option ℕ
 sender shelf = find_in (declared shelf) shelf.granted
 
-unfoldable pub listened_by : F.Found → Shelf → List ℕ → List ℕ → Listened
-listened_by (At place) shelf store each = sent_by shelf place store each
-listened_by Nothing shelf store each = silence shelf each
+unfoldable pub listened_by : Option ℕ → Shelf → List ℕ → List ℕ → Listened
+listened_by (Some place) shelf store each = sent_by shelf place store each
+listened_by None shelf store each = silence shelf each
 
-unfoldable pub store_by : F.Found → Shelf → List ℕ → List ℕ
-store_by (At place) shelf store = sent_store shelf place store
-store_by Nothing shelf store = store
+unfoldable pub store_by : Option ℕ → Shelf → List ℕ → List ℕ
+store_by (Some place) shelf store = sent_store shelf place store
+store_by None shelf store = store
 
-unfoldable pub buffer_by : F.Found → Shelf → List ℕ → List ℕ → List ℕ
-buffer_by (At place) shelf store buffer = sent_frame shelf place store
-buffer_by Nothing shelf store buffer = buffer
+unfoldable pub buffer_by : Option ℕ → Shelf → List ℕ → List ℕ → List ℕ
+buffer_by (Some place) shelf store buffer = sent_frame shelf place store
+buffer_by None shelf store buffer = buffer
 
 abbrev pub listened_of : Shelf → List ℕ → List ℕ → Listened
 listened_of shelf store each = listened_by (sender shelf) shelf store each

@@ -1,11 +1,9 @@
 -- Frame, of a state in lent bytes: what is answered, stored and sent goes by the shelf that the bytes are; written are the places of
 -- loopback cells that move, the sender's inlet, the queues of those that hear it, then the arbiter, the grant and the frame number. Assumes nothing.
-use Rattle.std.specs.Prelude.{ℕ, ◌+◌, ◌%◌, ◌^◌, false, cond, List, length, take, replicate, nat_le}
+use Rattle.std.specs.Prelude.{ℕ, ◌+◌, ◌%◌, ◌^◌, false, cond, List, length, take, replicate, nat_le, None, Option, Some}
 use Rattle.bus.specs.Frame.{heard}
 use Rattle.card.specs.declared.Card.{Card}
 use Rattle.store.specs.Rings.{popped}
-use Rattle.shelf.specs.declared.Found as F
-use Rattle.shelf.specs.declared.Found.TheVariants.{At, Nothing}
 use Rattle.state.specs.Bytes.{unit_in, shelf_in, with_ring, with_byte, with_turn}
 use Rattle.soundness.specs.Soundings.{sound_in}
 use Rattle.answer.specs.declared.Outcome.{Outcome}
@@ -30,9 +28,9 @@ unfoldable pub sent_state : List ℕ → ℕ → List ℕ → List ℕ
 sent_state b place store =
     (heeded_by (heard (sent_frame (shelf_in b) place store)) (take 56 (sent_frame (shelf_in b) place store)) (out_state b place) store (replicate 32 0)).bytes
 
-unfoldable pub state_by : F.Found → List ℕ → List ℕ → List ℕ
-state_by (At place) b store = sent_state b place store
-state_by Nothing b store = b
+unfoldable pub state_by : Option ℕ → List ℕ → List ℕ → List ℕ
+state_by (Some place) b store = sent_state b place store
+state_by None b store = b
 
 -- and after the grant
 abbrev pub turn_state : List ℕ → List ℕ → List ℕ

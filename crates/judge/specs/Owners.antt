@@ -1,12 +1,10 @@
 -- The declared unit that a line names, and the place of its record. Assumes nothing.
-use Rattle.std.specs.Prelude.{ℕ, ◌+◌, ◌*◌, true, false, cond, List, get_or}
+use Rattle.std.specs.Prelude.{ℕ, ◌+◌, ◌*◌, true, false, cond, List, get_or, None, Option, Some}
 use Rattle.arbiter.specs.Arbitration.{nobody}
 use Rattle.lookup.specs.Record.{size}
 use Rattle.shelf.specs.Shelves.{blank, declared, find_in}
 use Rattle.shelf.specs.declared.Unit as U
 use Rattle.shelf.specs.Shelf.{Shelf}
-use Rattle.shelf.specs.declared.Found.{Found}
-use Rattle.shelf.specs.declared.Found.TheVariants.{At, Nothing}
 use Rattle.line.specs.declared.Line.{Line}
 use Rattle.line.specs.declared.Line.TheVariants.{Bus, Unit as L-as-Unit, Vp, Drop, Page, Vc, Mc}
 use Rattle.judge.specs.declared.Owner.{Owner}
@@ -27,9 +25,9 @@ unit_of (Mc u session) = u
 abbrev pub owner_is : ℕ → U.Unit → Owner
 owner_is i unit = record { known = true; top = unit.settings.top; place = unit.place; at = i }
 
-abbrev pub owner_at : Shelf → Found → Owner
-owner_at shelf (At i) = owner_is i (get_or shelf.units i blank)
-owner_at shelf Nothing = record { known = false; top = 0; place = 0; at = 0 }
+abbrev pub owner_at : Shelf → Option ℕ → Owner
+owner_at shelf (Some i) = owner_is i (get_or shelf.units i blank)
+owner_at shelf None = record { known = false; top = 0; place = 0; at = 0 }
 
 unfoldable pub owner_of : Shelf → ℕ → Owner
 owner_of shelf u = owner_at shelf (find_in (declared shelf) u)

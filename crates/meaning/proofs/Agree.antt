@@ -1,5 +1,6 @@
 -- A line judged by what stands in the shelf and the memory of good lines is judged by those lines; and what it does there is the shelf and the
 -- memory of one line more. Assumes nothing.
+use Rattle.std.specs.Prelude.{None}
 use mathlib.Core.Path.{◌≡◌, refl, ap, ◌∙◌}
 use mathlib.Core.Bool.{Bool, true, false, cond}
 use mathlib.Core.List.{List, [], ◌∷◌}
@@ -18,7 +19,6 @@ use Rattle.lookup.specs.declared.Got.{Got}
 use Rattle.lookup.specs.declared.Got.TheVariants.{Is}
 use Rattle.shelf.specs.Shelves.{blank}
 use Rattle.shelf.specs.declared.Unit as U
-use Rattle.shelf.specs.declared.Found.TheVariants.{Nothing}
 use Rattle.line.specs.declared.Line.{Line}
 use Rattle.line.specs.declared.Line.TheVariants.{Bus, Unit as L-as-Unit, Vp, Drop, Page, Vc, Mc}
 use Rattle.judge.specs.declared.Owner.{Owner}
@@ -72,7 +72,7 @@ module _ (card : Card) (memory : List ℕ) (told : List Line) (w : Grown told) (
       ap (λ q. stands (q + size * c)) o.1 ∙ stands_at card memory told hold (of_page u v) t c o.0 h
 
   -- by the owner
-  nobody : (u : ℕ) → top_of told (of_unit u) ≡ none → owner_of (shelf_of told) u ≡ owner_at (shelf_of told) Nothing
+  nobody : (u : ℕ) → top_of told (of_unit u) ≡ none → owner_of (shelf_of told) u ≡ owner_at (shelf_of told) None
   unfolding owner_of
   nobody u e = ap (owner_at (shelf_of told)) (s.gone u e)
 

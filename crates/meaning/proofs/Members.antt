@@ -1,4 +1,5 @@
 -- What the lines so far say, as facts about the lines among them: what is opened, given, heard, and the bus. Assumes nothing.
+use Rattle.std.specs.Prelude.{None, Some}
 use mathlib.Core.Path.{◌≡◌, refl, sym, ap, ap₂, subst, ◌∙◌}
 use mathlib.Core.Bool.{Bool, true, false, ◌&&◌, ◌||◌, false≢true}
 use mathlib.Core.List.Memᴰ
@@ -14,8 +15,6 @@ use Rattle.lookup.specs.Record.{size}
 use Rattle.lookup.specs.declared.Record as R
 use Rattle.lookup.specs.declared.Record.TheVariants.{Empty}
 use Rattle.shelf.specs.Shelf.{Shelf}
-use Rattle.shelf.specs.declared.Found.{Found}
-use Rattle.shelf.specs.declared.Found.TheVariants.{At, Nothing}
 use Rattle.shelf.specs.Shelves.{declared, find_in}
 use Rattle.line.specs.declared.Line.{Line}
 use Rattle.line.specs.declared.Line.TheVariants.{Bus, Unit as L-as-Unit, Vp, Drop, Page, Vc, Mc}
@@ -132,10 +131,10 @@ in_heard (l ∷ told) u s m =
     (λ n. or_second (hears_by l u s) (hears_in told u s) (in_heard told u s n)) (Memᴰ.cases_cons m)
 
 -- D. the bus is that of the `bus` line, and every declared unit is below its number
-joined_bus : (shelf : Shelf) (f : Found) (session : ℕ) → (join_at shelf f session).bus ≡ shelf.bus
+joined_bus : (shelf : Shelf) (f : Option ℕ) (session : ℕ) → (join_at shelf f session).bus ≡ shelf.bus
 unfolding join_at
-joined_bus shelf (At i) session = refl
-joined_bus shelf Nothing session = refl
+joined_bus shelf (Some i) session = refl
+joined_bus shelf None session = refl
 
 pub first_is : (told : List Line) → is_first told ≡ true → told ≡ []
 first_is [] e = refl

@@ -1,5 +1,6 @@
 -- The shelf of good lines: each declared unit is found, with its top VPI, the place of its records and the sessions that it hears; no other is
 -- found; and there is a place for one more. Assumes nothing.
+use Rattle.std.specs.Prelude.{None, Some}
 use mathlib.Core.Path.{◌≡◌, refl, sym, ap, ap₂, ◌∙◌}
 use mathlib.Core.Bool.{Bool, true, false, cond, ◌||◌, false≢true}
 use mathlib.Core.List.{List, [], ◌∷◌, ◌++◌}
@@ -20,7 +21,6 @@ use Rattle.shelf.specs.Sessions.{hears, with_session}
 use Rattle.shelf.specs.declared.Settings.{Settings}
 use Rattle.shelf.specs.declared.Unit as U
 use Rattle.shelf.specs.Shelf.{Shelf}
-use Rattle.shelf.specs.declared.Found.TheVariants.{At, Nothing}
 use Rattle.shelf.proofs.Finding.{or_else, find_declared, find_kept}
 use Rattle.shelf.proofs.Hearing.{hears_with, hears_none}
 use Rattle.line.specs.declared.Line.{Line}
@@ -69,7 +69,7 @@ module _ (f g : ℕ → Option ℕ) (u top : ℕ) (new : f u ≡ none) (now : g 
 -- a unit as the lines have it: where it is found, its top VPI, its first record, its sessions
 pub record Stands (shelf : Shelf) (u top first : ℕ) (heard : ℕ → Bool) : Type 0 where
   pub i : ℕ
-  pub found : find_in (declared shelf) u ≡ At i
+  pub found : find_in (declared shelf) u ≡ Some i
   pub inside : i < shelf.count
   pub named : number_of (get_or shelf.units i blank) ≡ u
   pub tops : (get_or shelf.units i blank).settings.top ≡ top
@@ -81,7 +81,7 @@ pub record Shelved (told : List Line) : Type 0 where
   pub long : length (shelf_of told).units ≡ 32
   pub counted : (shelf_of told).count + vacancies (λ u. top_of told (of_unit u)) 32 ≡ 32
   pub here : (u top : ℕ) → top_of told (of_unit u) ≡ some top → Stands (shelf_of told) u top (start told (of_unit u)) (hears_in told u)
-  pub gone : (u : ℕ) → top_of told (of_unit u) ≡ none → find_in (declared (shelf_of told)) u ≡ Nothing
+  pub gone : (u : ℕ) → top_of told (of_unit u) ≡ none → find_in (declared (shelf_of told)) u ≡ None
   pub deaf : (u s : ℕ) → top_of told (of_unit u) ≡ none → hears_in told u s ≡ false
 
 -- a unit more
@@ -93,10 +93,10 @@ module _ (shelf : Shelf) (n : U.Unit) (room : shelf.count < length shelf.units) 
   declared_count : length (declared shelf) ≡ shelf.count
   declared_count = length-take-le shelf.count shelf.units (omega arith)
 
-  find_more : (u : ℕ) → find_in (declared (declare shelf n)) u ≡ or_else (find_in (declared shelf) u) (cond (eqb (number_of n) u) (At shelf.count) Nothing)
+  find_more : (u : ℕ) → find_in (declared (declare shelf n)) u ≡ or_else (find_in (declared shelf) u) (cond (eqb (number_of n) u) (Some shelf.count) None)
   find_more u =
       ap (λ us. find_in us u) declared_more ∙ find_declared (declared shelf) n u
-      ∙ ap (λ k. or_else (find_in (declared shelf) u) (cond (eqb (number_of n) u) (At k) Nothing)) declared_count
+      ∙ ap (λ k. or_else (find_in (declared shelf) u) (cond (eqb (number_of n) u) (Some k) None)) declared_count
 
   old : (i : ℕ) → i < shelf.count → get_or (declare shelf n).units i blank ≡ get_or shelf.units i blank
   unfolding declare
@@ -117,7 +117,7 @@ module _ (shelf : Shelf) (n : U.Unit) (room : shelf.count < length shelf.units) 
       let m = more in
       record {
         i = s.i;
-        found = find_more u ∙ ap (λ f. or_else f (cond (eqb (number_of n) u) (At shelf.count) Nothing)) s.found;
+        found = find_more u ∙ ap (λ f. or_else f (cond (eqb (number_of n) u) (Some shelf.count) None)) s.found;
         inside = omega (arith, s.inside);
         named = ap number_of o ∙ s.named;
         tops = ap (λ x. x.settings.top) o ∙ s.tops;
@@ -127,13 +127,13 @@ module _ (shelf : Shelf) (n : U.Unit) (room : shelf.count < length shelf.units) 
       }
 
   -- and the new one stands
-  stands : (first : ℕ) (heard : ℕ → Bool) → find_in (declared shelf) (number_of n) ≡ Nothing → n.place ≡ size * first → length n.sessions ≡ 32 → ((s : ℕ) → s < 256 → hears n.sessions s ≡ heard s) → Stands (declare shelf n) (number_of n) n.settings.top first heard
+  stands : (first : ℕ) (heard : ℕ → Bool) → find_in (declared shelf) (number_of n) ≡ None → n.place ≡ size * first → length n.sessions ≡ 32 → ((s : ℕ) → s < 256 → hears n.sessions s ≡ heard s) → Stands (declare shelf n) (number_of n) n.settings.top first heard
   stands first heard lost place four deaf =
       let m = more in
       record {
         i = shelf.count;
         found =
-            find_more (number_of n) ∙ ap (λ f. or_else f (cond (eqb (number_of n) (number_of n)) (At shelf.count) Nothing)) lost
+            find_more (number_of n) ∙ ap (λ f. or_else f (cond (eqb (number_of n) (number_of n)) (Some shelf.count) None)) lost
             ∙ rw (eq-eqb (number_of n) (number_of n) refl);
         inside = omega arith;
         named = ap number_of new;
@@ -143,9 +143,9 @@ module _ (shelf : Shelf) (n : U.Unit) (room : shelf.count < length shelf.units) 
         hearing = λ t h. ap (λ x. hears x.sessions t) new ∙ deaf t h;
       }
 
-  lost_still : (u : ℕ) → (u ≡ number_of n → ⊥) → find_in (declared shelf) u ≡ Nothing → find_in (declared (declare shelf n)) u ≡ Nothing
+  lost_still : (u : ℕ) → (u ≡ number_of n → ⊥) → find_in (declared shelf) u ≡ None → find_in (declared (declare shelf n)) u ≡ None
   lost_still u d e =
-      find_more u ∙ ap (λ f. or_else f (cond (eqb (number_of n) u) (At shelf.count) Nothing)) e ∙ rw (ne_eqb (number_of n) u (λ x. d (sym x)))
+      find_more u ∙ ap (λ f. or_else f (cond (eqb (number_of n) u) (Some shelf.count) None)) e ∙ rw (ne_eqb (number_of n) u (λ x. d (sym x)))
 
 -- a session more
 module _ (shelf : Shelf) (i session : ℕ) (inside : i < shelf.count) (long : length shelf.units ≡ 32) (fits : shelf.count ≤ 32) where
@@ -153,7 +153,7 @@ module _ (shelf : Shelf) (i session : ℕ) (inside : i < shelf.count) (long : le
   grew = hearing (get_or shelf.units i blank) session
 
   joined : Shelf
-  joined = join_at shelf (At i) session
+  joined = join_at shelf (Some i) session
 
   find_joined : (u : ℕ) → find_in (declared joined) u ≡ find_in (declared shelf) u
   unfolding joined join_at
@@ -174,7 +174,7 @@ module _ (shelf : Shelf) (i session : ℕ) (inside : i < shelf.count) (long : le
   joined_count = refl
 
 -- what the sessions of a unit are after one more: only the unit that joined hears more
-at_inj : {i j : ℕ} → At i ≡ At j → i ≡ j
+at_inj : {i j : ℕ} → Some i ≡ Some j → i ≡ j
 at_inj e = cc
 
 with_session_length : (sessions : List ℕ) (session : ℕ) → length (with_session sessions session) ≡ length sessions
@@ -296,7 +296,7 @@ module _ (told : List Line) (settings : Settings) (limits : Limits) (small : set
       (λ s h. hears_none s ∙ sym (w.deaf settings.number s lost))))
       (λ t. rw t (stood (shelf_of told) n room_for_one u top (start told (of_unit u)) (hears_in told u) (w.here u top (rw t at e))))
 
-  unit_gone : (u : ℕ) → g u ≡ none → find_in (declared next) u ≡ Nothing
+  unit_gone : (u : ℕ) → g u ≡ none → find_in (declared next) u ≡ None
   unfolding top_of opens same
   unit_gone u e =
       lost_still (shelf_of told) n room_for_one u (λ x. none_some (sym e ∙ ap g x ∙ now)) (w.gone u (sym (others u (λ x. none_some (sym e ∙ ap g x ∙ now))) ∙ e))

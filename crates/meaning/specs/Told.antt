@@ -1,5 +1,5 @@
 -- What the good lines of a table say. A list of lines has the latest first. Assumes nothing.
-use Rattle.std.specs.Prelude.{ℕ, zero, suc, ◌+◌, ◌-◌, ◌*◌, Bool, true, false, ◌&&◌, ◌||◌, List, [], ◌∷◌, ◌++◌, eqb, get_or, set, drop, replicate}
+use Rattle.std.specs.Prelude.{ℕ, zero, suc, ◌+◌, ◌-◌, ◌*◌, Bool, true, false, ◌&&◌, ◌||◌, List, [], ◌∷◌, ◌++◌, eqb, get_or, set, drop, replicate, None, Some}
 use Rattle.std.proofs.Math.Option.{Option, none, some}
 use Rattle.bus.specs.Routing.{routing}
 use Rattle.card.specs.declared.Card.{Card}
@@ -10,8 +10,6 @@ use Rattle.shelf.specs.Shelves.{unit, fresh, declared, find_in, blank}
 use Rattle.shelf.specs.Sessions.{with_session}
 use Rattle.shelf.specs.declared.Unit as U
 use Rattle.shelf.specs.Shelf.{Shelf}
-use Rattle.shelf.specs.declared.Found.{Found}
-use Rattle.shelf.specs.declared.Found.TheVariants.{At, Nothing}
 use Rattle.line.specs.declared.Line.{Line}
 use Rattle.line.specs.declared.Line.TheVariants.{Bus, Unit as L-as-Unit, Vp, Drop, Page, Vc, Mc}
 
@@ -150,8 +148,8 @@ hearing u session =
       sessions = with_session u.sessions session;
     }
 
-unfoldable pub join_at : Shelf → Found → ℕ → Shelf
-join_at shelf (At i) session =
+unfoldable pub join_at : Shelf → Option ℕ → ℕ → Shelf
+join_at shelf (Some i) session =
     record {
       bus = shelf.bus;
       count = shelf.count;
@@ -160,7 +158,7 @@ join_at shelf (At i) session =
       granted = shelf.granted;
       frame = shelf.frame;
     }
-join_at shelf Nothing session = shelf
+join_at shelf None session = shelf
 
 unfoldable pub shelf_by : Line → ℕ → Shelf → Shelf
 shelf_by (Bus bus) place shelf = fresh bus

@@ -1,4 +1,5 @@
 -- Sessions written one behind the other, and the place of a unit that was found. Assumes nothing.
+use Rattle.std.specs.Prelude.{Some}
 use mathlib.Core.Path.{◌≡◌}
 use mathlib.Core.List.{List}
 use Prim.Native.Nat.{ℕ, ◌+◌, ◌≤◌, ◌<◌, min}
@@ -7,7 +8,6 @@ use native.Mathlib.Omega.{arith}
 use lib.ListN.{length}
 use Rattle.text.specs.Writing.{Wrote}
 use Rattle.text.proofs.Splices.{nothing, then}
-use Rattle.shelf.specs.declared.Found.TheVariants.{At}
 use Rattle.shelf.specs.Shelves.{declared, find_in}
 use Rattle.shelf.proofs.Finding.{declared_length, find_at}
 use Rattle.state.specs.Bytes.{shelf_in}
@@ -24,7 +24,7 @@ unfolding heard_below
 next_session b b₁ b₂ sessions i k p q w x room = rw add-one (then b b₁ b₂ (heard_below sessions i) (session_text sessions i) k p q w x room)
 
 -- a unit that is found stands below 32
-pub found_below : (b : List ℕ) (number i : ℕ) → find_in (declared (shelf_in b)) number ≡ At i → i < 32
+pub found_below : (b : List ℕ) (number i : ℕ) → find_in (declared (shelf_in b)) number ≡ Some i → i < 32
 found_below b number i e =
     let f = ((find_at number (declared (shelf_in b)) i).0 e).inside in
     let n : length (declared (shelf_in b)) ≡ min (shelf_in b).count 32 = declared_length (shelf_in b) (units_length b 0 32) in

@@ -1,9 +1,7 @@
 -- `show unit` as bytes, up to its newline: one unit, its fields by name in the order of the columns (docs/CONSOLE.md). Assumes nothing.
-use Rattle.std.specs.Prelude.{ℕ, zero, suc, ◌+◌, ◌*◌, cond, List, [], ◌++◌, eqb}
+use Rattle.std.specs.Prelude.{ℕ, zero, suc, ◌+◌, ◌*◌, cond, List, [], ◌++◌, eqb, None, Option, Some}
 use Rattle.octets.specs.Octets.{part}
 use Rattle.text.specs.Decimals.{number_field}
-use Rattle.shelf.specs.declared.Found.{Found}
-use Rattle.shelf.specs.declared.Found.TheVariants.{At, Nothing}
 use Rattle.shelf.specs.Sessions.{hears}
 use Rattle.shelf.specs.Shelves.{declared, find_in}
 use Rattle.state.specs.Bytes.{col, place_by, shelf_in}
@@ -68,9 +66,9 @@ unfoldable pub place_text : List ℕ → ℕ → List ℕ
 place_text b i = (front_text (col b i) ++ cells_text (col b i)) ++ sessions_text (part b (1024 + 32 * i) 32)
 
 -- "The unit is the first place with the byte UNIT in column 0 among the declared places .. Where there is none, the answer is `show unit refused 9`"
-abbrev pub found_text : List ℕ → Found → List ℕ
-found_text b (At i) = place_text b i
-found_text b Nothing = t_no_unit
+abbrev pub found_text : List ℕ → Option ℕ → List ℕ
+found_text b (Some i) = place_text b i
+found_text b None = t_no_unit
 
 unfoldable pub unit_text : List ℕ → ℕ → List ℕ
 unit_text b number = found_text b (find_in (declared (shelf_in b)) number)

@@ -1,4 +1,5 @@
 -- What `soundness` says of a state is what the paper says. Assumes nothing.
+use Rattle.std.specs.Prelude.{None, Option, Some}
 use Prim.Native.Nat.{ℕ, zero, suc, ◌+◌, ◌*◌, ◌-◌, ◌<◌, ◌≤◌}
 use native.Mathlib.Omega.{arith}
 use mathlib.Core.Path.{◌≡◌, refl, sym, ap, subst, ◌∙◌}
@@ -20,8 +21,6 @@ use Rattle.outlet.specs.declared.Ring.{Ring}
 use Rattle.arbiter.specs.Arbitration.{besides}
 use Rattle.shelf.specs.declared.Unit as U
 use Rattle.shelf.specs.Shelf.{Shelf}
-use Rattle.shelf.specs.declared.Found.{Found}
-use Rattle.shelf.specs.declared.Found.TheVariants.{At, Nothing}
 use Rattle.shelf.specs.Shelves.{declared, find_in, is_at}
 use Rattle.shelf.proofs.Finding.{find_at, find_nothing}
 use Rattle.soundness.specs.State as state
@@ -175,12 +174,12 @@ capacity_most limits q g = capacity_in limits.mode limits.cbrlength limits.cbrli
 pub found_iff : (shelf : Shelf) (unit : ℕ) → (is_at (find_in (declared shelf) unit) ≡ true) ↔ Declared shelf unit
 found_iff shelf unit = by (find_in (declared shelf) unit) refl
   where
-    by : (f : Found) → find_in (declared shelf) unit ≡ f → (is_at f ≡ true) ↔ Declared shelf unit
-    by (At i) e = let x = (find_at unit (declared shelf) i).0 e in (λ t. (i, record { inside = x.inside; named = x.named }), λ d. refl)
-    by Nothing e = (λ t. absurd (false≢true t), λ d. absurd ((find_nothing unit (declared shelf)).0 e d.0 d.1.inside d.1.named))
+    by : (f : Option ℕ) → find_in (declared shelf) unit ≡ f → (is_at f ≡ true) ↔ Declared shelf unit
+    by (Some i) e = let x = (find_at unit (declared shelf) i).0 e in (λ t. (i, record { inside = x.inside; named = x.named }), λ d. refl)
+    by None e = (λ t. absurd (false≢true t), λ d. absurd ((find_nothing unit (declared shelf)).0 e d.0 d.1.inside d.1.named))
 
 -- in a sound state the place is the one that is found
-pub found_at : (card : Card) (shelf : Shelf) (bytes rows : ℕ) → Sound card shelf bytes rows → (unit place : ℕ) → DeclaredAt shelf unit place → find_in (declared shelf) unit ≡ At place
+pub found_at : (card : Card) (shelf : Shelf) (bytes rows : ℕ) → Sound card shelf bytes rows → (unit place : ℕ) → DeclaredAt shelf unit place → find_in (declared shelf) unit ≡ Some place
 found_at card shelf bytes rows s unit place d =
     (find_at unit (declared shelf) place).1 (record { inside = d.inside; named = d.named; first = λ j h e. s.once j place h d.inside (e ∙ sym d.named) })
 

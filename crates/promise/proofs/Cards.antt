@@ -1,5 +1,6 @@
 -- Demand 3, first half: a table that the wide card accepts is refused by the narrow card as Wide at its first line that is too wide, exactly when
 -- there is one; else it is accepted, with the same shelf, and every lookup agrees. Assumes nothing.
+use Rattle.std.specs.Prelude.{None, Some}
 use mathlib.Core.Path.{◌≡◌, refl, sym, ap, ap₂, subst, ◌∙◌}
 use mathlib.Core.Bool.{Bool, true, false, cond, not, false≢true}
 use mathlib.Core.List.{List, [], ◌∷◌, ◌++◌}
@@ -20,7 +21,6 @@ use Rattle.lookup.specs.declared.Record.TheVariants.{Empty, Drop as R-as-Drop, R
 use Rattle.lookup.specs.declared.Got.TheVariants.{Is}
 use Rattle.lookup.specs.Lookup.{translated}
 use Rattle.shelf.specs.Shelves.{blank, declared, find_in}
-use Rattle.shelf.specs.declared.Found.TheVariants.{At, Nothing}
 use Rattle.line.specs.declared.Line.{Line}
 use Rattle.line.specs.declared.Line.TheVariants.{Bus, Unit as L-as-Unit, Vp, Drop, Page, Vc, Mc}
 use Rattle.line.specs.declared.Reading.{Reading}
@@ -203,10 +203,10 @@ module _ (text memory : List ℕ) (store rows : ℕ) (told : List Line) (a : Acc
   same_loading n = (accepted Narrow text memory store rows told (narrow_accepts n)).0 ∙ sym (accepted W text memory store rows told a).0
 
 -- D. on the memory that it loaded to, a declared unit's lookup is what the lines say, on either card
-at_is : {i j : ℕ} → At i ≡ At j → i ≡ j
+at_is : {i j : ℕ} → Some i ≡ Some j → i ≡ j
 at_is e = cc
 
-nothing_at : {i : ℕ} → Nothing ≡ At i → ⊥
+nothing_at : {i : ℕ} → None ≡ Some i → ⊥
 nothing_at e = let z : ◌≡◌ {A = ℕ} 0 1 = cc in omega arith
 
 module _ (card : Card) (text memory : List ℕ) (store rows : ℕ) (told : List Line) (a : Accepts card text memory store rows told) where
@@ -217,14 +217,14 @@ module _ (card : Card) (text memory : List ℕ) (store rows : ℕ) (told : List 
   ranges = accepts_ranged card text memory store rows told a
 
   -- a unit that is found was declared
-  was_declared : (u i : ℕ) → find_in (declared (shelf_of told)) u ≡ At i → (top : ℕ) × (top_of told (of_unit u) ≡ some top)
+  was_declared : (u i : ℕ) → find_in (declared (shelf_of told)) u ≡ Some i → (top : ℕ) × (top_of told (of_unit u) ≡ some top)
   was_declared u i f = go (top_of told (of_unit u)) refl
     where
       go : (o : Option ℕ) → top_of told (of_unit u) ≡ o → (top : ℕ) × (top_of told (of_unit u) ≡ some top)
       go none e = absurd (nothing_at (sym ((shelved card (usable memory) told good ranges).gone u e) ∙ f))
       go (some top) e = (top, e)
 
-  unit_by_lines : (u i : ℕ) → find_in (declared (shelf_of told)) u ≡ At i → (header : ℕ) → lookup_at card (memory_of card memory told) (get_or (shelf_of told).units i blank) header ≡ said_by told u (get_or (shelf_of told).units i blank) header
+  unit_by_lines : (u i : ℕ) → find_in (declared (shelf_of told)) u ≡ Some i → (header : ℕ) → lookup_at card (memory_of card memory told) (get_or (shelf_of told).units i blank) header ≡ said_by told u (get_or (shelf_of told).units i blank) header
   unit_by_lines u i f header =
       let d = was_declared u i f in
       let s = (shelved card (usable memory) told good ranges).here u d.0 d.1 in
@@ -233,7 +233,7 @@ module _ (card : Card) (text memory : List ℕ) (store rows : ℕ) (told : List 
       ∙ lookup_lines card memory told good ranges (get_or (shelf_of told).units s.i blank).settings.link u d.0 header d.1
       ∙ ap (λ t. looked_up told (get_or (shelf_of told).units s.i blank).settings.link u t header) (sym s.tops))
 
-  pub lookup_by_lines : (u i : ℕ) → find_in (declared (load card text memory store rows).shelf) u ≡ At i → (header : ℕ) → lookup_at card (loaded card text memory store rows) (get_or (load card text memory store rows).shelf.units i blank) header ≡ said_by told u (get_or (load card text memory store rows).shelf.units i blank) header
+  pub lookup_by_lines : (u i : ℕ) → find_in (declared (load card text memory store rows).shelf) u ≡ Some i → (header : ℕ) → lookup_at card (loaded card text memory store rows) (get_or (load card text memory store rows).shelf.units i blank) header ≡ said_by told u (get_or (load card text memory store rows).shelf.units i blank) header
   lookup_by_lines u i f header =
       let k = accepted card text memory store rows told a in
       ap₂ (λ m x. lookup_at card m (get_or x.shelf.units i blank) header) k.1 k.0
@@ -241,7 +241,7 @@ module _ (card : Card) (text memory : List ℕ) (store rows : ℕ) (told : List 
       ∙ ap (λ x. said_by told u (get_or x.shelf.units i blank) header) (sym k.0)
 
 -- and every lookup agrees, for every declared unit and every header
-pub same_lookups : (text memory : List ℕ) (store rows : ℕ) (told : List Line) → Accepts W text memory store rows told → NoneWide told → (u i : ℕ) → find_in (declared (load W text memory store rows).shelf) u ≡ At i → (header : ℕ) → lookup_at Narrow (loaded Narrow text memory store rows) (get_or (load W text memory store rows).shelf.units i blank) header ≡ lookup_at W (loaded W text memory store rows) (get_or (load W text memory store rows).shelf.units i blank) header
+pub same_lookups : (text memory : List ℕ) (store rows : ℕ) (told : List Line) → Accepts W text memory store rows told → NoneWide told → (u i : ℕ) → find_in (declared (load W text memory store rows).shelf) u ≡ Some i → (header : ℕ) → lookup_at Narrow (loaded Narrow text memory store rows) (get_or (load W text memory store rows).shelf.units i blank) header ≡ lookup_at W (loaded W text memory store rows) (get_or (load W text memory store rows).shelf.units i blank) header
 same_lookups text memory store rows told a n u i f header =
     let s = same_loading text memory store rows told a n in
     let w = lookup_by_lines W text memory store rows told a u i f header in

@@ -1,4 +1,5 @@
 -- A loaded shelf is sound: a `bus` line gives a fresh one, and every good line after it keeps it sound. Assumes nothing.
+use Rattle.std.specs.Prelude.{None, Option, Some}
 use mathlib.Core.Path.{◌≡◌, refl, sym, ap, subst, ◌∙◌}
 use mathlib.Core.Bool.{true}
 use mathlib.Core.List.{List, [], ◌∷◌, ◌++◌}
@@ -20,8 +21,6 @@ use Rattle.shelf.specs.Shelves.{unit, blank, fresh, declared, number_of, find_in
 use Rattle.shelf.specs.declared.Settings.{Settings}
 use Rattle.shelf.specs.declared.Unit as U
 use Rattle.shelf.specs.Shelf.{Shelf}
-use Rattle.shelf.specs.declared.Found.{Found}
-use Rattle.shelf.specs.declared.Found.TheVariants.{At, Nothing}
 use Rattle.shelf.proofs.Finding.{find_at, find_nothing}
 use Rattle.soundness.specs.State.{sound_of, UnitSound, DeclaredIn, Sound}
 use Rattle.soundness.proofs.Facts.{link_iff, sound_iff, fresh_sound}
@@ -185,13 +184,13 @@ module _ (card : Card) (shelf : Shelf) (s : Ready card shelf) (i session : ℕ) 
   below_count : i < shelf.count
   below_count = let l = length-take shelf.count shelf.units in omega arith
 
-  heard_units_lem : declared (join_at shelf (At i) session) ≡ heard (declared shelf) i session inside
+  heard_units_lem : declared (join_at shelf (Some i) session) ≡ heard (declared shelf) i session inside
   unfolding join_at
   heard_units_lem =
       take-set-lt shelf.count shelf.units i (hearing (get_or shelf.units i blank) session) below_count
       ∙ ap (λ u. set (declared shelf) i (hearing u session)) (sym (get_or-take shelf.count shelf.units i blank below_count))
 
-  still_declared : (number : ℕ) → DeclaredIn (declared shelf) number → DeclaredIn (declared (join_at shelf (At i) session)) number
+  still_declared : (number : ℕ) → DeclaredIn (declared shelf) number → DeclaredIn (declared (join_at shelf (Some i) session)) number
   still_declared number w = subst (λ us. DeclaredIn us number) (sym heard_units_lem) (heard_declared (declared shelf) i session inside number w)
 
   abbrev test : U.Unit → Type 0
@@ -208,7 +207,7 @@ module _ (card : Card) (shelf : Shelf) (s : Ready card shelf) (i session : ℕ) 
       let l = heard_length (declared shelf) i session inside in
       s.once j k h (omega arith) (sym (heard_number (declared shelf) i session inside j) ∙ e ∙ heard_number (declared shelf) i session inside k)
 
-  ready_heard : Ready card (join_at shelf (At i) session)
+  ready_heard : Ready card (join_at shelf (Some i) session)
   unfolding join_at
   ready_heard =
       record {
@@ -223,10 +222,10 @@ module _ (card : Card) (shelf : Shelf) (s : Ready card shelf) (i session : ℕ) 
         asks = λ k h. s.asks k (λ w. h (still_declared k w));
       }
 
-ready_join : (card : Card) (shelf : Shelf) (a session : ℕ) (f : Found) → find_in (declared shelf) a ≡ f → Ready card shelf → Ready card (join_at shelf f session)
+ready_join : (card : Card) (shelf : Shelf) (a session : ℕ) (f : Option ℕ) → find_in (declared shelf) a ≡ f → Ready card shelf → Ready card (join_at shelf f session)
 unfolding join_at
-ready_join card shelf a session (At i) e s = ready_heard card shelf s i session ((find_at a (declared shelf) i).0 e).inside
-ready_join card shelf a session Nothing e s = s
+ready_join card shelf a session (Some i) e s = ready_heard card shelf s i session ((find_at a (declared shelf) i).0 e).inside
+ready_join card shelf a session None e s = s
 
 -- D. the lines, one after the other
 ready_line : (card : Card) (room : ℕ) (told : List Line) (l : Line) → judge card room told l ≡ Fine → LineIn l → Shelved told → Ready card (shelf_of told) → Ready card (shelf_of (l ∷ told))

@@ -1,4 +1,5 @@
 -- What `meaning` reads off the lines is what some line before says. Assumes nothing.
+use Rattle.std.specs.Prelude.{None, Option, Some}
 use mathlib.Core.Path.{◌≡◌, refl, sym, ap, ap₂, ◌∙◌}
 use mathlib.Core.Bool.{Bool, true, false, ◌&&◌, false≢true}
 use mathlib.Core.List.Memᴰ
@@ -15,8 +16,6 @@ use Rattle.lookup.specs.declared.Got.TheVariants.{Is}
 use Rattle.card.specs.declared.Card.{Card}
 use Rattle.shelf.specs.Shelves.{find_in}
 use Rattle.shelf.specs.Shelf.{Shelf}
-use Rattle.shelf.specs.declared.Found.{Found}
-use Rattle.shelf.specs.declared.Found.TheVariants.{At, Nothing}
 use Rattle.line.specs.declared.Line.{Line}
 use Rattle.line.specs.declared.Line.TheVariants.{Bus, Unit as L-as-Unit, Vp, Drop, Page, Vc, Mc}
 use Rattle.judge.specs.Verdicts.{taken}
@@ -181,10 +180,10 @@ unfolding total records_of
 records_total [] = refl
 records_total (l ∷ told) = ap₂ ◌+◌ (records_total told) (takes_by l)
 
-joined_count : (shelf : Shelf) (f : Found) (session : ℕ) → (join_at shelf f session).count ≡ shelf.count
+joined_count : (shelf : Shelf) (f : Option ℕ) (session : ℕ) → (join_at shelf f session).count ≡ shelf.count
 unfolding join_at
-joined_count shelf (At i) session = refl
-joined_count shelf Nothing session = refl
+joined_count shelf (Some i) session = refl
+joined_count shelf None session = refl
 
 -- a `bus` line comes first
 pub units_count : (card : Card) (room : ℕ) (told : List Line) → Good card room told → (shelf_of told).count ≡ unit_lines told

@@ -1,4 +1,5 @@
 -- After a refused load: a bus without units, which is the document's without a line. Assumes nothing.
+use Rattle.std.specs.Prelude.{None, Option, Some}
 use Prim.Native.Nat.{ℕ}
 use native.Mathlib.Omega.{arith}
 use mathlib.Core.Path.{◌≡◌, refl, sym, ap, subst, ◌∙◌}
@@ -9,8 +10,6 @@ use lib.ListN.{length, take}
 use Rattle.card.specs.declared.Card.{Card}
 use Rattle.lookup.specs.Record.{cleared}
 use Rattle.shelf.specs.Shelves.{declared, find_in, place_from, fresh, is_at}
-use Rattle.shelf.specs.declared.Found.{Found}
-use Rattle.shelf.specs.declared.Found.TheVariants.{At, Nothing}
 use Rattle.shelf.specs.Shelf.{Shelf}
 use Rattle.soundness.specs.State.{sound_of}
 use Rattle.answer.specs.Counting.{settled, settled_to}
@@ -33,7 +32,7 @@ use Rattle.refining.proofs.Alike.{WorldAlike}
 use Rattle.refining.proofs.Refined.{given, gives_alike, loaded_gives}
 
 -- nobody is found
-not_there : (shelf : Shelf) → shelf.count ≡ 0 → (unit : ℕ) → find_in (declared shelf) unit ≡ Nothing
+not_there : (shelf : Shelf) → shelf.count ≡ 0 → (unit : ℕ) → find_in (declared shelf) unit ≡ None
 unfolding find_in place_from
 not_there shelf none unit = ap (λ n. find_in (take n shelf.units) unit) none
 
@@ -69,12 +68,12 @@ module _ (card : Card) (w : World) (none : w.shelf.count ≡ 0) where
       (record { none = none; memory = refl; store = refl; rows = refl })
 
   -- a frame is idle
-  framed : (s r : Bool) (m : Shelf) (then each : List ℕ) → m.count ≡ 0 → then ≡ w.store → (sender : Found) → sender ≡ Nothing →
+  framed : (s r : Bool) (m : Shelf) (then each : List ℕ) → m.count ≡ 0 → then ≡ w.store → (sender : Option ℕ) → sender ≡ None →
       let done = cond s (cond r (framing.ended m (framing.granted m) (framing.listened_by sender m then each)) (refused w.shelf 10)) (refused w.shelf 8) in
       Same w (record { shelf = done.reply.shelf; memory = w.memory; store = cond s (cond r (framing.store_by sender m then) w.store) w.store; rows = settled w.rows done.rises })
   unfolding framing.listened_by framing.store_by settled_to
-  framed true true m then each nobody kept Nothing e = record { none = nobody; memory = refl; store = kept; rows = ap (settled_to w.rows _) nobody }
-  framed true true m then each nobody kept (At place) e = let z : ◌≡◌ {A = ℕ} 0 1 = cc in absurd (omega arith)
+  framed true true m then each nobody kept None e = record { none = nobody; memory = refl; store = kept; rows = ap (settled_to w.rows _) nobody }
+  framed true true m then each nobody kept (Some place) e = let z : ◌≡◌ {A = ℕ} 0 1 = cc in absurd (omega arith)
   framed true false m then each nobody kept sender e = record { none = none; memory = refl; store = refl; rows = refl }
   framed false r m then each nobody kept sender e = record { none = none; memory = refl; store = refl; rows = refl }
 

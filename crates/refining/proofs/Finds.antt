@@ -1,4 +1,5 @@
 -- The same unit is found on both, or none. Assumes nothing.
+use Rattle.std.specs.Prelude.{Some}
 use Prim.Native.Nat.{ℕ, ◌<◌}
 use native.Mathlib.Omega.{arith}
 use mathlib.Core.Path.{◌≡◌, refl, sym, ap, ◌∙◌}
@@ -7,7 +8,6 @@ use lib.ListN.{length, length-take, get_or, get_or-map}
 use lib.Seq.{ext_get_or}
 use Rattle.card.specs.declared.Card.{Card}
 use Rattle.shelf.specs.Shelves as S
-use Rattle.shelf.specs.declared.Found.TheVariants as found
 use Rattle.shelf.specs.Shelf.{Shelf}
 use Rattle.shelf.proofs.Finding.{declared_at, find_at}
 use Rattle.soundness.specs.Admission.{unit_at}
@@ -39,5 +39,5 @@ module _ (card : Card) (shelf : Shelf) (memory store : List ℕ) (d : D.Shelf) (
   find_alike n = ap (λ l. S.place_from 0 l n) numbers_alike
 
   -- where a unit is found there is one
-  pub found_below : (n i : ℕ) → S.find_in (S.declared shelf) n ≡ found.At i → i < length d.units
+  pub found_below : (n i : ℕ) → S.find_in (S.declared shelf) n ≡ Some i → i < length d.units
   found_below n i e = let f = ((find_at n (S.declared shelf) i).0 e).inside in omega (arith, f, a.many)

@@ -1,4 +1,5 @@
 -- A frame, on both. Assumes nothing.
+use Rattle.std.specs.Prelude.{None, Some}
 use Prim.Native.Nat.{ℕ, zero, suc, ◌+◌, ◌<◌, ◌≤◌, ◌%◌, ◌^◌, min}
 use native.Mathlib.Omega.{arith}
 use mathlib.Core.Path.{◌≡◌, refl, sym, ap, subst, ◌∙◌}
@@ -19,8 +20,6 @@ use Rattle.arbiter.proofs.Requests.{same_or}
 use Rattle.outlet.specs.Outlets.{RingFits}
 use Rattle.arbiter.specs.Arbitration.{asks_now}
 use Rattle.shelf.specs.Shelves as S
-use Rattle.shelf.specs.declared.Found as F
-use Rattle.shelf.specs.declared.Found.TheVariants as found
 use Rattle.shelf.specs.declared.Unit as U
 use Rattle.shelf.specs.Shelf.{Shelf}
 use Rattle.shelf.proofs.Finding.{find_at}
@@ -246,9 +245,9 @@ rises_one (some s) d place k moved =
     let heard = bit_or moved (hearing_rises (paper.hearing_of d.lines (get_or us k D.blank) s.cell.heard)) in
     cond (eqb k place) (bit_or heard (sending.sent_rises (page.some_addressed d.lines us s.cell))) heard
 
-unfoldable pub rises_by : F.Found → D.Shelf → ℕ → ℕ → ℕ
-rises_by (found.At place) d k moved = rises_one (page.sending_of (D.unit_at d place)) d place k moved
-rises_by found.Nothing d k moved = moved
+unfoldable pub rises_by : Option ℕ → D.Shelf → ℕ → ℕ → ℕ
+rises_by (Some place) d k moved = rises_one (page.sending_of (D.unit_at d place)) d place k moved
+rises_by None d k moved = moved
 
 abbrev pub rises_in : D.Shelf → ℕ → ℕ → ℕ
 rises_in d k moved = rises_by (D.find_in d.units d.granted) d k moved
@@ -274,7 +273,7 @@ module _ (card : Card) (shelf : Shelf) (memory store : List ℕ) (d : D.Shelf) (
     copies : l.copies ≡ s.queued
     rose : (k : ℕ) → k < length d.units → get_or l.each k 0 ≡ rises k (get_or each k 0)
 
-  module _ (place : ℕ) (at : framing.sender shelf ≡ found.At place) where
+  module _ (place : ℕ) (at : framing.sender shelf ≡ Some place) where
     -- the sender is declared
     inside : place < length (S.declared shelf)
     inside = ((find_at shelf.granted (S.declared shelf) place).0 at).inside
@@ -407,7 +406,7 @@ module _ (card : Card) (shelf : Shelf) (memory store : List ℕ) (d : D.Shelf) (
       frame_is = ap sealed sends.cell
 
       by_frame : (buffer : List ℕ) →
-          HeardAlike (framing.listened_by (found.At place) shelf store each) (framing.store_by (found.At place) shelf store) (framing.buffer_by (found.At place) shelf store buffer)
+          HeardAlike (framing.listened_by (Some place) shelf store each) (framing.store_by (Some place) shelf store) (framing.buffer_by (Some place) shelf store buffer)
           (page.sends_one (some s) d place buffer) (rises_one (some s) d place)
       unfolding framing.listened_by framing.store_by framing.buffer_by sending.sent_by sending.sent_store sending.cell_out
       by_frame buffer =
@@ -421,22 +420,22 @@ module _ (card : Card) (shelf : Shelf) (memory store : List ℕ) (d : D.Shelf) (
 
     -- whichever cell it is
     by_sending : (buffer : List ℕ) →
-        HeardAlike (framing.listened_by (found.At place) shelf store each) (framing.store_by (found.At place) shelf store) (framing.buffer_by (found.At place) shelf store buffer)
+        HeardAlike (framing.listened_by (Some place) shelf store each) (framing.store_by (Some place) shelf store) (framing.buffer_by (Some place) shelf store buffer)
         (page.sends_one (page.sending_of e) d place buffer) (rises_one (page.sending_of e) d place)
     by_sending buffer =
         let x = sends_alike store place u e (a.units place here) (all_housed place inside) held in
         subst
         (λ o.
-        HeardAlike (framing.listened_by (found.At place) shelf store each) (framing.store_by (found.At place) shelf store) (framing.buffer_by (found.At place) shelf store buffer)
+        HeardAlike (framing.listened_by (Some place) shelf store each) (framing.store_by (Some place) shelf store) (framing.buffer_by (Some place) shelf store buffer)
         (page.sends_one o d place buffer) (rises_one o d place))
         (sym x.1) (by_frame x.0 x.2 buffer)
 
   -- with a sender, or idle
-  by_sender : (f : F.Found) → framing.sender shelf ≡ f → (buffer : List ℕ) →
+  by_sender : (f : Option ℕ) → framing.sender shelf ≡ f → (buffer : List ℕ) →
       HeardAlike (framing.listened_by f shelf store each) (framing.store_by f shelf store) (framing.buffer_by f shelf store buffer) (page.sends f d buffer) (rises_by f d)
   unfolding page.sends rises_by framing.listened_by framing.store_by framing.buffer_by
-  by_sender (found.At place) at buffer = by_sending place at buffer
-  by_sender found.Nothing at buffer =
+  by_sender (Some place) at buffer = by_sending place at buffer
+  by_sender None at buffer =
       record {
         bus = refl;
         many = a.many;

@@ -1,4 +1,5 @@
 -- A good load: the shelf is the document's shelf of these lines. Assumes nothing.
+use Rattle.std.specs.Prelude.{None, Some}
 use Prim.Native.Nat.{ℕ, zero, suc, ◌*◌, ◌<◌, ◌≤◌, min}
 use native.Mathlib.Omega.{arith}
 use mathlib.Core.Path.{◌≡◌, refl, sym, ap, ap₂, subst, ◌∙◌}
@@ -17,8 +18,6 @@ use Rattle.lookup.specs.Lookup.{translated}
 use Rattle.shelf.specs.Shelves.{unit, blank, empty_side, fresh, declared, find_in, number_of}
 use Rattle.shelf.specs.declared.Unit as U
 use Rattle.shelf.specs.Shelf.{Shelf}
-use Rattle.shelf.specs.declared.Found.{Found}
-use Rattle.shelf.specs.declared.Found.TheVariants.{At, Nothing}
 use Rattle.shelf.proofs.Finding.{find_at, declared_at}
 use Rattle.line.specs.declared.Line.{Line}
 use Rattle.line.specs.declared.Line.TheVariants.{Bus, Unit as L-as-Unit, Vp, Drop, Page, Vc, Mc}
@@ -54,10 +53,10 @@ abbrev idle : Shelf → Shelf
 idle shelf = record { bus = shelf.bus; count = 0; units = []; arbiter = shelf.arbiter; granted = shelf.granted; frame = shelf.frame }
 
 -- a session more does not either
-joined_idle : (shelf : Shelf) (f : Found) (session : ℕ) → idle (join_at shelf f session) ≡ idle shelf
+joined_idle : (shelf : Shelf) (f : Option ℕ) (session : ℕ) → idle (join_at shelf f session) ≡ idle shelf
 unfolding join_at
-joined_idle shelf (At i) session = refl
-joined_idle shelf Nothing session = refl
+joined_idle shelf (Some i) session = refl
+joined_idle shelf None session = refl
 
 -- the bus is the document's, and nothing has happened on it
 opened_idle : (told : List Line) → idle (shelf_of told) ≡ idle (fresh (D.bus_of told))
@@ -83,14 +82,14 @@ abbrev again : D.Unit → D.Unit
 again d = D.fresh_unit d.settings d.limits
 
 -- a session more
-joined_plain : (shelf : Shelf) (a session : ℕ) (f : Found) → find_in (declared shelf) a ≡ f → map plain (declared (join_at shelf f session)) ≡ map plain (declared shelf)
+joined_plain : (shelf : Shelf) (a session : ℕ) (f : Option ℕ) → find_in (declared shelf) a ≡ f → map plain (declared (join_at shelf f session)) ≡ map plain (declared shelf)
 unfolding join_at
-joined_plain shelf a session (At i) e =
+joined_plain shelf a session (Some i) e =
     let inside = ((find_at a (declared shelf) i).0 e).inside in
     let below : i < shelf.count = omega (arith, inside, length-take shelf.count shelf.units) in
     ap (map plain) (take-set-lt shelf.count shelf.units i (hearing (get_or shelf.units i blank) session) below)
     ∙ map-set_same plain (declared shelf) i (hearing (get_or shelf.units i blank) session) blank (ap plain (sym (get_or-take shelf.count shelf.units i blank below)))
-joined_plain shelf a session Nothing e = refl
+joined_plain shelf a session None e = refl
 
 -- a `bus` line comes first
 bus_units : (told : List Line) (bus : ℕ) → is_first told ≡ true → map plain (declared (fresh bus)) ≡ map made (D.units_of (Bus bus ∷ told))
@@ -162,13 +161,13 @@ fresh_alike store place u d e f =
 
 -- C. what the memory and the sessions mean to each of them
 -- what is found is told apart
-at_is : {i j : ℕ} → At i ≡ At j → i ≡ j
+at_is : {i j : ℕ} → Some i ≡ Some j → i ≡ j
 at_is e = cc
 
-nothing_at : {i : ℕ} → Nothing ≡ At i → ⊥
+nothing_at : {i : ℕ} → None ≡ Some i → ⊥
 nothing_at e = let z : ◌≡◌ {A = ℕ} 0 1 = cc in omega arith
 
-module _ (card : Card) (memory : List ℕ) (told : List Line) (g : Good card (usable memory) told) (r : AllRanged told) (n i : ℕ) (found : find_in (declared (shelf_of told)) n ≡ At i) where
+module _ (card : Card) (memory : List ℕ) (told : List Line) (g : Good card (usable memory) told) (r : AllRanged told) (n i : ℕ) (found : find_in (declared (shelf_of told)) n ≡ Some i) where
   -- a unit that is found stands where its line put it
   stands : (top : ℕ) × (top_of told (of_unit n) ≡ some top) × Stands (shelf_of told) n top (start told (of_unit n)) (hears_in told n)
   stands = go (top_of told (of_unit n)) refl

@@ -1,4 +1,5 @@
 -- Two cards on equal bytes that say and give back the same leave equal bytes. Assumes nothing.
+use Rattle.std.specs.Prelude.{None, Option, Some}
 use Prim.Native.Nat.{ℕ, zero, suc, ◌+◌, ◌*◌, ◌%◌, ◌^◌, min}
 use mathlib.Core.Path.{◌≡◌, refl, sym, ap, subst, ◌∙◌}
 use mathlib.Core.Bool.{Bool, true, false, cond, ◌&&◌}
@@ -21,8 +22,6 @@ use Rattle.lookup.specs.declared.Looked as L
 use Rattle.lookup.specs.declared.Looked.TheVariants as looked
 use Rattle.shelf.specs.Shelves.{declared, blank, find_in}
 use Rattle.shelf.specs.Shelf.{Shelf}
-use Rattle.shelf.specs.declared.Found as F
-use Rattle.shelf.specs.declared.Found.TheVariants as found
 use Rattle.shelf.specs.declared.Unit as U
 use Rattle.state.specs.Bytes.{shelf_in, unit_in, with_turn}
 use Rattle.state.specs.Placing.{fresh_bytes}
@@ -170,12 +169,12 @@ unfolding turns
 bytes_alone h cell i zero x y e = e
 bytes_alone h cell i (suc n) x y e = bytes_alone h cell (suc i) n _ _ (ap (λ b. hearing·.state_by (plan_of (unit_in b i) h) b i) e)
 
-sent_same : (f : F.Found) (b store store' buffer : List ℕ) → framing.buffer_by f (shelf_in b) store buffer ≡ framing.buffer_by f (shelf_in b) store' buffer → framing·.state_by f b store ≡ framing·.state_by f b store'
+sent_same : (f : Option ℕ) (b store store' buffer : List ℕ) → framing.buffer_by f (shelf_in b) store buffer ≡ framing.buffer_by f (shelf_in b) store' buffer → framing·.state_by f b store ≡ framing·.state_by f b store'
 unfolding framing.buffer_by framing·.state_by framing·.sent_state
-sent_same (found.At place) b store store' buffer e =
+sent_same (Some place) b store store' buffer e =
     let f = sent_frame (shelf_in b) place store' in
     ap (λ x. (heeded_by (heard x) (take 56 x) (framing·.out_state b place) store (replicate 32 0)).bytes) e ∙ bytes_alone (heard f) (take 56 f) 0 _ _ _ refl
-sent_same found.Nothing b store store' buffer e = refl
+sent_same None b store store' buffer e = refl
 
 -- no byte of the store has a part in what the moves write
 moves_alone : (i n : ℕ) (x y : Moved) → x.bytes ≡ y.bytes → (move_from i n x).bytes ≡ (move_from i n y).bytes

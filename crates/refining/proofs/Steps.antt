@@ -1,4 +1,5 @@
 -- Every event does on the shelf what it does on the document's. Assumes nothing.
+use Rattle.std.specs.Prelude.{None, Some}
 use Prim.Native.Nat.{ℕ, ◌+◌, ◌<◌, ◌≤◌}
 use native.Mathlib.Omega.{arith}
 use mathlib.Core.Path.{◌≡◌, refl, sym, ap, subst, ◌∙◌}
@@ -11,8 +12,6 @@ use lib.ListN.{length, length-set, get_or, set}
 use borrow.Author.Tests.{eqb-true, ne_eqb, eq-eqb}
 use Rattle.card.specs.declared.Card.{Card}
 use Rattle.shelf.specs.Shelves as S
-use Rattle.shelf.specs.declared.Found as F
-use Rattle.shelf.specs.declared.Found.TheVariants as found
 use Rattle.shelf.specs.Shelf.{Shelf}
 use Rattle.soundness.specs.State.{Sound}
 use Rattle.soundness.proofs.Facts.{sound_iff}
@@ -127,11 +126,11 @@ module _ (card : Card) (w : World) (d : D.Shelf) (a : WorldAlike card w d) where
       refused_alike : (number : ℕ) → 0 < number → StepAlike card w d (out (Refused number)) (document.refused d number lent)
       refused_alike number held = subst (λ o. StepAlike card w d o (document.refused d number lent)) (sym (refusal number held)) (as_was number lent)
 
-      go : (f : F.Found) → D.find_in d.units unit ≡ f → (b : Bool) → right ≡ b →
+      go : (f : Option ℕ) → D.find_in d.units unit ≡ f → (b : Bool) → right ≡ b →
           StepAlike card w d (out (at_unit f b)) (document.admitted f b inside (λ number. document.refused d number lent))
-      go found.Nothing e b r = refused_alike 9 (omega arith)
-      go (found.At i) e false r = refused_alike 10 (omega arith)
-      go (found.At i) e true r =
+      go None e b r = refused_alike 9 (omega arith)
+      go (Some i) e false r = refused_alike 10 (omega arith)
+      go (Some i) e true r =
           let_in i (found_below card w.shelf w.memory w.store d a.shelf unit i (find_alike card w.shelf w.memory w.store d a.shelf unit ∙ e)) r
 
   below_32 : (i : ℕ) → i < length d.units → i < 32
@@ -334,7 +333,7 @@ module _ (card : Card) (w : World) (d : D.Shelf) (a : WorldAlike card w d) where
       quiet s only =
           idle_rows w.rows d n a.shelf.counted few a.rows once moves agrees each only (page.framed d buffer) (ap (λ x. x.happened ++ m.history) s) (ap (λ x. x.units) s)
 
-      by_sending : (place : ℕ) → D.find_in m.units d.granted ≡ found.At place → (o : Option page.Sending) → page.sending_of (D.unit_at m place) ≡ o →
+      by_sending : (place : ℕ) → D.find_in m.units d.granted ≡ Some place → (o : Option page.Sending) → page.sending_of (D.unit_at m place) ≡ o →
           ((k : ℕ) → k < length d.units → get_or each k 0 ≡ rises_one o m place k (taken_if (moves k))) →
           (i : ℕ) → i < length d.units → RowAlike (settled w.rows (frame_rises n each)) (page.framed d buffer) i
       by_sending place at none first r = quiet (ap (λ f. page.sends f m buffer) at ∙ ap (λ o. page.sends_one o m place buffer) first) r
@@ -348,10 +347,10 @@ module _ (card : Card) (w : World) (d : D.Shelf) (a : WorldAlike card w d) where
           (r place here ∙ rises_sender c m place (taken_if (moves place)))
           (page.framed d buffer) (ap (λ x. x.happened ++ m.history) s) (ap (λ x. x.units) s)
 
-      by_found : (f : F.Found) → D.find_in m.units d.granted ≡ f → ((k : ℕ) → k < length d.units → get_or each k 0 ≡ rises_by f m k (taken_if (moves k))) →
+      by_found : (f : Option ℕ) → D.find_in m.units d.granted ≡ f → ((k : ℕ) → k < length d.units → get_or each k 0 ≡ rises_by f m k (taken_if (moves k))) →
           (i : ℕ) → i < length d.units → RowAlike (settled w.rows (frame_rises n each)) (page.framed d buffer) i
-      by_found found.Nothing at r = quiet (ap (λ f. page.sends f m buffer) at) r
-      by_found (found.At place) at r = by_sending place at (page.sending_of (D.unit_at m place)) refl r
+      by_found None at r = quiet (ap (λ f. page.sends f m buffer) at) r
+      by_found (Some place) at r = by_sending place at (page.sending_of (D.unit_at m place)) refl r
 
   pub frame_step : (buffer : List ℕ) → StepAlike card w d (happens card w (frame buffer)) (document.happens_to d (frame buffer))
   unfolding happens document.happens_to framing.checked settled_to

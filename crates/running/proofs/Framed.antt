@@ -1,4 +1,5 @@
 -- A frame leaves a sound shelf sound. Assumes nothing.
+use Rattle.std.specs.Prelude.{None, Option, Some}
 use Prim.Native.Nat.{ℕ, zero, suc, ◌+◌, ◌-◌, ◌*◌, ◌<◌, ◌≤◌, min}
 use native.Mathlib.Omega.{arith}
 use mathlib.Core.Path.{◌≡◌, refl, sym, ap, subst, ◌∙◌}
@@ -21,8 +22,6 @@ use Rattle.bus.specs.Frame.{heard}
 use Rattle.store.specs.Places.{cell_at}
 use Rattle.store.proofs.Slots.{by_lt, cell_length}
 use Rattle.shelf.specs.Shelves.{declared, blank, waiting, number_of, find_in}
-use Rattle.shelf.specs.declared.Found as F
-use Rattle.shelf.specs.declared.Found.TheVariants as found
 use Rattle.shelf.specs.declared.Unit as U
 use Rattle.shelf.specs.Shelf.{Shelf}
 use Rattle.shelf.proofs.Finding.{declared_at, find_at, find_nothing}
@@ -45,9 +44,9 @@ use Rattle.running.proofs.Moved.{stores_moved, moves_sound}
 declared_or : {P : Type 0} (us : List U.Unit) (n : ℕ) → (DeclaredIn us n → P) → ((DeclaredIn us n → ⊥) → P) → P
 declared_or {P} us n known unknown = go (find_in us n) refl
   where
-    go : (f : F.Found) → find_in us n ≡ f → P
-    go (found.At i) e = let f = (find_at n us i).0 e in known (i, f.inside, f.named)
-    go found.Nothing e = unknown (λ d. (find_nothing n us).0 e d.0 d.1 d.2)
+    go : (f : Option ℕ) → find_in us n ≡ f → P
+    go (Some i) e = let f = (find_at n us i).0 e in known (i, f.inside, f.named)
+    go None e = unknown (λ d. (find_nothing n us).0 e d.0 d.1 d.2)
 
 past_zero : (l : List ℕ) (n : ℕ) → length l ≤ n → get_or l n 0 ≡ 0
 past_zero [] n h = refl
@@ -242,11 +241,11 @@ module _ (card : Card) (shelf : Shelf) (store : List ℕ) (records : ℕ) (each 
       subst (λ n. Housed n (get_or (declared (out place)) k blank) (length store)) zero_on
       (subst (λ u. Housed k u (length store)) (sym (declared_at (out place) k blank less)) (out_housed shelf place (length store) (unit_at shelf place) refl h all_housed k few))
 
-  turn_shelf : (f : F.Found) → sender shelf ≡ f → Sound card (ended shelf (granted_of shelf) (listened_by f shelf store each)).reply.shelf (length store) records
+  turn_shelf : (f : Option ℕ) → sender shelf ≡ f → Sound card (ended shelf (granted_of shelf) (listened_by f shelf store each)).reply.shelf (length store) records
   unfolding listened_by sent_by cell_out
-  turn_shelf found.Nothing e =
+  turn_shelf None e =
       sound_after card shelf shelf (length store) records _ facts refl refl refl (λ j h. went_nowhere shelf.granted j (length store) (unit_at shelf j) (all_housed j h))
-  turn_shelf (found.At place) e =
+  turn_shelf (Some place) e =
       let at = (find_at shelf.granted (declared shelf) place).0 e in
       let named : number_of (unit_at shelf place) ≡ shelf.granted = ap number_of (sym (declared_at shelf place blank (let i = at.inside in omega (arith, length-take shelf.count shelf.units)))) ∙ at.named in
       let h = heard (sent_frame shelf place store) in
@@ -256,10 +255,10 @@ module _ (card : Card) (shelf : Shelf) (store : List ℕ) (records : ℕ) (each 
       (many_kept h 0 (declared (out place)) (silence (out place) each) ∙ length-set shelf.units place (unit_out (unit_at shelf place)))
       (λ j k. subst (λ n. Went n (unit_at shelf j) (unit_at (heard_by_all (out place) each h).shelf j)) named (went_heard shelf place (length store) all_housed at.inside each h j k))
 
-  turn_store : (f : F.Found) → sender shelf ≡ f → length (store_by f shelf store) ≡ length store
+  turn_store : (f : Option ℕ) → sender shelf ≡ f → length (store_by f shelf store) ≡ length store
   unfolding store_by sent_store cell_out
-  turn_store found.Nothing e = refl
-  turn_store (found.At place) e =
+  turn_store None e = refl
+  turn_store (Some place) e =
       let at = (find_at shelf.granted (declared shelf) place).0 e in
       let l = sent_length place at.inside in
       store_length (heard (sent_frame shelf place store)) 0 (declared (out place)) store (take 56 (sent_frame shelf place store)) (let a = length-take 56 (sent_frame shelf place store) in omega arith) (out_all place at.inside)

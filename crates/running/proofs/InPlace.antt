@@ -1,4 +1,5 @@
 -- An event in lent bytes is the event on the shelf that they are. Assumes nothing.
+use Rattle.std.specs.Prelude.{None, Option, Some}
 use Prim.Native.Nat.{ℕ, ◌<◌, ◌≤◌}
 use native.Mathlib.Omega.{arith}
 use mathlib.Core.Path.{◌≡◌, refl, sym, ap, ◌∙◌}
@@ -9,8 +10,6 @@ use lib.Dec.{eqb}
 use lib.ListN.{length, get_or}
 use Rattle.card.specs.declared.Card.{Card}
 use Rattle.shelf.specs.Shelves.{declared, blank, find_in, is_at}
-use Rattle.shelf.specs.declared.Found as F
-use Rattle.shelf.specs.declared.Found.TheVariants as found
 use Rattle.state.specs.Bytes.{unit_in, with_byte}
 use Rattle.state.proofs.Laws.{unit_at_lem}
 use Rattle.soundness.specs.State.{sound_of}
@@ -302,12 +301,12 @@ module _ (card : Card) (l : Lent) where
   unformed none (count unit) = λ t. record { said = count_said (count_of (told_apart (unformed_in card b s n unit true none t)) l.rows); lent = l; bytes = [] }
 
 -- C. what is refused changes no byte
-keeps : (x : Bool) (f : F.Found) (r : Bool) (inside : ℕ → List ℕ) (state : List ℕ) → (◌≡◌ {A = ℕ} (cond x (cond (is_at f) (cond r 0 10) 9) 8) 0 → ⊥) →
+keeps : (x : Bool) (f : Option ℕ) (r : Bool) (inside : ℕ → List ℕ) (state : List ℕ) → (◌≡◌ {A = ℕ} (cond x (cond (is_at f) (cond r 0 10) 9) 8) 0 → ⊥) →
     decided (cond x (at_unit f r) (Refused 8)) inside (λ number. state) ≡ state
 unfolding decided at_unit
-keeps true (found.At i) true inside state h = absurd (h refl)
-keeps true (found.At i) false inside state h = refl
-keeps true found.Nothing r inside state h = refl
+keeps true (Some i) true inside state h = absurd (h refl)
+keeps true (Some i) false inside state h = refl
+keeps true None r inside state h = refl
 keeps false f r inside state h = refl
 
 kept_frame : (x r : Bool) (state sent : List ℕ) → (◌≡◌ {A = ℕ} (cond x (cond r 0 10) 8) 0 → ⊥) → cond x (cond r sent state) state ≡ state

@@ -1,4 +1,5 @@
 -- The shelf of a good table, number by number. Assumes nothing.
+use Rattle.std.specs.Prelude.{None, Some}
 use Prim.Native.Nat.{ℕ, zero, suc, ◌*◌, ◌/◌, ◌%◌, ◌^◌, ◌<◌, ◌≤◌}
 use native.Mathlib.Omega.{arith}
 use mathlib.Core.Path.{◌≡◌, refl, sym, ap, subst, ◌∙◌}
@@ -17,8 +18,6 @@ use Rattle.shelf.specs.Sessions.{hears}
 use Rattle.shelf.specs.declared.Settings.{Settings}
 use Rattle.shelf.specs.declared.Unit as U
 use Rattle.shelf.specs.Shelf.{Shelf}
-use Rattle.shelf.specs.declared.Found.{Found}
-use Rattle.shelf.specs.declared.Found.TheVariants.{At, Nothing}
 use Rattle.shelf.proofs.Finding.{find_at, declared_at}
 use Rattle.soundness.specs.State.{sound_of}
 use Rattle.soundness.proofs.Facts.{sound_find}
@@ -38,10 +37,10 @@ use Rattle.running.specs.Opened.{no_unit, empty_bus, Declared, Opened}
 abbrev pub idle : Shelf → Shelf
 idle shelf = record { bus = 0; count = 0; units = []; arbiter = shelf.arbiter; granted = shelf.granted; frame = shelf.frame }
 
-joined_idle : (shelf : Shelf) (f : Found) (session : ℕ) → idle (join_at shelf f session) ≡ idle shelf
+joined_idle : (shelf : Shelf) (f : Option ℕ) (session : ℕ) → idle (join_at shelf f session) ≡ idle shelf
 unfolding join_at
-joined_idle shelf (At i) session = refl
-joined_idle shelf Nothing session = refl
+joined_idle shelf (Some i) session = refl
+joined_idle shelf None session = refl
 
 pub told_idle : (told : List Line) → idle (shelf_of told) ≡ idle (empty_bus 16)
 unfolding shelf_of shelf_by declare
@@ -65,10 +64,10 @@ plain_set (x ∷ us) zero (suc j) u e = refl
 plain_set (x ∷ us) (suc i) zero u e = refl
 plain_set (x ∷ us) (suc i) (suc j) u e = plain_set us i j u e
 
-joined_plain : (shelf : Shelf) (f : Found) (session j : ℕ) → plain (get_or (join_at shelf f session).units j blank) ≡ plain (get_or shelf.units j blank)
+joined_plain : (shelf : Shelf) (f : Option ℕ) (session j : ℕ) → plain (get_or (join_at shelf f session).units j blank) ≡ plain (get_or shelf.units j blank)
 unfolding join_at
-joined_plain shelf (At i) session j = plain_set shelf.units i j (hearing (get_or shelf.units i blank) session) refl
-joined_plain shelf Nothing session j = refl
+joined_plain shelf (Some i) session j = plain_set shelf.units i j (hearing (get_or shelf.units i blank) session) refl
+joined_plain shelf None session j = refl
 
 -- a line behind others is not the first
 not_first : (after : List Line) (l : Line) (before : List Line) → is_first (after ++ (l ∷ before)) ≡ false
@@ -108,13 +107,13 @@ module _ (card : Card) (room : ℕ) where
       joined_plain shelf (find_in (declared shelf) u) session (unit_lines before) ∙ unit_at_lem after settings limits before g.1 r.1
 
   -- and no other place has one
-  joined_else : (shelf : Shelf) (u : ℕ) (f : Found) (session i : ℕ) → find_in (declared shelf) u ≡ f → shelf.count ≤ i → get_or (join_at shelf f session).units i blank ≡ get_or shelf.units i blank
+  joined_else : (shelf : Shelf) (u : ℕ) (f : Option ℕ) (session i : ℕ) → find_in (declared shelf) u ≡ f → shelf.count ≤ i → get_or (join_at shelf f session).units i blank ≡ get_or shelf.units i blank
   unfolding join_at
-  joined_else shelf u (At j) session i e h =
+  joined_else shelf u (Some j) session i e h =
       let inside = ((find_at u (declared shelf) j).0 e).inside in
       let n = length-take shelf.count shelf.units in
       get_or-set_other shelf.units j i (hearing (get_or shelf.units j blank) session) blank (λ z. absurd (omega arith))
-  joined_else shelf u Nothing session i e h = refl
+  joined_else shelf u None session i e h = refl
 
   blank_at : (n i : ℕ) → get_or (replicate n blank) i blank ≡ blank
   blank_at zero i = refl
@@ -137,10 +136,10 @@ module _ (card : Card) (room : ℕ) where
       joined_else (shelf_of told) u (find_in (declared (shelf_of told)) u) session i refl (omega arith) ∙ no_unit_lem told g.1 i (omega arith)
 
 -- C. the sessions
-at_is : {i j : ℕ} → At i ≡ At j → i ≡ j
+at_is : {i j : ℕ} → Some i ≡ Some j → i ≡ j
 at_is e = cc
 
-nothing_at : {i : ℕ} → Nothing ≡ At i → ⊥
+nothing_at : {i : ℕ} → None ≡ Some i → ⊥
 nothing_at e = let z : ◌≡◌ {A = ℕ} 0 1 = cc in omega arith
 
 -- "the unit hears that session": its bit is 1
@@ -166,7 +165,7 @@ module _ (card : Card) (room store rows : ℕ) (told : List Line) (good : Good c
       inside : i < length (declared shelf)
       inside = let c = w.counted in omega (arith, h, length-take shelf.count shelf.units, w.long)
 
-      found : find_in (declared shelf) n ≡ At i
+      found : find_in (declared shelf) n ≡ Some i
       found =
           ap (find_in (declared shelf)) (sym (ap number_of (declared_at shelf i blank h) ∙ e))
           ∙ sound_find card shelf store rows sound i inside

@@ -1,4 +1,5 @@
 -- Refusals 8 to 11 over every event. Assumes nothing.
+use Rattle.std.specs.Prelude.{None, Option, Some}
 use Prim.Native.Nat.{ℕ}
 use mathlib.Core.Path.{◌≡◌, refl, sym, ap, ◌∙◌}
 use mathlib.Core.Bool.{Bool, true, false, cond}
@@ -9,8 +10,6 @@ use borrow.Author.Tests.{eqb-true}
 use Rattle.card.specs.declared.Card.{Card}
 use Rattle.shelf.specs.Shelves.{declared, find_in, is_at}
 use Rattle.shelf.specs.Shelf.{Shelf}
-use Rattle.shelf.specs.declared.Found as F
-use Rattle.shelf.specs.declared.Found.TheVariants as found
 use Rattle.soundness.specs.State.{sound_of}
 use Rattle.store.specs.Places.{control_in_slot, put_at}
 use Rattle.answer.specs.Answers.{#taken, number_of, none, row, ends, refused}
@@ -45,11 +44,11 @@ number_by (At place) = 0
 number_by (Refused number) = number
 
 -- State, Unit, Length, in that order
-in_order : (s : Bool) (f : F.Found) (r : Bool) → number_by (cond s (at_unit f r) (Refused 8)) ≡ cond s (cond (is_at f) (cond r 0 10) 9) 8
+in_order : (s : Bool) (f : Option ℕ) (r : Bool) → number_by (cond s (at_unit f r) (Refused 8)) ≡ cond s (cond (is_at f) (cond r 0 10) 9) 8
 unfolding at_unit number_by
-in_order true (found.At place) true = refl
-in_order true (found.At place) false = refl
-in_order true found.Nothing r = refl
+in_order true (Some place) true = refl
+in_order true (Some place) false = refl
+in_order true None r = refl
 in_order false f r = refl
 
 -- what is left as it was
@@ -106,37 +105,37 @@ collect_none shelf place = pick (collects.bare (unit_at shelf place))
 
 -- a hand-in: State, Unit, Length, then Busy
 module _ (w : World) (cell : List ℕ) where
-  abbrev hand_in : Bool → F.Found → Bool → A.Admitted
+  abbrev hand_in : Bool → Option ℕ → Bool → A.Admitted
   hand_in s f r = cond s (at_unit f r) (Refused 8)
 
-  abbrev hand_number : Bool → F.Found → Bool → ℕ
+  abbrev hand_number : Bool → Option ℕ → Bool → ℕ
   hand_number s f r = cond s (cond (is_at f) (cond r (cond (taken_at w.shelf f) 11 0) 10) 9) 8
 
-  hand_number_lem : (s : Bool) (f : F.Found) (r : Bool) → number_of (decided (hand_in s f r) (hands.hand_at w.shelf) (refused w.shelf)).reply.answer ≡ hand_number s f r
+  hand_number_lem : (s : Bool) (f : Option ℕ) (r : Bool) → number_of (decided (hand_in s f r) (hands.hand_at w.shelf) (refused w.shelf)).reply.answer ≡ hand_number s f r
   unfolding decided at_unit number_of
-  hand_number_lem true (found.At place) true = pick (hands.busy (unit_at w.shelf place))
+  hand_number_lem true (Some place) true = pick (hands.busy (unit_at w.shelf place))
     where
       pick : (b : Bool) → number_of (cond b (refused w.shelf 11) (ends answer.Handed (with_unit w.shelf place (hands.handed_to (unit_at w.shelf place))) none)).reply.answer ≡ cond b 11 0
       pick true = refl
       pick false = refl
-  hand_number_lem true (found.At place) false = refl
-  hand_number_lem true found.Nothing r = refl
+  hand_number_lem true (Some place) false = refl
+  hand_number_lem true None r = refl
   hand_number_lem false f r = refl
 
   abbrev hand_came : A.Admitted → Outcome
   hand_came d = ended w (decided d (hands.hand_at w.shelf) (refused w.shelf)) (decided d (λ place. hands.hand_store_at w.shelf place w.store cell) (λ number. w.store)) cell
 
-  hand_kept : (s : Bool) (f : F.Found) (r : Bool) → (hand_number s f r ≡ 0 → ⊥) → hand_came (hand_in s f r) ≡ as_was w (hand_number s f r) cell
+  hand_kept : (s : Bool) (f : Option ℕ) (r : Bool) → (hand_number s f r ≡ 0 → ⊥) → hand_came (hand_in s f r) ≡ as_was w (hand_number s f r) cell
   unfolding decided at_unit number_of settled_to
-  hand_kept true (found.At place) true h = pick (hands.busy (unit_at w.shelf place)) h
+  hand_kept true (Some place) true h = pick (hands.busy (unit_at w.shelf place)) h
     where
       pick : (b : Bool) → (◌≡◌ {A = ℕ} (cond b 11 0) 0 → ⊥) →
           ended w (cond b (refused w.shelf 11) (ends answer.Handed (with_unit w.shelf place (hands.handed_to (unit_at w.shelf place))) none)) (cond b w.store (put_at w.store place control_in_slot cell)) cell
           ≡ as_was w (cond b 11 0) cell
       pick true h = refl
       pick false h = absurd (h refl)
-  hand_kept true (found.At place) false h = refl
-  hand_kept true found.Nothing r h = refl
+  hand_kept true (Some place) false h = refl
+  hand_kept true None r h = refl
   hand_kept false f r h = refl
 
 -- a count

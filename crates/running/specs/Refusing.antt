@@ -1,10 +1,8 @@
 -- Demand 1 over every event: "A bad .. frame, cell, buffer or shelf state is refused with a fixed number"; "every other refusal changes nothing". Assumes nothing.
-use Rattle.std.specs.Prelude.{ℕ, ◌≡◌, Bool, true, false, cond, eqb, length}
+use Rattle.std.specs.Prelude.{ℕ, ◌≡◌, Bool, true, false, cond, eqb, length, None, Option, Some}
 use Rattle.card.specs.declared.Card.{Card}
 use Rattle.shelf.specs.Shelves.{declared, find_in, is_at}
 use Rattle.shelf.specs.Shelf.{Shelf}
-use Rattle.shelf.specs.declared.Found.{Found}
-use Rattle.shelf.specs.declared.Found.TheVariants.{At, Nothing}
 use Rattle.soundness.specs.State.{sound_of}
 use Rattle.soundness.specs.Admission.{unit_at}
 use Rattle.handing.specs.Hands.{busy}
@@ -33,9 +31,9 @@ fits (hand unit cell) = eqb (length cell) 56
 fits (collect unit buffer) = eqb (length buffer) 56
 
 -- "11 Busy, place taken": of a hand-in alone
-abbrev pub taken_at : Shelf → Found → Bool
-taken_at shelf (At place) = busy (unit_at shelf place)
-taken_at shelf Nothing = false
+abbrev pub taken_at : Shelf → Option ℕ → Bool
+taken_at shelf (Some place) = busy (unit_at shelf place)
+taken_at shelf None = false
 
 unfoldable pub taken : Shelf → Event → Bool
 taken shelf (arrive unit cell) = false

@@ -1,4 +1,5 @@
 -- Frame. Assumes nothing.
+use Rattle.std.specs.Prelude.{None, Option, Some}
 use Prim.Native.Nat.{ℕ, ◌+◌, ◌-◌, ◌%◌, ◌<◌, ◌≤◌, min}
 use native.Mathlib.Omega.{arith}
 use mathlib.Core.Path.{◌≡◌, refl, sym, ap, ap₂, subst, ◌∙◌}
@@ -18,8 +19,6 @@ use Rattle.arbiter.proofs.Grants.{granted_length}
 use Rattle.store.specs.Places as places
 use Rattle.store.specs.Rings as rings
 use Rattle.shelf.specs.Shelves as shelves
-use Rattle.shelf.specs.declared.Found.{Found}
-use Rattle.shelf.specs.declared.Found.TheVariants.{At, Nothing}
 use Rattle.outlet.specs.declared.Ring.{Ring}
 use Rattle.shelf.specs.declared.Unit as U
 use Rattle.shelf.specs.Shelf.{Shelf}
@@ -146,7 +145,7 @@ not_lost y in_control e = let z : ◌≡◌ {A = ℕ} 0 1 = cc in omega arith
 not_lost y in_loopback e = let z : ◌≡◌ {A = ℕ} 0 1 = cc in omega arith
 
 -- C. requests, sending and grant, on a world where the moves have counted `each` in the rows that were
-outcome : (w : World) (rows : List C.Counters) (each buffer : List ℕ) → Found → Outcome
+outcome : (w : World) (rows : List C.Counters) (each buffer : List ℕ) → Option ℕ → Outcome
 outcome w rows each buffer f =
     ended (record { shelf = w.shelf; memory = w.memory; store = w.store; rows = rows }) (framing.ended w.shelf (framing.granted w.shelf) (framing.listened_by f w.shelf w.store each))
     (framing.store_by f w.shelf w.store) (framing.buffer_by f w.shelf w.store buffer)
@@ -156,7 +155,7 @@ module _ (card : Card) (w : World) (runs : Runs card w) (rows : List C.Counters)
   abbrev shelf : Shelf
   shelf = w.shelf
 
-  abbrev comes_to : Found → Outcome
+  abbrev comes_to : Option ℕ → Outcome
   comes_to f = outcome w rows each buffer f
 
   is_sound : sound_of card shelf (length w.store) (length w.rows) ≡ true
@@ -166,7 +165,7 @@ module _ (card : Card) (w : World) (runs : Runs card w) (rows : List C.Counters)
   enough = omega (arith, first.many, runs.sound.records)
 
   -- all but the sending
-  abbrev heard_of : Found → Listened
+  abbrev heard_of : Option ℕ → Listened
   heard_of f = framing.listened_by f shelf w.store each
 
   turn_to : Turns shelf.arbiter.last (requests shelf).asks (arbiter.granted shelf.arbiter.last (requests shelf).asks) →
@@ -175,7 +174,7 @@ module _ (card : Card) (w : World) (runs : Runs card w) (rows : List C.Counters)
   turn_to (granted g) = inl g
   turn_to (none g) = inr g
 
-  framed : (f : Found) → (heard_of f).shelf.bus ≡ shelf.bus → (heard_of f).shelf.count ≡ shelf.count →
+  framed : (f : Option ℕ) → (heard_of f).shelf.bus ≡ shelf.bus → (heard_of f).shelf.count ≡ shelf.count →
       (shelf.granted ≡ 255 → Idle w buffer (heard_of f).copies (comes_to f)) → (shelf.granted ≢ 255 → (p : ℕ) × Sends w p (heard_of f).copies (comes_to f)) → Turned w buffer (comes_to f)
   unfolding outcome
   framed f bus count idle sends =
@@ -199,19 +198,19 @@ module _ (card : Card) (w : World) (runs : Runs card w) (rows : List C.Counters)
       }
 
   -- an idle frame
-  nobody_there : shelf.granted ≡ 255 → framing.sender shelf ≡ Nothing
+  nobody_there : shelf.granted ≡ 255 → framing.sender shelf ≡ None
   nobody_there e =
       (find_nothing shelf.granted (shelves.declared shelf)).1
       (λ j h q. let b = below_32 card shelf runs.whole (length w.store) (length w.rows) runs.sound j h in omega arith)
 
-  idle_rows : RisenIn w.rows shelf.count (λ i. []) (comes_to Nothing).world.rows
+  idle_rows : RisenIn w.rows shelf.count (λ i. []) (comes_to None).world.rows
   unfolding outcome framing.listened_by occurs
   idle_rows =
       risen_then rows w.rows _ shelf.count (λ i. taken_by (moves i)) (λ i. []) (λ i. taken_by (moves i)) first
       (risen_in rows shelf.count each (λ i. taken_by (moves i)) enough (λ j h. subst (λ n. Agree n (taken_by (moves j))) (sym (each_is j h)) (one_agrees (moves j))))
       (λ j k. omega arith)
 
-  idle_frame : Idle w buffer 0 (comes_to Nothing)
+  idle_frame : Idle w buffer 0 (comes_to None)
   unfolding outcome framing.listened_by framing.store_by framing.buffer_by
   idle_frame = record { none = refl; units = refl; store = refl; rows = idle_rows; bytes = refl }
 
@@ -229,7 +228,7 @@ module _ (card : Card) (w : World) (runs : Runs card w) (rows : List C.Counters)
     same : (i : ℕ) → i < shelf.count → unit_at shelf i ≡ admit.unit_at shelf i
     same i h = unit_at_lem shelf i h
 
-    found : framing.sender shelf ≡ At p
+    found : framing.sender shelf ≡ Some p
     found = found_at card shelf (length w.store) (length w.rows) runs.sound shelf.granted p d
 
     abbrev cell : List ℕ
@@ -488,7 +487,7 @@ module _ (card : Card) (w : World) (runs : Runs card w) (rows : List C.Counters)
     sent_outcome : List ℕ → List ℕ → Outcome
     sent_outcome x c = ended (record { shelf = shelf; memory = w.memory; store = w.store; rows = rows }) (framing.ended shelf (framing.granted shelf) (sending.count_sent p (sending.heard_by_all out each (bus.heard x)))) (sending.heard_store out (bus.heard x) w.store c) x
 
-    outcome_is : comes_to (At p) ≡ sent_outcome f cell
+    outcome_is : comes_to (Some p) ≡ sent_outcome f cell
     unfolding outcome framing.listened_by framing.store_by framing.buffer_by sending.sent_by sending.sent_store sent_outcome
     outcome_is = (λ i. sent_outcome (frame_is i) (take 56 (frame_is i))) ∙ ap (sent_outcome f) before
 
@@ -523,19 +522,19 @@ module _ (card : Card) (w : World) (runs : Runs card w) (rows : List C.Counters)
           rows = sent_rows;
         }
 
-    sent_frame_lem : Turned w buffer (comes_to (At p))
+    sent_frame_lem : Turned w buffer (comes_to (Some p))
     unfolding sent_outcome framing.listened_by sending.sent_by
     sent_frame_lem =
-        let same_l : heard_of (At p) ≡ sending.count_sent p l = ap (λ x. sending.count_sent p (sending.heard_by_all out each (bus.heard x))) frame_is in
-        framed (At p)
+        let same_l : heard_of (Some p) ≡ sending.count_sent p l = ap (λ x. sending.count_sent p (sending.heard_by_all out each (bus.heard x))) frame_is in
+        framed (Some p)
         (ap (λ (x : Listened). x.shelf.bus) same_l ∙ bus_kept h 0 us (sending.silence out each) ∙ out_bus)
         (ap (λ (x : Listened). x.shelf.count) same_l ∙ count_kept h 0 us (sending.silence out each) ∙ out_count)
         (λ e. absurd (let b = below_32 card shelf runs.whole (length w.store) (length w.rows) runs.sound p d.inside in omega (arith, d.named)))
-        (λ n. (p, subst (λ o. Sends w p (heard_of (At p)).copies o) (sym outcome_is) (subst (λ k. Sends w p k (sent_outcome f cell)) (sym (ap (λ (x : Listened). x.copies) same_l)) sends)))
+        (λ n. (p, subst (λ o. Sends w p (heard_of (Some p)).copies o) (sym outcome_is) (subst (λ k. Sends w p k (sent_outcome f cell)) (sym (ap (λ (x : Listened). x.copies) same_l)) sends)))
 
-  idle_framed : shelf.granted ≡ 255 → Turned w buffer (comes_to Nothing)
+  idle_framed : shelf.granted ≡ 255 → Turned w buffer (comes_to None)
   unfolding framing.listened_by
-  idle_framed e = framed Nothing refl refl (λ q. idle_frame) (λ n. absurd (n e))
+  idle_framed e = framed None refl refl (λ q. idle_frame) (λ n. absurd (n e))
 
   turns_over : Turned w buffer (comes_to (framing.sender shelf))
   turns_over =

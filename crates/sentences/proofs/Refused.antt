@@ -1,4 +1,5 @@
 -- Refusals 8 to 11. Assumes nothing.
+use Rattle.std.specs.Prelude.{None, Option, Some}
 use Prim.Native.Nat.{ℕ, ◌<◌, ◌≤◌}
 use native.Mathlib.Omega.{arith}
 use mathlib.Core.Path.{◌≡◌, refl, sym, ap, subst, ◌∙◌}
@@ -8,8 +9,6 @@ use lib.ListN.{length, length-take}
 use Rattle.card.specs.declared.Card.{Card}
 use Rattle.shelf.specs.Shelf.{Shelf}
 use Rattle.shelf.specs.Shelves.{declared, find_in}
-use Rattle.shelf.specs.declared.Found.{Found}
-use Rattle.shelf.specs.declared.Found.TheVariants.{At, Nothing}
 use Rattle.shelf.proofs.Finding.{find_at}
 use Rattle.soundness.specs.State.{sound_of}
 use Rattle.soundness.specs.Soundings.{formed_all}
@@ -53,10 +52,10 @@ fits_iff (collect unit buffer) = eq_iff (length buffer) 56
 
 -- in a sound state the place is that of the one unit with the number
 module _ (card : Card) (shelf : Shelf) (bytes rows : ℕ) (s : Sound card shelf bytes rows) where
-  busy_at : (unit place : ℕ) → DeclaredAt shelf unit place → (taken_at shelf (At place) ≡ true) ↔ (1 ≤ (unit_at shelf place).side.controlin)
+  busy_at : (unit place : ℕ) → DeclaredAt shelf unit place → (taken_at shelf (Some place) ≡ true) ↔ (1 ≤ (unit_at shelf place).side.controlin)
   busy_at unit place d =
       let below : place < shelf.count = omega (arith, d.inside, length-take shelf.count shelf.units) in
-      subst (λ u. (taken_at shelf (At place) ≡ true) ↔ (1 ≤ u.side.controlin)) (sym (unit_at_lem shelf place below)) (le_iff 1 (admit.unit_at shelf place).side.controlin)
+      subst (λ u. (taken_at shelf (Some place) ≡ true) ↔ (1 ≤ u.side.controlin)) (sym (unit_at_lem shelf place below)) (le_iff 1 (admit.unit_at shelf place).side.controlin)
 
   hand_busy : (unit : ℕ) → (taken_at shelf (find_in (declared shelf) unit) ≡ true) ↔ ((place : ℕ) × DeclaredAt shelf unit place × (1 ≤ (unit_at shelf place).side.controlin))
   hand_busy unit = (
@@ -64,12 +63,12 @@ module _ (card : Card) (shelf : Shelf) (bytes rows : ℕ) (s : Sound card shelf 
     λ b. ap (taken_at shelf) (found_at card shelf bytes rows s unit b.0 b.1) ∙ (busy_at unit b.0 b.1).1 b.2,
   )
     where
-      to : (f : Found) → find_in (declared shelf) unit ≡ f → taken_at shelf f ≡ true → (place : ℕ) × DeclaredAt shelf unit place × (1 ≤ (unit_at shelf place).side.controlin)
-      to (At i) e t =
+      to : (f : Option ℕ) → find_in (declared shelf) unit ≡ f → taken_at shelf f ≡ true → (place : ℕ) × DeclaredAt shelf unit place × (1 ≤ (unit_at shelf place).side.controlin)
+      to (Some i) e t =
           let x = (find_at unit (declared shelf) i).0 e in
           let at : DeclaredAt shelf unit i = record { inside = x.inside; named = x.named } in
           (i, at, (busy_at unit i at).0 t)
-      to Nothing e t = absurd (false≢true t)
+      to None e t = absurd (false≢true t)
 
   taken_iff : (e : Event) → (taken shelf e ≡ true) ↔ Busy shelf e
   unfolding taken

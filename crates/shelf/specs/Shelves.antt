@@ -1,5 +1,5 @@
 -- The state of a shelf: its declared units, a fresh one, which unit has a number. Assumes nothing.
-use Rattle.std.specs.Prelude.{ℕ, suc, ◌+◌, ◌<◌, ◌≡◌, Bool, true, false, cond, List, [], ◌∷◌, map, eqb, length, get_or, take, replicate}
+use Rattle.std.specs.Prelude.{ℕ, suc, ◌+◌, ◌<◌, ◌≡◌, Bool, true, false, cond, List, [], ◌∷◌, map, eqb, length, get_or, take, replicate, None, Option, Some}
 use Rattle.header.specs.declared.Link.TheVariants.{Uni}
 use Rattle.outlet.specs.Outlets.{empty, fresh as fresh_outlet, one}
 use Rattle.outlet.specs.declared.Limits.{Limits}
@@ -9,8 +9,6 @@ use Rattle.shelf.specs.declared.Settings.{Settings}
 use Rattle.shelf.specs.declared.Side.{Side}
 use Rattle.shelf.specs.declared.Unit as U
 use Rattle.shelf.specs.Shelf.{Shelf}
-use Rattle.shelf.specs.declared.Found.{Found}
-use Rattle.shelf.specs.declared.Found.TheVariants.{At, Nothing}
 
 -- 02, W1: "each unit gets an inlet place for a control cell from its processor, one for a loopback cell, a four-cell control outlet and a one-cell
 -- loopback outlet": all empty
@@ -66,17 +64,17 @@ abbrev pub numbers : List U.Unit → List ℕ
 numbers units = map number_of units
 
 -- the place of the first of these numbers that is this one, counted from a place on
-unfoldable pub place_from : ℕ → List ℕ → ℕ → Found
-place_from i [] number = Nothing
-place_from i (n ∷ ns) number = cond (eqb n number) (At i) (place_from (suc i) ns number)
+unfoldable pub place_from : ℕ → List ℕ → ℕ → Option ℕ
+place_from i [] number = None
+place_from i (n ∷ ns) number = cond (eqb n number) (Some i) (place_from (suc i) ns number)
 
-unfoldable pub find_in : List U.Unit → ℕ → Found
+unfoldable pub find_in : List U.Unit → ℕ → Option ℕ
 find_in units number = place_from 0 (numbers units) number
 
 -- whether it was found
-abbrev pub is_at : Found → Bool
-is_at (At i) = true
-is_at Nothing = false
+abbrev pub is_at : Option ℕ → Bool
+is_at (Some i) = true
+is_at None = false
 
 -- a unit with this number stands at this place, and none does before it
 pub record FoundAt (units : List U.Unit) (number i : ℕ) : Type 0 where

@@ -1,5 +1,5 @@
 -- The test of the state, item by item as facts. Assumes nothing.
-use Rattle.std.proofs.Common.{◌≡◌, ℕ, zero, suc, ◌+◌, ◌<◌, ◌≤◌, Bool, true, false, not, ◌||◌, eqb, ◌⊎◌, ◌↔◌, List, [], ◌∷◌, length, get_or, sym, refl, ◌∙◌, subst, inl, inr, ⊎_elim, not-suc-le-zero, add-zero, zero-add, arith}
+use Rattle.std.proofs.Common.{◌≡◌, ℕ, zero, suc, ◌+◌, ◌<◌, ◌≤◌, Bool, true, false, not, ◌||◌, eqb, ◌⊎◌, ◌↔◌, List, [], ◌∷◌, length, get_or, sym, refl, ◌∙◌, subst, inl, inr, ⊎_elim, not-suc-le-zero, add-zero, zero-add, arith, Some}
 use mathlib.Core.Bool.{false≢true}
 use mathlib.Core.Logic.Iff
 use Rattle.header.specs.Fields.{highest}
@@ -17,7 +17,6 @@ use Rattle.shelf.specs.Shelves.{declared, blank, fresh, waiting, number_of, numb
 use Rattle.shelf.specs.declared.Side.{Side}
 use Rattle.shelf.specs.declared.Unit as U
 use Rattle.shelf.specs.Shelf.{Shelf}
-use Rattle.shelf.specs.declared.Found.TheVariants.{At}
 use Rattle.shelf.proofs.Finding.{find_at}
 use Rattle.soundness.specs.State.{every, among, none_repeated, settings_given, below_bus, could_be_given, side_fits, within_capacity, grant_has_cell, request_has_cell, nobody_or, asks_known, arbiter_known, sound_of, SideFits, UnitSound, DeclaredIn, Sound}
 use Rattle.soundness.proofs.Pass.{roomy_iff}
@@ -196,7 +195,7 @@ module _ (card : Card) (shelf : Shelf) (store rows : ℕ) (sound : sound_of card
   pub sound_unit : UnitSound card shelf.bus shelf.granted shelf.arbiter.asks (get_or (declared shelf) i blank)
   sound_unit = ((sound_iff card shelf store rows).0 sound).units i inside
 
-  pub sound_find : find_in (declared shelf) (number_of (get_or (declared shelf) i blank)) ≡ At i
+  pub sound_find : find_in (declared shelf) (number_of (get_or (declared shelf) i blank)) ≡ Some i
   sound_find =
       (find_at (number_of (get_or (declared shelf) i blank)) (declared shelf) i).1
       (record { inside = inside; named = refl; first = λ j h e. ((sound_iff card shelf store rows).0 sound).once j i h inside e })

@@ -1,11 +1,9 @@
 -- Who is let in, of lent bytes, and what an event that is let in may count on. Assumes nothing.
-use Rattle.std.proofs.Common.{◌≡◌, ℕ, ◌<◌, Bool, true, false, cond, ◌&&◌, List, get_or, sym, refl, ap, ◌∙◌, subst, arith, length-take}
+use Rattle.std.proofs.Common.{◌≡◌, ℕ, ◌<◌, Bool, true, false, cond, ◌&&◌, List, get_or, sym, refl, ap, ◌∙◌, subst, arith, length-take, None, Option, Some}
 use mathlib.Core.Logic.Iff
 use Rattle.card.specs.declared.Card.{Card}
 use Rattle.outlet.proofs.Truth.{and_iff}
 use Rattle.shelf.specs.Shelves.{declared, blank, find_in}
-use Rattle.shelf.specs.declared.Found as F
-use Rattle.shelf.specs.declared.Found.TheVariants as found
 use Rattle.shelf.proofs.Finding.{find_at}
 use Rattle.state.specs.Bytes.{unit_in, shelf_in}
 use Rattle.state.proofs.Laws.{unit_at_lem}
@@ -42,13 +40,13 @@ module _ (card : Card) (b : List ℕ) (store rows unit : ℕ) (right : Bool) whe
       pick false s h = refl
 
   module _ (e : sound_in card b store rows ≡ true) where
-    pub stranger_in : find_in (declared (shelf_in b)) unit ≡ found.Nothing → admitted_in card b store rows unit right ≡ Refused 9
+    pub stranger_in : find_in (declared (shelf_in b)) unit ≡ None → admitted_in card b store rows unit right ≡ Refused 9
     stranger_in f = let s = sound_in_lem card b store rows e in formed_in s.0 ∙ stranger card (shelf_in b) store rows unit right s.1 f
 
-    pub misfit_in : (i : ℕ) → find_in (declared (shelf_in b)) unit ≡ found.At i → right ≡ false → admitted_in card b store rows unit right ≡ Refused 10
+    pub misfit_in : (i : ℕ) → find_in (declared (shelf_in b)) unit ≡ Some i → right ≡ false → admitted_in card b store rows unit right ≡ Refused 10
     misfit_in i f r = let s = sound_in_lem card b store rows e in formed_in s.0 ∙ misfit card (shelf_in b) store rows unit right i s.1 f r
 
-    pub comes_in : (i : ℕ) → find_in (declared (shelf_in b)) unit ≡ found.At i → right ≡ true → admitted_in card b store rows unit right ≡ At i
+    pub comes_in : (i : ℕ) → find_in (declared (shelf_in b)) unit ≡ Some i → right ≡ true → admitted_in card b store rows unit right ≡ At i
     comes_in i f r = let s = sound_in_lem card b store rows e in formed_in s.0 ∙ let_in card (shelf_in b) store rows unit right i s.1 f r
 
 -- an event that is let in at a place: the bytes are a state, their shelf lets it in, and the unit has its part of the store and its row
@@ -113,9 +111,9 @@ module _ (card : Card) (b : List ℕ) (store rows unit : ℕ) where
   unfolding admitted_in admitted at_unit
   numbered n e none = pick (formed_all b) (sound_of card (shelf_in b) store rows) (find_in (declared (shelf_in b)) unit) e
     where
-      pick : (f s : Bool) (w : F.Found) → cond f (cond s (at_unit w true) (Refused 8)) (Refused 8) ≡ Refused n → ⊥
-      pick true true (found.At i) h = let z : ◌≡◌ {A = ℕ} 0 1 = cc in omega arith
-      pick true true found.Nothing h = let z : 9 ≡ n = cc in omega arith
+      pick : (f s : Bool) (w : Option ℕ) → cond f (cond s (at_unit w true) (Refused 8)) (Refused 8) ≡ Refused n → ⊥
+      pick true true (Some i) h = let z : ◌≡◌ {A = ℕ} 0 1 = cc in omega arith
+      pick true true None h = let z : 9 ≡ n = cc in omega arith
       pick true false w h = let z : 8 ≡ n = cc in omega arith
       pick false s w h = let z : 8 ≡ n = cc in omega arith
 

@@ -1,5 +1,5 @@
 -- What an event that is let in may count on. Assumes nothing.
-use Rattle.std.proofs.Common.{◌≡◌, ℕ, ◌+◌, ◌<◌, ◌≤◌, Bool, true, false, cond, List, [], length, get_or, drop, refl, ap, ◌∙◌, subst, arith, length-drop, length-take}
+use Rattle.std.proofs.Common.{◌≡◌, ℕ, ◌+◌, ◌<◌, ◌≤◌, Bool, true, false, cond, List, [], length, get_or, drop, refl, ap, ◌∙◌, subst, arith, length-drop, length-take, None, Option, Some}
 use Rattle.octets.specs.Octets.{part}
 use Rattle.octets.proofs.Parts.{get_d_any}
 use Rattle.header.specs.declared.Link.TheVariants.{Uni}
@@ -8,8 +8,6 @@ use Rattle.card.specs.declared.Card.{Card}
 use Rattle.shelf.specs.Shelves.{declared, blank, empty_side, find_in}
 use Rattle.shelf.specs.declared.Unit as U
 use Rattle.shelf.specs.Shelf.{Shelf}
-use Rattle.shelf.specs.declared.Found as F
-use Rattle.shelf.specs.declared.Found.TheVariants as found
 use Rattle.shelf.proofs.Finding.{declared_at, find_at}
 use Rattle.store.proofs.Slots.{part_inside}
 use Rattle.soundness.proofs.Facts.{sound_iff}
@@ -24,15 +22,15 @@ module _ (card : Card) (shelf : Shelf) (store rows unit : ℕ) (right : Bool) wh
   unfolding admitted
   unsound e = rw e
 
-  pub stranger : sound_of card shelf store rows ≡ true → find_in (declared shelf) unit ≡ found.Nothing → admitted card shelf store rows unit right ≡ Refused 9
+  pub stranger : sound_of card shelf store rows ≡ true → find_in (declared shelf) unit ≡ None → admitted card shelf store rows unit right ≡ Refused 9
   unfolding admitted at_unit
   stranger e f = rw (e, f)
 
-  pub misfit : (i : ℕ) → sound_of card shelf store rows ≡ true → find_in (declared shelf) unit ≡ found.At i → right ≡ false → admitted card shelf store rows unit right ≡ Refused 10
+  pub misfit : (i : ℕ) → sound_of card shelf store rows ≡ true → find_in (declared shelf) unit ≡ Some i → right ≡ false → admitted card shelf store rows unit right ≡ Refused 10
   unfolding admitted at_unit
   misfit i e f r = rw (e, f, r)
 
-  pub let_in : (i : ℕ) → sound_of card shelf store rows ≡ true → find_in (declared shelf) unit ≡ found.At i → right ≡ true → admitted card shelf store rows unit right ≡ At i
+  pub let_in : (i : ℕ) → sound_of card shelf store rows ≡ true → find_in (declared shelf) unit ≡ Some i → right ≡ true → admitted card shelf store rows unit right ≡ At i
   unfolding admitted at_unit
   let_in i e f r = rw (e, f, r)
 
@@ -78,7 +76,7 @@ module _ (card : Card) (shelf : Shelf) (store rows : ℕ) where
 -- an event that is let in: the state is sound, the unit is declared and stands in the place, the slice has its length
 pub record LetIn (card : Card) (shelf : Shelf) (store rows unit : ℕ) (right : Bool) (i : ℕ) : Type 0 where
   pub sound : sound_of card shelf store rows ≡ true
-  pub found : find_in (declared shelf) unit ≡ found.At i
+  pub found : find_in (declared shelf) unit ≡ Some i
   pub fits : right ≡ true
 
 module _ (card : Card) (shelf : Shelf) (store rows unit : ℕ) (right : Bool) (i : ℕ) where
@@ -86,10 +84,10 @@ module _ (card : Card) (shelf : Shelf) (store rows unit : ℕ) (right : Bool) (i
   unfolding admitted at_unit
   at_let_in e = pick (sound_of card shelf store rows) refl (find_in (declared shelf) unit) refl right refl e
     where
-      pick : (s : Bool) → sound_of card shelf store rows ≡ s → (f : F.Found) → find_in (declared shelf) unit ≡ f → (r : Bool) → right ≡ r → cond s (at_unit f r) (Refused 8) ≡ At i → LetIn card shelf store rows unit right i
-      pick true es (found.At j) ef true er h = let q : j ≡ i = cc in record { sound = es; found = ef ∙ ap found.At q; fits = er }
-      pick true es (found.At j) ef false er h = let z : ◌≡◌ {A = ℕ} 0 1 = cc in absurd (omega arith)
-      pick true es found.Nothing ef r er h = let z : ◌≡◌ {A = ℕ} 0 1 = cc in absurd (omega arith)
+      pick : (s : Bool) → sound_of card shelf store rows ≡ s → (f : Option ℕ) → find_in (declared shelf) unit ≡ f → (r : Bool) → right ≡ r → cond s (at_unit f r) (Refused 8) ≡ At i → LetIn card shelf store rows unit right i
+      pick true es (Some j) ef true er h = let q : j ≡ i = cc in record { sound = es; found = ef ∙ ap Some q; fits = er }
+      pick true es (Some j) ef false er h = let z : ◌≡◌ {A = ℕ} 0 1 = cc in absurd (omega arith)
+      pick true es None ef r er h = let z : ◌≡◌ {A = ℕ} 0 1 = cc in absurd (omega arith)
       pick false es f ef r er h = let z : ◌≡◌ {A = ℕ} 0 1 = cc in absurd (omega arith)
 
   pub let_in_housed : LetIn card shelf store rows unit right i → Housed i (unit_at shelf i) store × (i < rows)

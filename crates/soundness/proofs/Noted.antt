@@ -1,10 +1,8 @@
 -- What a note says: whether the state is sound, and which unit has the number. Assumes nothing.
-use Rattle.std.proofs.Common.{◌≡◌, ℕ, Bool, true, false, cond, not, eqb, List, get_or, sym, refl, ap, ◌∙◌, arith, ne_eqb}
+use Rattle.std.proofs.Common.{◌≡◌, ℕ, Bool, true, false, cond, not, eqb, List, get_or, sym, refl, ap, ◌∙◌, arith, ne_eqb, None, Option, Some}
 use Rattle.card.specs.declared.Card.{Card}
 use Rattle.shelf.specs.Shelves.{declared, blank, number_of, find_in}
 use Rattle.shelf.specs.declared.Unit as U
-use Rattle.shelf.specs.declared.Found.{Found}
-use Rattle.shelf.specs.declared.Found.TheVariants.{At, Nothing}
 use Rattle.shelf.proofs.Finding.{declared_length, find_at}
 use Rattle.state.specs.Bytes.{shelf_in}
 use Rattle.state.proofs.Laws.{units_length}
@@ -25,9 +23,9 @@ module _ (card : Card) (b : List ℕ) (store rows unit : ℕ) where
   unfolding note_of
   other = pick (find_in us unit)
     where
-      pick : (f : Found) → note_of granted us f ≡ 1 → ⊥
-      pick (At i) e = omega arith
-      pick Nothing e = omega arith
+      pick : (f : Option ℕ) → note_of granted us f ≡ 1 → ⊥
+      pick (Some i) e = omega arith
+      pick None e = omega arith
 
   pub note_sound : not (eqb (looked card b store rows unit) 1) ≡ sound_in card b store rows
   unfolding looked
@@ -45,30 +43,30 @@ module _ (card : Card) (b : List ℕ) (store rows unit : ℕ) where
     note_good h = sym note_sound ∙ ap (λ n. not (eqb n 1)) (sym e) ∙ ap not (ne_eqb note 1 h)
 
     module _ (s : sound_in card b store rows ≡ true) where
-      by : (f : Found) → find_in us unit ≡ f → note ≡ note_of granted us f
+      by : (f : Option ℕ) → find_in us unit ≡ f → note ≡ note_of granted us f
       unfolding looked
       by f g = e ∙ ap (λ x. cond x (note_of granted us (find_in us unit)) 1) s ∙ ap (note_of granted us) g
 
       -- of a unit more than nothing is noted
-      pub note_nobody : note ≡ 0 → find_in us unit ≡ Nothing
+      pub note_nobody : note ≡ 0 → find_in us unit ≡ None
       unfolding note_of
       note_nobody z = pick (find_in us unit) refl
         where
-          pick : (f : Found) → find_in us unit ≡ f → find_in us unit ≡ Nothing
-          pick (At i) g = let n = by (At i) g in absurd (omega arith)
-          pick Nothing g = g
+          pick : (f : Option ℕ) → find_in us unit ≡ f → find_in us unit ≡ None
+          pick (Some i) g = let n = by (Some i) g in absurd (omega arith)
+          pick None g = g
 
-      pub note_place : (note ≡ 0 → ⊥) → find_in us unit ≡ At (place_in note)
+      pub note_place : (note ≡ 0 → ⊥) → find_in us unit ≡ Some (place_in note)
       unfolding note_of
       note_place h = pick (find_in us unit) refl
         where
-          pick : (f : Found) → find_in us unit ≡ f → find_in us unit ≡ At (place_in note)
-          pick (At i) g =
+          pick : (f : Option ℕ) → find_in us unit ≡ f → find_in us unit ≡ Some (place_in note)
+          pick (Some i) g =
               let u = get_or us i blank in
               let h = ((find_at unit us i).0 g).inside in
               let l = declared_length (shelf_in b) (units_length b 0 32) in
               let most = stands_most (priority_of u) (cells_of u) (number_of u) granted in
-              let n = by (At i) g in
+              let n = by (Some i) g in
               let place : i ≡ place_in note = omega arith in
-              g ∙ ap At place
-          pick Nothing g = absurd (h (by Nothing g))
+              g ∙ ap Some place
+          pick None g = absurd (h (by None g))

@@ -1,5 +1,5 @@
 -- The tests of the units by number are the document's of each unit and of the arbiter. Assumes nothing.
-use Rattle.std.proofs.Common.{◌≡◌, ℕ, zero, suc, ◌+◌, ◌*◌, ◌/◌, ◌%◌, ◌<◌, ◌≤◌, Bool, true, false, cond, ◌&&◌, ◌||◌, eqb, leb, ◌⊎◌, ◌↔◌, List, [], ◌∷◌, length, get_or, drop, sym, refl, ap, ◌∙◌, subst, inl, inr, ⊎_elim, zero-add, add-one, arith, drop_of_length-le, drop-cons, ne_eqb, le-leb}
+use Rattle.std.proofs.Common.{◌≡◌, ℕ, zero, suc, ◌+◌, ◌*◌, ◌/◌, ◌%◌, ◌<◌, ◌≤◌, Bool, true, false, cond, ◌&&◌, ◌||◌, eqb, leb, ◌⊎◌, ◌↔◌, List, [], ◌∷◌, length, get_or, drop, sym, refl, ap, ◌∙◌, subst, inl, inr, ⊎_elim, zero-add, add-one, arith, drop_of_length-le, drop-cons, ne_eqb, le-leb, None, Option, Some}
 use mathlib.Core.Bool.{and-false, and_assoc, and-true, or-false, false≢true}
 use mathlib.Core.Logic.Iff
 use lib.ListN.{get_or-eq_default}
@@ -8,8 +8,6 @@ use Rattle.outlet.proofs.Truth.{same, and_iff, or_iff, eq_iff, le_iff}
 use Rattle.arbiter.specs.Arbitration.{nobody, besides}
 use Rattle.shelf.specs.Shelves.{blank, number_of, numbers, find_in}
 use Rattle.shelf.specs.declared.Unit as U
-use Rattle.shelf.specs.declared.Found.{Found}
-use Rattle.shelf.specs.declared.Found.TheVariants.{At, Nothing}
 use Rattle.shelf.proofs.Finding.{find_at, find_nothing}
 use Rattle.soundness.specs.State.{every, among, none_repeated, ask_held, grant_has_cell, request_has_cell, nobody_or, lasts_known, asks_known, arbiter_known, DeclaredIn}
 use Rattle.soundness.specs.Numbered.{standing, stands, note_of, place_in, marks, ask_in, asks_held, celled, grant_in, arbiter_held, noted, how_many}
@@ -95,9 +93,9 @@ pub noted_found : (granted : ℕ) (us : List U.Unit) (n : ℕ) → Placed us →
 unfolding note_of
 noted_found granted us n placed once = pick (find_in us n) refl
   where
-    pick : (f : Found) → find_in us n ≡ f → get_or (noted granted 0 us) n 0 ≡ note_of granted us f
-    pick (At i) e = let f = (find_at n us i).0 e in ap (λ m. get_or (noted granted 0 us) m 0) (sym f.named) ∙ noted_at granted us i placed once f.inside
-    pick Nothing e = noted_none granted 0 us n (undeclared us n (λ d. (find_nothing n us).0 e d.0 d.1 d.2) (among (numbers us) n) refl)
+    pick : (f : Option ℕ) → find_in us n ≡ f → get_or (noted granted 0 us) n 0 ≡ note_of granted us f
+    pick (Some i) e = let f = (find_at n us i).0 e in ap (λ m. get_or (noted granted 0 us) m 0) (sym f.named) ∙ noted_at granted us i placed once f.inside
+    pick None e = noted_none granted 0 us n (undeclared us n (λ d. (find_nothing n us).0 e d.0 d.1 d.2) (among (numbers us) n) refl)
 
 module _ (granted : ℕ) (last asks : List ℕ) (us : List U.Unit) (placed : Placed us) (ranged : Ranged us) (few : length us ≤ 32) (cells : ℕ → ℕ) (inlets : (i : ℕ) → i < length us → cells i ≡ cells_of (get_or us i blank)) where
   abbrev hs : List ℕ

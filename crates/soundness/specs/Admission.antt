@@ -1,5 +1,5 @@
 -- What every event asks before anything else. Assumes nothing.
-use Rattle.std.specs.Prelude.{ℕ, ◌<◌, Bool, true, cond, List, slice_index_or, slice_set}
+use Rattle.std.specs.Prelude.{ℕ, ◌<◌, Bool, true, cond, List, slice_index_or, slice_set, None, Option, Some}
 use Rattle.card.specs.declared.Card.{Card}
 use Rattle.outlet.specs.Outlets.{Given, RingFits, RingsFit}
 use Rattle.outlet.specs.declared.Ring.{Ring}
@@ -8,8 +8,6 @@ use Rattle.shelf.specs.Shelves.{declared, blank, find_in}
 use Rattle.shelf.specs.declared.Side.{Side}
 use Rattle.shelf.specs.declared.Unit as U
 use Rattle.shelf.specs.Shelf.{Shelf}
-use Rattle.shelf.specs.declared.Found as F
-use Rattle.shelf.specs.declared.Found.TheVariants as found
 use Rattle.state.specs.Bytes.{shelf_in}
 use Rattle.soundness.specs.State.{sound_of, SideFits}
 use Rattle.soundness.specs.Soundings.{formed_all}
@@ -18,9 +16,9 @@ use Rattle.soundness.specs.declared.Admitted.TheVariants.{At, Refused}
 use Rattle.soundness.specs.declared.Place.{Place}
 
 -- "9 Unit: unit not declared", "10 Length: cell slice or buffer not 53 bytes, frame not 57"
-unfoldable pub at_unit : F.Found → Bool → A.Admitted
-at_unit (found.At place) right = cond right (At place) (Refused 10)
-at_unit found.Nothing right = Refused 9
+unfoldable pub at_unit : Option ℕ → Bool → A.Admitted
+at_unit (Some place) right = cond right (At place) (Refused 10)
+at_unit None right = Refused 9
 
 -- "Refusals 8 to 10, in that order"
 unfoldable pub admitted : Card → Shelf → ℕ → ℕ → ℕ → Bool → A.Admitted

@@ -1,9 +1,7 @@
 -- The declared units by their numbers: where and how each stands, 0 where none is declared. Assumes nothing.
-use Rattle.std.specs.Prelude.{◌≡◌, ℕ, zero, suc, ◌+◌, ◌*◌, ◌/◌, ◌%◌, ◌^◌, ◌<◌, ◌≤◌, Bool, true, cond, ◌&&◌, ◌||◌, List, [], ◌∷◌, replicate, ◌==◌, nat_le, slice_index, slice_index_or, slice_set}
+use Rattle.std.specs.Prelude.{◌≡◌, ℕ, zero, suc, ◌+◌, ◌*◌, ◌/◌, ◌%◌, ◌^◌, ◌<◌, ◌≤◌, Bool, true, cond, ◌&&◌, ◌||◌, List, [], ◌∷◌, replicate, ◌==◌, nat_le, slice_index, slice_index_or, slice_set, None, Option, Some}
 use Rattle.shelf.specs.Shelves.{declared, blank, waiting, number_of}
 use Rattle.shelf.specs.declared.Unit as U
-use Rattle.shelf.specs.declared.Found.{Found}
-use Rattle.shelf.specs.declared.Found.TheVariants.{At, Nothing}
 use Rattle.state.specs.Bytes.{col, shelf_in}
 use Rattle.arbiter.specs.Arbitration.{besides}
 use Rattle.soundness.specs.State.{nobody_or, lasts_known}
@@ -34,9 +32,9 @@ note_at granted count b i = cond (nat_le count i) 0 (note_in granted b i)
 abbrev pub Notes : ℕ → ℕ → List ℕ → List ℕ → Type 0
 Notes granted count b each = (i : ℕ) → i < 32 → slice_index each i ≡ note_at granted count b i
 
-unfoldable pub note_of : ℕ → List U.Unit → Found → ℕ
-note_of granted us (At i) = note granted i (slice_index_or us i blank)
-note_of granted us Nothing = 0
+unfoldable pub note_of : ℕ → List U.Unit → Option ℕ → ℕ
+note_of granted us (Some i) = note granted i (slice_index_or us i blank)
+note_of granted us None = 0
 
 -- whether one has this number
 abbrev pub marks : List ℕ → ℕ → Bool

@@ -1,4 +1,5 @@
 -- What a line makes of the bytes is what it makes of the shelf that they are; and bytes that are well formed stay so. Assumes nothing.
+use Rattle.std.specs.Prelude.{None, Option, Some}
 use mathlib.Core.Path.{◌≡◌, refl, sym, ap, ◌∙◌}
 use mathlib.Core.Bool.{Bool, true, false, ◌&&◌}
 use mathlib.Core.Logic.{◌⊎◌, inl, inr}
@@ -20,8 +21,6 @@ use Rattle.outlet.specs.declared.Limits.{Limits}
 use Rattle.shelf.specs.Shelves.{unit, blank, declared, find_in}
 use Rattle.shelf.proofs.Finding.{declared_length, find_at}
 use Rattle.shelf.specs.declared.Settings.{Settings}
-use Rattle.shelf.specs.declared.Found.{Found}
-use Rattle.shelf.specs.declared.Found.TheVariants.{At, Nothing}
 use Rattle.state.specs.Bytes.{col, unit_by, shelf_in, with_unit}
 use Rattle.state.specs.Placing.{link_byte, mode_byte, mark_byte, columns_of, fresh_bytes, declared_by, joined}
 use Rattle.state.proofs.Kept.{Column}
@@ -70,12 +69,12 @@ pub record Well (b : List ℕ) : Type 0 where
 
 -- A. a session more
 module _ (b : List ℕ) (a session : ℕ) (long : length b ≡ 2048) (small : session < 256) where
-  join_decodes : (f : Found) → find_in (declared (shelf_in b)) a ≡ f → shelf_in (joined_at b f session) ≡ join_at (shelf_in b) f session
+  join_decodes : (f : Option ℕ) → find_in (declared (shelf_in b)) a ≡ f → shelf_in (joined_at b f session) ≡ join_at (shelf_in b) f session
   unfolding joined_at join_at
-  join_decodes (At i) e =
+  join_decodes (Some i) e =
       let hi = found_in (shelf_in b) a i (units_length b 0 32) e in
       joined_shelf b i session long hi small ∙ ap (λ u. with_unit (shelf_in b) i (hearing u session)) (sym (unit_at_lem b i blank hi))
-  join_decodes Nothing e = refl
+  join_decodes None e = refl
 
 -- B. well formed
 same_formed : (f g : ℕ → ℕ) → ((k : ℕ) → Column k → f k ≡ g k) → formed f ≡ formed g
@@ -204,13 +203,13 @@ joined_well b i session w hi lo small =
         let past = h.0 in
         same x (λ e. absurd (omega (arith, count, past, e, hk, lo))) ∙ w.spare x (inr (inr (omega (arith, count, past), h.1)))
 
-join_well : (b : List ℕ) (a session : ℕ) (f : Found) → Well b → session < 256 → find_in (declared (shelf_in b)) a ≡ f → Well (joined_at b f session)
+join_well : (b : List ℕ) (a session : ℕ) (f : Option ℕ) → Well b → session < 256 → find_in (declared (shelf_in b)) a ≡ f → Well (joined_at b f session)
 unfolding joined_at
-join_well b a session (At i) w small e =
+join_well b a session (Some i) w small e =
     let f = (find_at a (declared (shelf_in b)) i).0 e in
     let n = declared_length (shelf_in b) (units_length b 0 32) in
     joined_well b i session w (found_in (shelf_in b) a i (units_length b 0 32) e) (omega (arith, f.inside, n)) small
-join_well b a session Nothing w small e = w
+join_well b a session None w small e = w
 
 pub state_well : (l : Line) (place : ℕ) (b : List ℕ) → Well b → Roomy b l → Ranged l → Well (state_by l place b)
 unfolding state_by

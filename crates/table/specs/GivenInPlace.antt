@@ -1,18 +1,16 @@
 -- What a line makes of the state's bytes. Assumes nothing.
-use Rattle.std.specs.Prelude.{ℕ, List}
+use Rattle.std.specs.Prelude.{ℕ, List, None, Option, Some}
 use Rattle.outlet.specs.Outlets.{fresh as fresh_outlet}
 use Rattle.shelf.specs.Shelves.{declared, find_in}
-use Rattle.shelf.specs.declared.Found.{Found}
-use Rattle.shelf.specs.declared.Found.TheVariants.{At, Nothing}
 use Rattle.state.specs.Bytes.{shelf_in}
 use Rattle.state.specs.Placing.{fresh_bytes, declared_by, joined}
 use Rattle.line.specs.declared.Line.{Line}
 use Rattle.line.specs.declared.Line.TheVariants.{Bus, Unit as L-as-Unit, Vp, Drop, Page, Vc, Mc}
 
 -- a unit that was found hears a session more
-unfoldable pub joined_at : List ℕ → Found → ℕ → List ℕ
-joined_at b (At i) session = joined b i session
-joined_at b Nothing session = b
+unfoldable pub joined_at : List ℕ → Option ℕ → ℕ → List ℕ
+joined_at b (Some i) session = joined b i session
+joined_at b None session = b
 
 -- "`mc` unit, session: the unit hears that session"; a `unit` line declares a unit whose records start at this place
 unfoldable pub state_by : Line → ℕ → List ℕ → List ℕ

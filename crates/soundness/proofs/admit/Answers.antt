@@ -1,6 +1,5 @@
-use Rattle.std.proofs.Common.{◌≡◌, true, sym, ap, ◌∙◌}
+use Rattle.std.proofs.Common.{◌≡◌, true, sym, ap, ◌∙◌, Some}
 use Rattle.shelf.specs.Shelves.{declared, find_in}
-use Rattle.shelf.specs.declared.Found.TheVariants as found
 use Rattle.state.specs.Bytes.{shelf_in}
 use Rattle.soundness.specs.Numbered.{place_in}
 use Rattle.soundness.specs.Soundings.{sound_in}
@@ -18,7 +17,7 @@ returns-then-note-eq1 c =
 good : (c : Else-note-eq1) → let a = c.args in sound_in a.card a.s.now a.store a.rows ≡ true
 good c = let a = c.args in note_good a.card a.s.now a.store a.rows a.unit _ c.look-note.ensures.value c.if-note-eq1.false
 
-there : (c : Else-note-eq0) → let look = c in let a = look.args in find_in (declared (shelf_in a.s.now)) a.unit ≡ found.At (place_in look.look-note.result)
+there : (c : Else-note-eq0) → let look = c in let a = look.args in find_in (declared (shelf_in a.s.now)) a.unit ≡ Some (place_in look.look-note.result)
 there c =
     let look = c in
     let a = look.args in
