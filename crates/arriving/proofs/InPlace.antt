@@ -1,4 +1,5 @@
 -- The three ways an arrival at lent bytes ends, and that the bytes are then the shelf after an arrival. Assumes nothing.
+use Rattle.std.specs.Prelude.{Ok}
 use Prim.Native.Nat.{ℕ, ◌+◌, ◌%◌, ◌≤◌, ◌<◌}
 use native.Mathlib.Omega.{arith}
 use mathlib.Core.Path.{◌≡◌, refl, sym, ap, subst, ◌∙◌}
@@ -25,7 +26,6 @@ use Rattle.answer.specs.declared.Arrival as A
 use Rattle.answer.specs.declared.Arrival.TheVariants.{Inletfull, Queued}
 use Rattle.answer.specs.Done.{Done, outcome_of}
 use Rattle.answer.specs.Answers.{refused, spread, outcome_by}
-use Rattle.soundness.specs.declared.Admitted.TheVariants as lets
 use Rattle.soundness.specs.Admission.{decided, unit_at, with_unit, with_inlet, Housed}
 use Rattle.soundness.proofs.Laws.{decided_all, decided_both}
 use Rattle.soundness.proofs.InPlace.{formed_in, in_place, below_count}
@@ -154,11 +154,11 @@ module _ (card : Card) (b memory : List ℕ) (store rows unit : ℕ) (c : List �
   abbrev within : ℕ → List ℕ
   within place = state_at card b place memory c
 
-  below : (i : ℕ) → comes_in card b store rows unit c ≡ lets.At i → i < 32
+  below : (i : ℕ) → comes_in card b store rows unit c ≡ Ok i → i < 32
   below i e = (in_place card b store rows unit (eqb (length c) 53) i e).below
 
   -- what holds of the bytes as they were, and with the inlet's ring of the unit written, holds of them afterwards
-  arrive_all : (P : List ℕ → Type 0) → P b → ((i : ℕ) → comes_in card b store rows unit c ≡ lets.At i → (h : i < 32) → P (put b i h)) → P state
+  arrive_all : (P : List ℕ → Type 0) → P b → ((i : ℕ) → comes_in card b store rows unit c ≡ Ok i → (h : i < 32) → P (put b i h)) → P state
   arrive_all P was is =
       decided_all P within (λ number. b) (comes_in card b store rows unit c)
       (λ i e. state_all b i (below i e) P was (is i e (below i e)) (way_of card (unit_in b i) memory c))
@@ -182,7 +182,7 @@ module _ (card : Card) (b memory : List ℕ) (store rows unit : ℕ) (c : List �
   arrive_long = arrive_all (λ x. length x ≡ 2048) long (λ i e h. ring_long b 14 15 i (pushed (unit_in b i).inlet) ∙ long)
 
   -- every byte but those of the unit's inlet is as it was
-  pub arrive_other : (k : ℕ) → ((i : ℕ) → comes_in card b store rows unit c ≡ lets.At i → 448 ≤ k → k < 768 → k % 32 ≡ i → ⊥) → get_or state k 0 ≡ get_or b k 0
+  pub arrive_other : (k : ℕ) → ((i : ℕ) → comes_in card b store rows unit c ≡ Ok i → 448 ≤ k → k < 768 → k % 32 ≡ i → ⊥) → get_or state k 0 ≡ get_or b k 0
   arrive_other k apart =
       arrive_all (λ x. get_or x k 0 ≡ get_or b k 0) refl
       (λ i e h. ring_other b 14 15 i (pushed (unit_in b i).inlet) k (λ x. apart i e (omega arith) (omega arith) (omega arith)) (λ x. apart i e (omega arith) (omega arith) (omega arith)))

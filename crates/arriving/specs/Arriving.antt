@@ -1,5 +1,5 @@
 -- Arrival at a unit. Assumes nothing.
-use Rattle.std.specs.Prelude.{ℕ, Bool, cond, List, eqb, leb, length, get_or}
+use Rattle.std.specs.Prelude.{ℕ, Bool, cond, List, eqb, leb, length, get_or, Result}
 use Rattle.octets.specs.Octets.{four, part}
 use Rattle.card.specs.declared.Card.{Card}
 use Rattle.lookup.specs.Record.{record_at}
@@ -17,7 +17,6 @@ use Rattle.answer.specs.declared.Arrival.TheVariants.{Hec, Ignored, Misrouted, I
 use Rattle.answer.specs.declared.Answer.TheVariants.{Arrived}
 use Rattle.answer.specs.Done.{Done}
 use Rattle.answer.specs.Answers.{arrival_rises, row, ends, refused}
-use Rattle.soundness.specs.declared.Admitted as D
 use Rattle.soundness.specs.Admission.{admitted, decided, unit_at, with_unit, with_inlet}
 use Rattle.arriving.specs.declared.Way.{Way}
 use Rattle.arriving.specs.declared.Way.TheVariants.{Bus, Lost}
@@ -75,7 +74,7 @@ abbrev pub store_at : Card → Shelf → ℕ → List ℕ → List ℕ → List 
 store_at card shelf place memory store c = store_by (way_of card (unit_at shelf place) memory c) (unit_at shelf place) place store c
 
 -- at the unit with a number, if it is let in
-abbrev pub let_in : Card → Shelf → ℕ → ℕ → ℕ → List ℕ → D.Admitted
+abbrev pub let_in : Card → Shelf → ℕ → ℕ → ℕ → List ℕ → Result ℕ ℕ
 let_in card shelf store rows unit c = admitted card shelf store rows unit (eqb (length c) 53)
 
 abbrev pub arrive_done : Card → Shelf → List ℕ → ℕ → ℕ → ℕ → List ℕ → Done

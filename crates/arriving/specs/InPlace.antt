@@ -1,5 +1,5 @@
 -- Arrival, of a state in lent bytes: what is answered, the bytes and the store afterwards. Assumes nothing.
-use Rattle.std.specs.Prelude.{ℕ, cond, List, eqb, length}
+use Rattle.std.specs.Prelude.{ℕ, cond, List, eqb, length, Result}
 use Rattle.card.specs.declared.Card.{Card}
 use Rattle.store.specs.Rings.{pushed}
 use Rattle.shelf.specs.declared.Unit as U
@@ -10,7 +10,6 @@ use Rattle.answer.specs.declared.Outcome.{Outcome}
 use Rattle.answer.specs.declared.Single.{Single}
 use Rattle.answer.specs.Done.{outcome_of}
 use Rattle.answer.specs.Answers.{arrival_rises, counted_with, refused_with}
-use Rattle.soundness.specs.declared.Admitted as D
 use Rattle.soundness.specs.Admission.{admitted_in, formed_or, decided}
 use Rattle.arriving.specs.Arriving.{way_of, inlet_full, arrive_done, arrive_store}
 use Rattle.arriving.specs.declared.Way.{Way}
@@ -29,7 +28,7 @@ abbrev pub state_at : Card → List ℕ → ℕ → List ℕ → List ℕ → Li
 state_at card b place memory c = state_by (way_of card (unit_in b place) memory c) (unit_in b place) b place
 
 -- at the unit with a number, if it is let in
-abbrev pub comes_in : Card → List ℕ → ℕ → ℕ → ℕ → List ℕ → D.Admitted
+abbrev pub comes_in : Card → List ℕ → ℕ → ℕ → ℕ → List ℕ → Result ℕ ℕ
 comes_in card b store rows unit c = admitted_in card b store rows unit (eqb (length c) 53)
 
 abbrev pub arrive_out : Card → List ℕ → List ℕ → ℕ → ℕ → ℕ → List ℕ → Outcome

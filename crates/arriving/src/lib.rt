@@ -13,7 +13,6 @@ use answer::{Answer, Arrival, Single};
 use card::Card;
 use lookup::Looked;
 use shelf::{Settings, Unit};
-use soundness::Admitted;
 
 // Where an arriving cell goes: to the bus with these headers, or nowhere, with this fate.
 #[derive(Clone, Copy)]
@@ -111,7 +110,7 @@ pub fn arrive(
     ensures fits { ((outcome_by result).rises.to ≤ 32) × ((outcome_by result).rises.to ≤ rows) }
 {
     match soundness::admit(card, s, store.len(), rows, unit, cell.len() == 53) {
-        Admitted::At(place) => arrive_at(card, s, place, memory, store, cell),
-        Admitted::Refused(number) => answer::uncounted(Answer::Refused(number)),
+        Ok(place) => arrive_at(card, s, place, memory, store, cell),
+        Err(number) => answer::uncounted(Answer::Refused(number)),
     }
 }

@@ -3,7 +3,6 @@
 
 use answer::{Answer, Counters};
 use card::Card;
-use entry::Counted;
 use event::Event;
 use replies::Outcome;
 use std::fs;
@@ -106,8 +105,8 @@ fn take(
 fn count(rt: &impl Print, tally: Tally, state: &[u8; 2048], store: &[u8], event: Event, unit: u8) {
     let rows = tally.rows;
     match owned::count(Card::Wide, state, store, rows, 40, unit) {
-        Counted::Counters(c) => say(rt, event, Outcome::Counted(c), b""),
-        Counted::Refused(number) => {
+        Ok(c) => say(rt, event, Outcome::Counted(c), b""),
+        Err(number) => {
             let number = (number % 256) as u8;
             say(rt, event, Outcome::Answered(Answer::Refused(number)), b"");
         }

@@ -4,7 +4,6 @@
 use answer::{Answer, Arrival, Counters, Hearing};
 use bus::Target;
 use card::Card;
-use entry::Counted;
 use std::io;
 
 // The counter rows; an array by itself cannot take a call's result.
@@ -228,8 +227,8 @@ fn count(
 ) -> io::Result<()> {
     let rows = tally.rows;
     match owned::count(Card::Wide, state, store, rows, 40, unit) {
-        Counted::Counters(c) => say_counters(rt, c)?,
-        Counted::Refused(number) => {
+        Ok(c) => say_counters(rt, c)?,
+        Err(number) => {
             say(rt, "count refused")?;
             say_number(rt, number as u64)?;
         }

@@ -8,7 +8,6 @@ ghost use Rattle.io.specs.Counts.{IsPrefixLen};
 use answer::{Answer, Counters};
 use card::Card;
 use command::{Bank, Command, Reading};
-use entry::Counted;
 use owned::After;
 use std::env::Env;
 use std::io::Read;
@@ -431,8 +430,8 @@ fn say_count(
     let card = w.card;
     let rows = w.rows;
     match owned::count(card, state, part_of(store, 0, w.store), rows, w.lent, unit) {
-        Counted::Counters(c) => replies::counted(out, w.at, unit, c),
-        Counted::Refused(number) => {
+        Ok(c) => replies::counted(out, w.at, unit, c),
+        Err(number) => {
             let answer = Answer::Refused((number % 256) as u8);
             say_event(out, w.at, line, unit, answer)
         }

@@ -14,7 +14,6 @@ use Rattle.taking.specs.InPlace.{take_out, take_state, take_buffer_in}
 use Rattle.handing.specs.InPlace.{hand_out, hand_state, hand_store_in, collect_out, collect_state, collect_buffer_in}
 use Rattle.table.specs.EventInPlace.{load_out, load_state}
 use Rattle.table.specs.Loads.{load_memory}
-use Rattle.entry.specs.declared.Counted.{Counted}
 use Rattle.entry.specs.Counts.{count_of}
 
 -- what an event leaves: its answer, the state, the store, the rows, and the bytes that were lent with it
@@ -53,7 +52,7 @@ abbrev pub collects : Card → List ℕ → List ℕ → List C.Counters → ℕ
 collects card b store rows many unit buffer =
     left (collect_out card b (length store) many unit (length buffer)) (collect_state card b (length store) many unit (length buffer)) store rows (collect_buffer_in card b store many unit buffer)
 
-abbrev pub counts_of : Card → List ℕ → List ℕ → List C.Counters → ℕ → ℕ → Counted
+abbrev pub counts_of : Card → List ℕ → List ℕ → List C.Counters → ℕ → ℕ → Result C.Counters ℕ
 counts_of card b store rows many unit = count_of (counted_in card b (length store) many unit) rows
 
 -- what a load leaves

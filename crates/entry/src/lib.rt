@@ -3,12 +3,10 @@
 
 ghost use Rattle.std.specs.Prelude.{◌≡◌, length};
 ghost use Rattle.entry.specs.Outcomes.{arrives, frames, hears, takes, hands, collects, counts_of, loads, LeavesStore, LeavesAll, LeavesBytes, LeavesCell, LeavesMemory};
-ghost use Rattle.entry.specs.declared.Counted.TheVariants as counted;
 
 use answer::{Answer, Counters};
 use card::Card;
 use framing::Framed;
-use soundness::Place;
 
 // A route table is loaded.
 pub fn load(
@@ -144,50 +142,16 @@ pub fn collect(
     answer::answer_by(done)
 }
 
-// What a count answers: the counters of the unit, or the number of the refusal, a word as they are, so that both answers stand at one place.
-#[derive(Clone, Copy)]
-pub enum Counted {
-    Counters(Counters),
-    Refused(u32),
-}
-
-// The parts of a place: the number of a refusal, 0 where there is none; the row.
-fn number_of(place: Place) -> u8
-    ensures { result ≡ place.number }
-{
-    place.number
-}
-
-fn row_at(place: Place) -> usize
-    ensures { result ≡ place.at }
-{
-    place.at
-}
-
-// The two answers.
-fn refusal(number: u8) -> Counted
-    ensures { result ≡ counted.Refused number }
-{
-    Counted::Refused(number as u32)
-}
-
-fn found(row: Counters) -> Counted
-    ensures { result ≡ counted.Counters row }
-{
-    Counted::Counters(row)
-}
-
-// The counters of a unit. A row is read only where it is not refused.
-pub fn count(card: Card, state: &[u8; 2048], store: &[u8], rows: &[Counters], unit: u8) -> Counted
+// The counters of a unit, or the number of the refusal. A row is read only where it is not refused.
+pub fn count(
+    card: Card,
+    state: &[u8; 2048],
+    store: &[u8],
+    rows: &[Counters],
+    unit: u8,
+) -> Result<Counters, u8>
     ensures { result ≡ counts_of card state.now store.now rows.now (length rows.now) unit }
 {
-    let n = rows.len();
-    let place = soundness::counted(card, state, store, n, unit);
-    let number = number_of(place);
-    if number != 0 {
-        return refusal(number);
-    }
-    let at = row_at(place);
-    let row = rows[at];
-    found(row)
+    let at = soundness::counted(card, state, store, rows.len(), unit)?;
+    Ok(rows[at])
 }

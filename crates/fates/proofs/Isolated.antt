@@ -1,5 +1,5 @@
 -- An event at a unit leaves everything else alone. Assumes nothing.
-use Rattle.std.specs.Prelude.{None, Some}
+use Rattle.std.specs.Prelude.{None, Some, Option, Err, Ok, Result}
 use Prim.Native.Nat.{ℕ, ◌+◌, ◌≤◌, ◌<◌}
 use native.Mathlib.Omega.{arith}
 use mathlib.Core.Path.{◌≡◌, refl, sym, ap, subst, ◌∙◌}
@@ -23,8 +23,6 @@ use Rattle.shelf.specs.Shelves.{declared, blank, find_in, is_at}
 use Rattle.shelf.specs.declared.Unit as U
 use Rattle.shelf.specs.Shelf.{Shelf}
 use Rattle.outlet.specs.Taking.{leaving}
-use Rattle.outlet.specs.declared.Leaving as L
-use Rattle.outlet.specs.declared.Leaving.TheVariants as leaves
 use Rattle.answer.specs.Answers.{row, none, ends, refused, arrival_rises, hearing_rises, #taken}
 use Rattle.answer.specs.declared.Arrival.TheVariants.{Inletfull, Queued}
 use Rattle.answer.specs.declared.Answer.TheVariants.{Taken, Empty, Handed}
@@ -35,8 +33,6 @@ use Rattle.state.specs.Bytes.{shelf_in}
 use Rattle.state.proofs.Kept.{Own}
 use Rattle.soundness.specs.Soundings.{formed_all}
 use Rattle.soundness.specs.Admission.{admitted, admitted_in, decided, unit_at, with_unit, with_inlet, Housed}
-use Rattle.soundness.specs.declared.Admitted as A
-use Rattle.soundness.specs.declared.Admitted.TheVariants.{At, Refused}
 use Rattle.soundness.proofs.Laws.{at_let_in, let_in_housed}
 use Rattle.soundness.proofs.InPlace.{in_place}
 use Rattle.arriving.proofs.InPlace.{arrive_other}
@@ -163,39 +159,39 @@ Alone w unit after =
     ((place : ℕ) → find_in (declared w.shelf) unit ≡ Some place → OnlyAt place w after) × (find_in (declared w.shelf) unit ≡ None → after ≡ w)
 
 -- an event at a unit: refused, or let in at the place where the unit is found
-module _ (card : Card) (w : World) (unit : ℕ) (right : Bool) (out : A.Admitted → World) where
-  abbrev way : A.Admitted
+module _ (card : Card) (w : World) (unit : ℕ) (right : Bool) (out : Result ℕ ℕ → World) where
+  abbrev way : Result ℕ ℕ
   way = admitted card w.shelf (length w.store) (length w.rows) unit right
 
   -- let in at its place
-  at_place : ((number : ℕ) → out (Refused number) ≡ w) →
-      ((i : ℕ) → Housed i (unit_at w.shelf i) (length w.store) → right ≡ true → OnlyAt i w (out (At i))) →
+  at_place : ((number : ℕ) → out (Err number) ≡ w) →
+      ((i : ℕ) → Housed i (unit_at w.shelf i) (length w.store) → right ≡ true → OnlyAt i w (out (Ok i))) →
       (place : ℕ) → find_in (declared w.shelf) unit ≡ Some place → OnlyAt place w (out way)
   at_place refusal let_in place there = go way refl
     where
-      go : (a : A.Admitted) → way ≡ a → OnlyAt place w (out a)
-      go (Refused number) e = subst (OnlyAt place w) (sym (refusal number)) (only_none w place)
-      go (At i) e =
+      go : (a : Result ℕ ℕ) → way ≡ a → OnlyAt place w (out a)
+      go (Err number) e = subst (OnlyAt place w) (sym (refusal number)) (only_none w place)
+      go (Ok i) e =
           let l = at_let_in card w.shelf (length w.store) (length w.rows) unit right i e in
           let f = l.found in
           let same : i ≡ place = cc in
-          subst (λ p. OnlyAt p w (out (At i))) same
+          subst (λ p. OnlyAt p w (out (Ok i))) same
           (let_in i (let_in_housed card w.shelf (length w.store) (length w.rows) unit right i l).0 l.fits)
 
   -- not declared
-  nowhere : ((number : ℕ) → out (Refused number) ≡ w) → find_in (declared w.shelf) unit ≡ None → out way ≡ w
+  nowhere : ((number : ℕ) → out (Err number) ≡ w) → find_in (declared w.shelf) unit ≡ None → out way ≡ w
   nowhere refusal missing = go way refl
     where
-      go : (a : A.Admitted) → way ≡ a → out a ≡ w
-      go (Refused number) e = refusal number
-      go (At i) e =
+      go : (a : Result ℕ ℕ) → way ≡ a → out a ≡ w
+      go (Err number) e = refusal number
+      go (Ok i) e =
           let f = (at_let_in card w.shelf (length w.store) (length w.rows) unit right i e).found in
           let z : ◌≡◌ {A = ℕ} 0 1 = cc in
           absurd (omega arith)
 
   -- both
-  both : ((number : ℕ) → out (Refused number) ≡ w) →
-      ((i : ℕ) → Housed i (unit_at w.shelf i) (length w.store) → right ≡ true → OnlyAt i w (out (At i))) →
+  both : ((number : ℕ) → out (Err number) ≡ w) →
+      ((i : ℕ) → Housed i (unit_at w.shelf i) (length w.store) → right ≡ true → OnlyAt i w (out (Ok i))) →
       (n : ℕ) → some unit ≡ some n → Alone w n (out way)
   both refusal let_in n e = let same : unit ≡ n = cc in subst (λ m. Alone w m (out way)) same (at_place refusal let_in, nowhere refusal)
 
@@ -245,10 +241,10 @@ module _ (w : World) (i : ℕ) (housed : Housed i (unit_at w.shelf i) (length w.
       go hearing.ToLoopback e = put_within w.store i loopback_out_slot bytes whole (loopback_inside i (part_of i + 8192) u own_part) housed.inside
 
   -- a take, by the queue that it leaves
-  taken : (l : L.Leaving) (buffer : List ℕ) → OnlyAt i w (ended w (taking.done_by l w.shelf i) w.store buffer).world
+  taken : (l : Option ℕ) (buffer : List ℕ) → OnlyAt i w (ended w (taking.done_by l w.shelf i) w.store buffer).world
   unfolding taking.done_by settled_to
-  taken (leaves.Queue q) buffer = only_unit w i _ (in_row w.rows i #taken) w.store (as_was i w.store) (taking.without u q)
-  taken leaves.Empty buffer = only_none w i
+  taken (Some q) buffer = only_unit w i _ (in_row w.rows i #taken) w.store (as_was i w.store) (taking.without u q)
+  taken None buffer = only_none w i
 
   -- a hand-in, by whether the place is taken: no row rises
   handed : (c : List ℕ) → length c ≡ 56 → OnlyAt i w (ended w (handing.hand_at w.shelf i) (handing.hand_store_at w.shelf i w.store c) c).world
@@ -329,7 +325,7 @@ module _ (card : Card) (l : Lent) (long : Long l) where
   abbrev r : ℕ
   r = length l.rows
 
-  same_place : (unit n : ℕ) (right : Bool) (i place : ℕ) → some unit ≡ some n → find_in (declared (shelf_in b)) n ≡ Some place → admitted_in card b s r unit right ≡ At i → i ≡ place
+  same_place : (unit n : ℕ) (right : Bool) (i place : ℕ) → some unit ≡ some n → find_in (declared (shelf_in b)) n ≡ Some place → admitted_in card b s r unit right ≡ Ok i → i ≡ place
   same_place unit n right i place e there way = let f = (in_place card b s r unit right i way).let_in.found in let m : unit ≡ n = cc in cc
 
   rings : (e : Event) (n : ℕ) → named e ≡ some n → (place : ℕ) → find_in (declared (shelf_in b)) n ≡ Some place → OnlyRings place b (does card l e).lent.state

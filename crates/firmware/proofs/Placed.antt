@@ -1,53 +1,39 @@
--- What a count gives back, by its place; and that it is what `entry` counts: the row at the place, or the refusal. Assumes nothing.
-use mathlib.Core.Path.{◌≡◌, refl, ap, subst, sym, ◌∙◌}
+-- What a count gives back is what `entry` counts: the row at the place, or the refusal. Assumes nothing.
+use mathlib.Core.Path.{◌≡◌, refl, ap}
 use mathlib.Core.List.{List}
-use Prim.Native.Nat.{ℕ, zero, suc, ◌<◌}
+use Prim.Native.Nat.{ℕ, ◌<◌}
 use lib.ListN.{length, get_or}
 use native.Mathlib.Omega.{arith}
-use borrow.Author.Tests.{eq-eqb, ne_eqb}
+use Rattle.std.specs.Prelude.{Result, Ok, Err}
 use Rattle.card.specs.declared.Card.{Card}
 use Rattle.answer.specs.Counting.{zeros}
 use Rattle.answer.specs.declared.Counters as C
-use Rattle.soundness.specs.declared.Place.{Place}
 use Rattle.soundness.specs.Admission.{counted_in}
 use Rattle.soundness.proofs.InPlace.{row_there}
+use Rattle.entry.specs.Counts.{count_of}
 use Rattle.entry.specs.Outcomes.{counts_of}
-use Rattle.entry.specs.declared.Counted.TheVariants.{Counters, Refused}
-use Rattle.entry.proofs.Placed.{found_row, refused_row}
 use Rattle.firmware.specs.Codes.{pack, place_code}
-
-module _ (p : Place) where
-  pub place_told : p.number ≡ 0 → pack 9 0 0 0 p.at ≡ place_code p
-  unfolding place_code
-  place_told e = rw (eq-eqb p.number 0 e)
-
-  pub refusal_told : (p.number ≡ 0 → ⊥) → pack 2 p.number 0 0 0 ≡ place_code p
-  unfolding place_code
-  refusal_told e = rw (ne_eqb p.number 0 e)
-
--- the place of a row fits its bits
-pub row_fits : (card : Card) (b : List ℕ) (store rows unit : ℕ) (p : Place) → p ≡ counted_in card b store rows unit → p.number ≡ 0 → p.at < 32
-row_fits card b store rows unit p e = subst (λ (q : Place). q.number ≡ 0 → q.at < 32) (sym e) (λ z. (row_there card b store rows unit z).0)
 
 -- a place told is that of the row that `entry` counts, and the row is there; a refusal told is that refusal
 module _ (card : Card) (b store : List ℕ) (rows : List C.Counters) (unit : ℕ) where
-  abbrev place : Place
+  abbrev place : Result ℕ ℕ
   place = counted_in card b (length store) (length rows) unit
 
-  by_number : {X : Type 0} → (place.number ≡ 0 → X) → ((place.number ≡ 0 → ⊥) → X) → X
-  by_number {X = X} row refusal = pick place.number refl
+  pub count_row : (p : ℕ) → place_code place ≡ pack 9 0 0 0 p → (counts_of card b store rows (length rows) unit ≡ Ok (get_or rows p zeros)) × (p < length rows)
+  unfolding place_code count_of
+  count_row p e = pick place refl e
     where
-      pick : (n : ℕ) → place.number ≡ n → X
-      pick zero e = row e
-      pick (suc n) e = refusal (λ z. omega (arith, e, z))
+      pick : (a : Result ℕ ℕ) → place ≡ a → place_code a ≡ pack 9 0 0 0 p → (count_of place rows ≡ Ok (get_or rows p zeros)) × (p < length rows)
+      pick (Ok i) h e =
+          let there = row_there card b (length store) (length rows) unit i h in
+          let at : i ≡ p = omega arith in
+          (rw h (ap (λ k. Ok (get_or rows k zeros)) at), omega arith)
+      pick (Err n) h e = absurd (omega arith)
 
-  pub count_row : (p : ℕ) → place_code place ≡ pack 9 0 0 0 p → (counts_of card b store rows (length rows) unit ≡ Counters (get_or rows p zeros)) × (p < length rows)
-  count_row p e =
-      by_number (λ z. let at : place.at ≡ p = omega (arith, place_told place z, e) in
-      (sym (found_row place rows z) ∙ ap (λ i. Counters (get_or rows i zeros)) at, subst (λ (i : ℕ). i < length rows) at (row_there card b (length store) (length rows) unit z).1))
-      (λ z. absurd (omega (arith, refusal_told place z, e)))
-
-  pub count_refused : (n : ℕ) → place_code place ≡ pack 2 n 0 0 0 → counts_of card b store rows (length rows) unit ≡ Refused n
-  count_refused n e =
-      by_number (λ z. absurd (omega (arith, place_told place z, e)))
-      (λ z. let at : place.number ≡ n = omega (arith, refusal_told place z, e) in sym (refused_row place rows z) ∙ ap Refused at)
+  pub count_refused : (n : ℕ) → place_code place ≡ pack 2 n 0 0 0 → counts_of card b store rows (length rows) unit ≡ Err n
+  unfolding place_code count_of
+  count_refused n e = pick place refl e
+    where
+      pick : (a : Result ℕ ℕ) → place ≡ a → place_code a ≡ pack 2 n 0 0 0 → count_of place rows ≡ Err n
+      pick (Ok i) h e = absurd (omega arith)
+      pick (Err m) h e = let at : m ≡ n = omega arith in rw h (ap Err at)

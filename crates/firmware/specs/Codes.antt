@@ -2,7 +2,7 @@
 --     bits 0 to 7 its kind; 8 to 15 the refusal, the fate or the copies; 16 to 23 the sender; 24 to 31 the unit granted; 32 to 63 the bytes, the line, the frame's number or the
 --     place of a row; all others 0
 -- Assumes nothing.
-use Rattle.std.specs.Prelude.{ℕ, ◌+◌, ◌*◌, ◌/◌, ◌%◌, ◌<◌, cond, ◌≡◌, eqb}
+use Rattle.std.specs.Prelude.{ℕ, ◌+◌, ◌*◌, ◌/◌, ◌%◌, ◌<◌, cond, ◌≡◌, eqb, Result, Ok, Err}
 use Rattle.card.specs.declared.Card.{Card}
 use Rattle.card.specs.declared.Card.TheVariants.{Narrow, Wide}
 use Rattle.answer.specs.declared.Arrival as A
@@ -11,7 +11,6 @@ use Rattle.answer.specs.declared.Hearing as H
 use Rattle.answer.specs.declared.Hearing.TheVariants as hearings
 use Rattle.answer.specs.declared.Answer as N
 use Rattle.answer.specs.declared.Answer.TheVariants as answers
-use Rattle.soundness.specs.declared.Place.{Place}
 
 -- 1 is the wide card. A number that is no card is the one that holds less: what asks for more is refused, and never misread.
 unfoldable pub card_of : ℕ → Card
@@ -47,8 +46,9 @@ code answers.Empty = 7
 code answers.Handed = 8
 
 -- what a count gives back: the place of the row to read, or the number of the refusal
-unfoldable pub place_code : Place → ℕ
-place_code place = cond (eqb place.number 0) (pack 9 0 0 0 place.at) (pack 2 place.number 0 0 0)
+unfoldable pub place_code : Result ℕ ℕ → ℕ
+place_code (Ok place) = pack 9 0 0 0 place
+place_code (Err number) = pack 2 number 0 0 0
 
 -- the number that is given back is that of an answer that comes with what is left
 abbrev pub Tells : (N.Answer → Type 0) → ℕ → Type 0

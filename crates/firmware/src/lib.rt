@@ -87,11 +87,10 @@ fn code(answer: Answer) -> u64
 fn count_code(card: Card, state: &[u8; 2048], store: &[u8], rows: usize, unit: u8) -> u64
     ensures { result ≡ place_code (counted_in card state.now (length store.now) rows unit) }
 {
-    let place = soundness::counted(card, state, store, rows, unit);
-    if place.number != 0 {
-        return pack(2, place.number, 0, 0, 0);
+    match soundness::counted(card, state, store, rows, unit) {
+        Ok(at) => pack(9, 0, 0, 0, at as u32),
+        Err(number) => pack(2, number, 0, 0, 0),
     }
-    pack(9, 0, 0, 0, place.at as u32)
 }
 
 // A route table is loaded.

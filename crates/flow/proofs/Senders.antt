@@ -15,8 +15,6 @@ use Rattle.bus.specs.Frame.{returned}
 use Rattle.arbiter.specs.Arbitration.{nobody, besides, due, renewed_from, unit_of, asks_now}
 use Rattle.arbiter.proofs.Requests.{asks_without}
 use Rattle.arbiter.proofs.Grants.{granted_asks, granted_changes, not_granted}
-use Rattle.outlet.specs.declared.Leaving as L
-use Rattle.outlet.specs.declared.Leaving.TheVariants as leaves
 use Rattle.shelf.specs.Shelves.{place_from}
 use Rattle.store.proofs.Slots.{by_lt}
 use Rattle.meaning.proofs.Grown.{decide}
@@ -269,10 +267,10 @@ module _ (d : Shelf) where
   took_from [] place q buffer = (refl, refl)
   took_from (c ∷ cells) place q buffer = (refl, refl)
 
-  took : (l : L.Leaving) (place : ℕ) (buffer : List ℕ) → Leaves d (takes_by l d place buffer).shelf
+  took : (l : Option ℕ) (place : ℕ) (buffer : List ℕ) → Leaves d (takes_by l d place buffer).shelf
   unfolding takes_by
-  took (leaves.Queue q) place buffer = took_from (queue_at (unit_at d place) q) place q buffer
-  took leaves.Empty place buffer = (refl, refl)
+  took (Some q) place buffer = took_from (queue_at (unit_at d place) q) place q buffer
+  took None place buffer = (refl, refl)
 
   handed_to : (cells : List (List ℕ)) (place : ℕ) (c : List ℕ) → Leaves d (hands_into cells d place c).shelf
   unfolding hands_into

@@ -22,7 +22,7 @@ use answer::{Answer, Hearing};
 use arbiter::Arbiter;
 use bus::Address;
 use card::Card;
-use shelf::{Found, Unit};
+use shelf::Unit;
 
 // What the declared units make of a frame besides the counters that rise at each: how many copies were queued, whether some unit was addressed.
 #[derive(Clone, Copy)]
@@ -298,8 +298,8 @@ fn send_granted(s: &mut [u8], store: &mut [u8], buffer: &mut [u8], each: &mut [u
         × (buffer.new ≡ turn_buffer (shelf_in s.old) store.old buffer.old)) }
 {
     match state::find(s, s[803]) {
-        Found::At(place) => send(s, place, store, buffer, each),
-        Found::Nothing => silence(),
+        Some(place) => send(s, place, store, buffer, each),
+        None => silence(),
     }
 }
 

@@ -1,4 +1,5 @@
 -- How a hand and a collect at lent bytes end, and that the bytes are then the shelf after it. Assumes nothing.
+use Rattle.std.specs.Prelude.{Ok}
 use Prim.Native.Nat.{ℕ, ◌+◌, ◌%◌, ◌≤◌, ◌<◌}
 use native.Mathlib.Omega.{arith}
 use mathlib.Core.Path.{◌≡◌, refl, sym, ap, subst, ◌∙◌}
@@ -26,7 +27,6 @@ use Rattle.soundness.proofs.Kept.{formed_byte, formed_ring}
 use Rattle.answer.specs.declared.Answer.TheVariants.{Taken, Empty, Handed}
 use Rattle.answer.specs.Done.{Done, outcome_of}
 use Rattle.answer.specs.Answers.{#taken, none, row, ends, refused}
-use Rattle.soundness.specs.declared.Admitted.TheVariants as lets
 use Rattle.soundness.specs.Admission.{decided, unit_at, with_unit, Housed}
 use Rattle.soundness.proofs.Laws.{decided_all, decided_both}
 use Rattle.soundness.proofs.InPlace.{formed_in, in_place, below_count}
@@ -128,18 +128,18 @@ collect_fits shelf place rows h k =
 
 -- The tie: of bytes that are a state, a hand and a collect leave the shelf that 02's W1 leaves, and a state
 module _ (card : Card) (b : List ℕ) (store rows unit n : ℕ) (long : length b ≡ 2048) where
-  below : (i : ℕ) → comes_in card b store rows unit n ≡ lets.At i → i < 32
+  below : (i : ℕ) → comes_in card b store rows unit n ≡ Ok i → i < 32
   below i e = (in_place card b store rows unit (eqb n 56) i e).below
 
   -- below the number of declared units
-  under : (i : ℕ) → comes_in card b store rows unit n ≡ lets.At i → i < get_or b 805 0
+  under : (i : ℕ) → comes_in card b store rows unit n ≡ Ok i → i < get_or b 805 0
   under i e = below_count card b store rows unit (eqb n 56) i (in_place card b store rows unit (eqb n 56) i e)
 
   abbrev after_hand : List ℕ
   after_hand = hand_state card b store rows unit n
 
   -- what holds of the bytes as they were, and with the unit's control cell written, holds of them afterwards
-  hand_all : (P : List ℕ → Type 0) → P b → ((i : ℕ) → comes_in card b store rows unit n ≡ lets.At i → P (with_byte b 26 i 1)) → P after_hand
+  hand_all : (P : List ℕ → Type 0) → P b → ((i : ℕ) → comes_in card b store rows unit n ≡ Ok i → P (with_byte b 26 i 1)) → P after_hand
   hand_all P was is =
       decided_all P (hand_state_at b) (λ number. b) (comes_in card b store rows unit n)
       (λ i e. chosen P (busy (unit_in b i)) was (is i e))
@@ -159,7 +159,7 @@ module _ (card : Card) (b : List ℕ) (store rows unit n : ℕ) (long : length b
   hand_long = hand_all (λ x. length x ≡ 2048) long (λ i e. byte_long b 26 i 1 ∙ long)
 
   -- every byte but that of the unit's control cell is as it was
-  pub hand_other : (k : ℕ) → ((i : ℕ) → comes_in card b store rows unit n ≡ lets.At i → 832 ≤ k → k < 864 → k % 32 ≡ i → ⊥) → get_or after_hand k 0 ≡ get_or b k 0
+  pub hand_other : (k : ℕ) → ((i : ℕ) → comes_in card b store rows unit n ≡ Ok i → 832 ≤ k → k < 864 → k % 32 ≡ i → ⊥) → get_or after_hand k 0 ≡ get_or b k 0
   hand_other k apart =
       hand_all (λ x. get_or x k 0 ≡ get_or b k 0) refl
       (λ i e. let h = below i e in byte_other b 26 i 1 k (λ x. apart i e (omega arith) (omega arith) (omega arith)))
@@ -181,7 +181,7 @@ module _ (card : Card) (b : List ℕ) (store rows unit n : ℕ) (long : length b
   left i = popped (unit_in b i).side.controlout 4
 
   -- what holds of the bytes as they were, and with the ring of the unit's control outlet written, holds of them afterwards
-  collect_all : (P : List ℕ → Type 0) → P b → ((i : ℕ) → comes_in card b store rows unit n ≡ lets.At i → P (with_ring b 28 29 i (left i))) → P after_collect
+  collect_all : (P : List ℕ → Type 0) → P b → ((i : ℕ) → comes_in card b store rows unit n ≡ Ok i → P (with_ring b 28 29 i (left i))) → P after_collect
   collect_all P was is =
       decided_all P (collect_state_at b) (λ number. b) (comes_in card b store rows unit n)
       (λ i e. chosen P (bare (unit_in b i)) was (is i e))
@@ -203,7 +203,7 @@ module _ (card : Card) (b : List ℕ) (store rows unit n : ℕ) (long : length b
   collect_long = collect_all (λ x. length x ≡ 2048) long (λ i e. ring_long b 28 29 i (left i) ∙ long)
 
   -- every byte but those of the unit's control outlet is as it was
-  pub collect_other : (k : ℕ) → ((i : ℕ) → comes_in card b store rows unit n ≡ lets.At i → 896 ≤ k → k < 960 → k % 32 ≡ i → ⊥) → get_or after_collect k 0 ≡ get_or b k 0
+  pub collect_other : (k : ℕ) → ((i : ℕ) → comes_in card b store rows unit n ≡ Ok i → 896 ≤ k → k < 960 → k % 32 ≡ i → ⊥) → get_or after_collect k 0 ≡ get_or b k 0
   collect_other k apart =
       collect_all (λ x. get_or x k 0 ≡ get_or b k 0) refl
       (λ i e. let h = below i e in ring_other b 28 29 i (left i) k (λ x. apart i e (omega arith) (omega arith) (omega arith)) (λ x. apart i e (omega arith) (omega arith) (omega arith)))

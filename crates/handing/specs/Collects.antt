@@ -1,5 +1,5 @@
 -- Collect. 02, W1: "The processor .. takes from the control outlet (or `empty`), the 56 bytes before parity"; "leaving either outlet is `taken`". Assumes nothing.
-use Rattle.std.specs.Prelude.{ℕ, Bool, cond, List, eqb, length}
+use Rattle.std.specs.Prelude.{ℕ, Bool, cond, List, eqb, length, Result}
 use Rattle.card.specs.declared.Card.{Card}
 use Rattle.store.specs.Rings.{popped}
 use Rattle.store.specs.Places.{control_out_slot, cell_at}
@@ -9,7 +9,6 @@ use Rattle.shelf.specs.Shelf.{Shelf}
 use Rattle.answer.specs.declared.Answer.TheVariants.{Taken, Empty}
 use Rattle.answer.specs.Done.{Done}
 use Rattle.answer.specs.Answers.{#taken, none, row, ends, refused}
-use Rattle.soundness.specs.declared.Admitted as D
 use Rattle.soundness.specs.Admission.{admitted, decided, unit_at, with_unit, with_side}
 
 -- no cell stands there
@@ -30,7 +29,7 @@ collect_buffer_at shelf place store buffer =
     cond (bare (unit_at shelf place)) buffer (cell_at store place (control_out_slot (unit_at shelf place).side.controlout.head))
 
 -- at the unit with a number, if it is let in
-abbrev pub let_in : Card → Shelf → ℕ → ℕ → ℕ → ℕ → D.Admitted
+abbrev pub let_in : Card → Shelf → ℕ → ℕ → ℕ → ℕ → Result ℕ ℕ
 let_in card shelf store rows unit lent = admitted card shelf store rows unit (eqb lent 56)
 
 abbrev pub collect_done : Card → Shelf → ℕ → ℕ → ℕ → ℕ → Done

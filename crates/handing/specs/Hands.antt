@@ -1,5 +1,5 @@
 -- Hand. 02, W1: "The processor hands in .. the 56 bytes before parity"; "Refusals: Length for other than 56 bytes, then 11 Busy, place taken." Assumes nothing.
-use Rattle.std.specs.Prelude.{ℕ, Bool, cond, List, eqb, leb, length}
+use Rattle.std.specs.Prelude.{ℕ, Bool, cond, List, eqb, leb, length, Result}
 use Rattle.card.specs.declared.Card.{Card}
 use Rattle.store.specs.Places.{Cell, control_in_slot, put_at}
 use Rattle.shelf.specs.Shelves.{control_in_put}
@@ -8,7 +8,6 @@ use Rattle.shelf.specs.Shelf.{Shelf}
 use Rattle.answer.specs.declared.Answer.TheVariants.{Handed}
 use Rattle.answer.specs.Done.{Done}
 use Rattle.answer.specs.Answers.{none, ends, refused}
-use Rattle.soundness.specs.declared.Admitted as D
 use Rattle.soundness.specs.Admission.{admitted, decided, unit_at, with_unit, with_side}
 
 -- "place taken", granted or not
@@ -28,7 +27,7 @@ abbrev pub hand_store_at : Shelf → ℕ → List ℕ → Cell → List ℕ
 hand_store_at shelf place store cell = cond (busy (unit_at shelf place)) store (put_at store place control_in_slot cell)
 
 -- at the unit with a number, if it is let in
-abbrev pub let_in : Card → Shelf → ℕ → ℕ → ℕ → ℕ → D.Admitted
+abbrev pub let_in : Card → Shelf → ℕ → ℕ → ℕ → ℕ → Result ℕ ℕ
 let_in card shelf store rows unit long = admitted card shelf store rows unit (eqb long 56)
 
 abbrev pub hand_done : Card → Shelf → ℕ → ℕ → ℕ → ℕ → Done

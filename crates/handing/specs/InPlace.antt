@@ -1,5 +1,5 @@
 -- Hand and collect, of a state in lent bytes: what is answered, the bytes, the store and the buffer afterwards. Assumes nothing.
-use Rattle.std.specs.Prelude.{ℕ, cond, List, eqb}
+use Rattle.std.specs.Prelude.{ℕ, cond, List, eqb, Result}
 use Rattle.card.specs.declared.Card.{Card}
 use Rattle.store.specs.Rings.{popped}
 use Rattle.store.specs.Places.{Cell}
@@ -7,13 +7,12 @@ use Rattle.state.specs.Bytes.{unit_in, shelf_in, with_ring, with_byte}
 use Rattle.answer.specs.Answers.{refused_with}
 use Rattle.answer.specs.Done.{outcome_of}
 use Rattle.answer.specs.declared.Outcome.{Outcome}
-use Rattle.soundness.specs.declared.Admitted as D
 use Rattle.soundness.specs.Admission.{admitted_in, formed_or, decided}
 use Rattle.handing.specs.Hands.{busy, hand_done, hand_store}
 use Rattle.handing.specs.Collects.{bare, collect_done, collect_buffer}
 
 -- at the unit with a number, if it is let in with 56 bytes
-abbrev pub comes_in : Card → List ℕ → ℕ → ℕ → ℕ → ℕ → D.Admitted
+abbrev pub comes_in : Card → List ℕ → ℕ → ℕ → ℕ → ℕ → Result ℕ ℕ
 comes_in card b store rows unit long = admitted_in card b store rows unit (eqb long 56)
 
 -- a cell is handed in at the unit in a place

@@ -13,7 +13,6 @@ ghost use Rattle.handing.specs.InPlace.{hand_state_at, hand_out, hand_state, han
 use answer::{Answer, Single};
 use card::Card;
 use shelf::Unit;
-use soundness::Admitted;
 
 // A cell is handed in at the unit in a place, if its place in the inlet is free.
 fn hand_at(s: &mut [u8], place: usize, store: &mut [u8], cell: &[u8]) -> Single
@@ -43,8 +42,8 @@ pub fn hand(
         × (store.new ≡ hand_store_in card s.old store.old rows unit cell.now)) }
 {
     match soundness::admit(card, s, store.len(), rows, unit, cell.len() == 56) {
-        Admitted::At(place) => hand_at(s, place, store, cell),
-        Admitted::Refused(number) => answer::uncounted(Answer::Refused(number)),
+        Ok(place) => hand_at(s, place, store, cell),
+        Err(number) => answer::uncounted(Answer::Refused(number)),
     }
 }
 
@@ -82,7 +81,7 @@ pub fn collect(
     ensures fits { ((outcome_by result).rises.to ≤ 32) × ((outcome_by result).rises.to ≤ rows) }
 {
     match soundness::admit(card, s, store.len(), rows, unit, buffer.len() == 56) {
-        Admitted::At(place) => collect_at(s, place, store, buffer),
-        Admitted::Refused(number) => answer::uncounted(Answer::Refused(number)),
+        Ok(place) => collect_at(s, place, store, buffer),
+        Err(number) => answer::uncounted(Answer::Refused(number)),
     }
 }

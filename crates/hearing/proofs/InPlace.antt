@@ -1,4 +1,5 @@
 -- Hearing, of a state in lent bytes: what is written at the unit's place, and that it is the shelf after the hearing. Assumes nothing.
+use Rattle.std.specs.Prelude.{Err, Ok, Result}
 use Prim.Native.Nat.{ℕ, zero, suc, ◌+◌, ◌*◌, ◌%◌, ◌≤◌, ◌<◌}
 use native.Mathlib.Omega.{arith}
 use mathlib.Core.Path.{◌≡◌, refl, sym, ap, subst, ◌∙◌}
@@ -35,8 +36,6 @@ use Rattle.state.proofs.Kept.{Column, Own, byte_long, byte_other, ring_long, rin
 use Rattle.soundness.specs.Soundings.{formed_all}
 use Rattle.soundness.proofs.Kept.{formed_byte, formed_ring}
 use Rattle.soundness.specs.Admission.{admitted, decided, unit_at, with_unit}
-use Rattle.soundness.specs.declared.Admitted as D
-use Rattle.soundness.specs.declared.Admitted.TheVariants.{At, Refused}
 use Rattle.soundness.proofs.Laws.{decided_at, decided_refused}
 use Rattle.soundness.proofs.InPlace.{in_place, refused_place}
 use Rattle.hearing.specs.Hearings.{Plan, Queue, ToControl, ToLoopback, Lost, plan_for, plan_to, plan_in, plan_control, plan_loopback, plan_of, fate_by, copy_by, slot_of, store_by, copy_of, store_of, done_at, store_at, hear_done}
@@ -235,7 +234,7 @@ module _ (p : Plan) (b : List ℕ) (i : ℕ) (few : (q : ℕ) → p ≡ Queue q 
 
 -- the event: let in at a place, or refused
 module _ (card : Card) (b : List ℕ) (rows unit : ℕ) (f : List ℕ) where
-  module _ (store : ℕ) (i : ℕ) (e : let_in_place card b store rows unit f ≡ At i) where
+  module _ (store : ℕ) (i : ℕ) (e : let_in_place card b store rows unit f ≡ Ok i) where
     pub out_at : outcome_at i (fate_by (plan_of (unit_in b i) (heard f))) ≡ hear_out card b store rows unit f
     out_at =
         let l = in_place card b store rows unit (eqb (length f) 57) i e in
@@ -244,21 +243,21 @@ module _ (card : Card) (b : List ℕ) (rows unit : ℕ) (f : List ℕ) where
         ∙ ap outcome_of (decided_at (λ place. done_at (shelf_in b) place f) (refused (shelf_in b)) _ i l.shelf)
         ∙ ap (λ t. cond t (outcome_of (hear_done card (shelf_in b) store rows unit f)) (refused_with 8)) (sym l.formed)
 
-  pub store_at_lem : (store : List ℕ) (i : ℕ) → let_in_place card b (length store) rows unit f ≡ At i → store_of (unit_in b i) (heard f) i store (take 56 f) ≡ hear_store_in card b store rows unit f
+  pub store_at_lem : (store : List ℕ) (i : ℕ) → let_in_place card b (length store) rows unit f ≡ Ok i → store_of (unit_in b i) (heard f) i store (take 56 f) ≡ hear_store_in card b store rows unit f
   store_at_lem store i e =
       let l = in_place card b (length store) rows unit (eqb (length f) 57) i e in
       ap (λ x. store_of x (heard f) i store (take 56 f)) (sym (unit_at_lem b i blank l.below))
       ∙ decided_at (λ place. store_at (shelf_in b) place store f) (λ number. store) _ i l.shelf
       ∙ ap (λ t. cond t (decided (admitted card (shelf_in b) (length store) rows unit (eqb (length f) 57)) (λ place. store_at (shelf_in b) place store f) (λ number. store)) store) (sym l.formed)
 
-  pub out_refused : (store n : ℕ) → let_in_place card b store rows unit f ≡ Refused n → refused_with n ≡ hear_out card b store rows unit f
+  pub out_refused : (store n : ℕ) → let_in_place card b store rows unit f ≡ Err n → refused_with n ≡ hear_out card b store rows unit f
   out_refused store n e = by (formed_all b) refl
     where
       by : (t : Bool) → formed_all b ≡ t → refused_with n ≡ cond t (outcome_of (hear_done card (shelf_in b) store rows unit f)) (refused_with 8)
       by true h = ap outcome_of (decided_refused (λ place. done_at (shelf_in b) place f) (refused (shelf_in b)) _ n ((refused_place card b store rows unit (eqb (length f) 57) 0 n e).0 h))
       by false h = ap refused_with ((refused_place card b store rows unit (eqb (length f) 57) 0 n e).1 h)
 
-  pub store_refused : (store : List ℕ) (n : ℕ) → let_in_place card b (length store) rows unit f ≡ Refused n → store ≡ hear_store_in card b store rows unit f
+  pub store_refused : (store : List ℕ) (n : ℕ) → let_in_place card b (length store) rows unit f ≡ Err n → store ≡ hear_store_in card b store rows unit f
   store_refused store n e = by (formed_all b) refl
     where
       by : (t : Bool) → formed_all b ≡ t → store ≡ cond t (decided (admitted card (shelf_in b) (length store) rows unit (eqb (length f) 57)) (λ place. store_at (shelf_in b) place store f) (λ number. store)) store
@@ -270,21 +269,21 @@ module _ (card : Card) (b : List ℕ) (store rows unit : ℕ) (f : List ℕ) whe
   abbrev queues : (i q : ℕ) → plan_of (unit_in b i) (heard f) ≡ Queue q → q < 4
   queues i = plan_queue (unit_in b i) (heard f)
 
-  kept : (P : List ℕ → Type 0) → P b → ((i : ℕ) → let_in_place card b store rows unit f ≡ At i → i < 32 → P (state_at b i f)) → P (hear_state card b store rows unit f)
+  kept : (P : List ℕ → Type 0) → P b → ((i : ℕ) → let_in_place card b store rows unit f ≡ Ok i → i < 32 → P (state_at b i f)) → P (hear_state card b store rows unit f)
   unfolding decided
   kept P was is = by (let_in_place card b store rows unit f) refl
     where
-      by : (d : D.Admitted) → let_in_place card b store rows unit f ≡ d → P (decided d (λ place. state_at b place f) (λ number. b))
-      by (At i) e = is i e (in_place card b store rows unit (eqb (length f) 57) i e).below
-      by (Refused n) e = was
+      by : (d : Result ℕ ℕ) → let_in_place card b store rows unit f ≡ d → P (decided d (λ place. state_at b place f) (λ number. b))
+      by (Ok i) e = is i e (in_place card b store rows unit (eqb (length f) 57) i e).below
+      by (Err n) e = was
 
-  declared_place : (i : ℕ) → let_in_place card b store rows unit f ≡ At i → i < get_or b 805 0
+  declared_place : (i : ℕ) → let_in_place card b store rows unit f ≡ Ok i → i < get_or b 805 0
   declared_place i e =
       let l = in_place card b store rows unit (eqb (length f) 57) i e in
       omega (arith, length-take (get_or b 805 0) (shelf_in b).units, ((find_at unit (declared (shelf_in b)) i).0 l.let_in.found).inside)
 
   -- all but the rings and single places of the unit that hears it
-  pub hear_other : (k : ℕ) → ((i : ℕ) → let_in_place card b store rows unit f ≡ At i → 448 ≤ k → k < 992 → (Own k → ⊥) → k % 32 ≡ i → ⊥) → get_or (hear_state card b store rows unit f) k 0 ≡ get_or b k 0
+  pub hear_other : (k : ℕ) → ((i : ℕ) → let_in_place card b store rows unit f ≡ Ok i → 448 ≤ k → k < 992 → (Own k → ⊥) → k % 32 ≡ i → ⊥) → get_or (hear_state card b store rows unit f) k 0 ≡ get_or b k 0
   hear_other k ne =
       kept (λ x. get_or x k 0 ≡ get_or b k 0) refl (λ i e hi. state_other (plan_of (unit_in b i) (heard f)) b i (queues i) hi k (λ h lh hh q. ne i e (omega arith) (omega arith) (λ o. omega arith) (omega arith)))
 
@@ -312,11 +311,11 @@ module _ (card : Card) (b : List ℕ) (store rows unit : ℕ) (f : List ℕ) whe
   unfolding decided
   hear_decodes long formed = by (let_in_place card b store rows unit f) refl
     where
-      by : (d : D.Admitted) → let_in_place card b store rows unit f ≡ d → shelf_in (decided d (λ place. state_at b place f) (λ number. b)) ≡ (hear_done card (shelf_in b) store rows unit f).reply.shelf
-      by (At i) e =
+      by : (d : Result ℕ ℕ) → let_in_place card b store rows unit f ≡ d → shelf_in (decided d (λ place. state_at b place f) (λ number. b)) ≡ (hear_done card (shelf_in b) store rows unit f).reply.shelf
+      by (Ok i) e =
           let l = in_place card b store rows unit (eqb (length f) 57) i e in
           state_put (plan_of (unit_in b i) (heard f)) b i (queues i) l.below long
           ∙ ap (λ x. with_unit (shelf_in b) i (copy_of x (heard f)).unit) (sym (unit_at_lem b i blank l.below))
           ∙ ap (λ (x : Done). x.reply.shelf) (decided_at (λ place. done_at (shelf_in b) place f) (refused (shelf_in b)) _ i l.shelf)
-      by (Refused n) e =
+      by (Err n) e =
           ap (λ (x : Done). x.reply.shelf) (decided_refused (λ place. done_at (shelf_in b) place f) (refused (shelf_in b)) _ n ((refused_place card b store rows unit (eqb (length f) 57) 0 n e).0 formed))

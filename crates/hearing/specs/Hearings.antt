@@ -1,5 +1,5 @@
 -- What becomes of a heard frame at a unit. Assumes nothing.
-use Rattle.std.specs.Prelude.{ℕ, Bool, true, cond, List, eqb, leb, length, take}
+use Rattle.std.specs.Prelude.{ℕ, Bool, true, cond, List, eqb, leb, length, take, Result}
 use Rattle.bus.specs.declared.Target as T
 use Rattle.bus.specs.declared.Target.TheVariants as target
 use Rattle.bus.specs.Frame.{heard}
@@ -21,7 +21,6 @@ use Rattle.answer.specs.declared.Hearing.TheVariants.{Damaged, Other, Wide, Full
 use Rattle.answer.specs.declared.Answer.TheVariants.{Heard}
 use Rattle.answer.specs.Done.{Done}
 use Rattle.answer.specs.Answers.{hearing_rises, row, ends, refused}
-use Rattle.soundness.specs.declared.Admitted as D
 use Rattle.soundness.specs.Admission.{admitted, decided, unit_at, with_unit, with_queue, with_side}
 
 -- a unit after it has heard a frame, and the fate of the frame there
@@ -138,7 +137,7 @@ abbrev pub store_at : Shelf → ℕ → List ℕ → List ℕ → List ℕ
 store_at shelf place store f = store_of (unit_at shelf place) (heard f) place store (take 56 f)
 
 -- by the unit with a number, if it is let in
-abbrev pub let_in : Card → Shelf → ℕ → ℕ → ℕ → List ℕ → D.Admitted
+abbrev pub let_in : Card → Shelf → ℕ → ℕ → ℕ → List ℕ → Result ℕ ℕ
 let_in card shelf store rows unit f = admitted card shelf store rows unit (eqb (length f) 57)
 
 abbrev pub hear_done : Card → Shelf → ℕ → ℕ → ℕ → List ℕ → Done

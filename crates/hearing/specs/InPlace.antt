@@ -1,5 +1,5 @@
 -- Hearing, of a state in lent bytes: what is answered and stored goes by the shelf that the bytes are, and a queued copy is one more in its ring. Assumes nothing.
-use Rattle.std.specs.Prelude.{ℕ, ◌+◌, List, eqb, length}
+use Rattle.std.specs.Prelude.{ℕ, ◌+◌, List, eqb, length, Result}
 use Rattle.bus.specs.Frame.{heard}
 use Rattle.card.specs.declared.Card.{Card}
 use Rattle.outlet.specs.Outlets.{queue}
@@ -10,7 +10,6 @@ use Rattle.answer.specs.declared.Answer.TheVariants.{Heard}
 use Rattle.answer.specs.declared.Outcome.{Outcome}
 use Rattle.answer.specs.Done.{outcome_of}
 use Rattle.answer.specs.Answers.{hearing_rises, row, refused_with}
-use Rattle.soundness.specs.declared.Admitted as D
 use Rattle.soundness.specs.Admission.{admitted_in, decided, formed_or}
 use Rattle.hearing.specs.Hearings.{Plan, Queue, ToControl, ToLoopback, Lost, plan_of, hear_done, hear_store}
 
@@ -29,7 +28,7 @@ abbrev pub outcome_at : ℕ → A.Hearing → Outcome
 outcome_at place fate = record { answer = Heard fate; rises = row place (hearing_rises fate) }
 
 -- by the unit with a number, if it is let in
-abbrev pub let_in_place : Card → List ℕ → ℕ → ℕ → ℕ → List ℕ → D.Admitted
+abbrev pub let_in_place : Card → List ℕ → ℕ → ℕ → ℕ → List ℕ → Result ℕ ℕ
 let_in_place card b store rows unit f = admitted_in card b store rows unit (eqb (length f) 57)
 
 abbrev pub hear_out : Card → List ℕ → ℕ → ℕ → ℕ → List ℕ → Outcome

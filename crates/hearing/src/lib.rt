@@ -15,7 +15,6 @@ use bus::{Address, Target};
 use card::Card;
 use outlet::Fate;
 use shelf::Unit;
-use soundness::Admitted;
 
 // Whether a cell to this target is for the unit in a place.
 pub fn addressed_at(s: &[u8], place: usize, target: Target) -> bool
@@ -182,7 +181,7 @@ pub fn hear(
     ensures fits { ((outcome_by result).rises.to ≤ 32) × ((outcome_by result).rises.to ≤ rows) }
 {
     match soundness::admit(card, s, store.len(), rows, unit, frame.len() == 57) {
-        Admitted::At(place) => hear_at(s, place, store, frame),
-        Admitted::Refused(number) => answer::uncounted(Answer::Refused(number)),
+        Ok(place) => hear_at(s, place, store, frame),
+        Err(number) => answer::uncounted(Answer::Refused(number)),
     }
 }

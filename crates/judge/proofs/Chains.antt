@@ -1,4 +1,5 @@
 -- The judges, test by test. Assumes nothing.
+use Rattle.std.specs.Prelude.{Option}
 use mathlib.Core.Path.{◌≡◌, refl, sym, ap, ◌∙◌}
 use mathlib.Core.Bool.{Bool, true, false, not, cond}
 use Prim.Native.Nat.{ℕ, ◌+◌, ◌*◌, ◌<◌, ◌≤◌}
@@ -9,7 +10,6 @@ use Rattle.card.specs.Cards.{holds}
 use Rattle.card.specs.declared.Card.{Card}
 use Rattle.card.specs.declared.Ask.TheVariants.{On, Out}
 use Rattle.lookup.specs.Record.{size}
-use Rattle.lookup.specs.declared.Got.{Got}
 use Rattle.shelf.specs.Shelf.{Shelf}
 use Rattle.line.specs.declared.Line.{Line}
 use Rattle.line.specs.declared.Line.TheVariants.{Bus, Unit as L-as-Unit, Vp, Drop, Page, Vc, Mc}
@@ -21,6 +21,7 @@ use Rattle.judge.specs.Verdicts.{asked, room_for, off_bus, taken, page_in}
 use Rattle.judge.specs.Judge.{judge_bus, judge_unit, judge_vp, judge_drop, judge_page, judge_vc}
 use Rattle.judge.specs.Owners.{owned_by, spot}
 use Rattle.judge.specs.Standing.{second, judge_first, judge_by}
+use Rattle.lookup.specs.declared.Record as R
 
 -- by the owner
 pub nobody : (o : Owner) (f : Owner → Verdict) → not o.known ≡ true → Order 2 ≡ owned_by o f
@@ -31,7 +32,7 @@ pub somebody : (o : Owner) (f : Owner → Verdict) (r : Verdict) → not o.known
 unfolding owned_by
 somebody o f r e h = h ∙ ap (λ b. cond b (f o) (Order 2)) (sym (not-false o.known e))
 
-module _ (card : Card) (bus declared_top vpi : ℕ) (got : Got) where
+module _ (card : Card) (bus declared_top vpi : ℕ) (got : Option R.Record) where
   pub vp_above : (target : Target) (outvpi : ℕ) → declared_top < vpi → Order 3 ≡ judge_vp card bus declared_top vpi got target outvpi
   unfolding judge_vp
   vp_above target outvpi h = rw (lt-ltb declared_top vpi h)
@@ -48,7 +49,7 @@ module _ (card : Card) (bus declared_top vpi : ℕ) (got : Got) where
   unfolding judge_vp
   vp_asked target outvpi r h o t e = rw (le-ltb declared_top vpi h, o, t) e
 
-module _ (top vpi : ℕ) (got : Got) where
+module _ (top vpi : ℕ) (got : Option R.Record) where
   pub drop_above : top < vpi → Order 3 ≡ judge_drop top vpi got
   unfolding judge_drop
   drop_above h = rw (lt-ltb top vpi h)
@@ -74,7 +75,7 @@ module _ (top vpi : ℕ) (got : Got) where
   page_room room used topvci r h t e = rw (le-ltb top vpi h, t) e
 
 -- a `vc` line, by the page that stands there
-module _ (card : Card) (bus top vpi : ℕ) (stands : ℕ → Got) (o : Owner) (vci : ℕ) (target : Target) (outvpi : ℕ) where
+module _ (card : Card) (bus top vpi : ℕ) (stands : ℕ → Option R.Record) (o : Owner) (vci : ℕ) (target : Target) (outvpi : ℕ) where
   abbrev page : Paged
   page = page_in (stands (spot o vpi))
 
@@ -124,7 +125,7 @@ module _ (card : Card) (bus room used number top : ℕ) (link : Link) where
   unit_wide declared h d k = rw (lt-leb bus number h, d, k)
 
 -- the first line
-pub at_first : (card : Card) (room : ℕ) (stands : ℕ → Got) (shelf : Shelf) (used : ℕ) (o : Owner) (l : Line) → judge_first card l ≡ judge_by card room true stands shelf used o l
+pub at_first : (card : Card) (room : ℕ) (stands : ℕ → Option R.Record) (shelf : Shelf) (used : ℕ) (o : Owner) (l : Line) → judge_first card l ≡ judge_by card room true stands shelf used o l
 unfolding judge_first judge_by judge_bus
 at_first card room stands shelf used o (Bus bus) = refl
 at_first card room stands shelf used o (L-as-Unit settings limits) = refl

@@ -1,14 +1,14 @@
 -- What is wrong with a line, tried as Order, Twice, Wide, Room. The judges take what stands where, as values. Assumes nothing.
-use Rattle.std.specs.Prelude.{ℕ, ◌+◌, Bool, cond, leb, ltb}
+use Rattle.std.specs.Prelude.{ℕ, ◌+◌, Bool, cond, leb, ltb, Option}
 use Rattle.header.specs.declared.Link.{Link}
 use Rattle.bus.specs.declared.Target.{Target}
 use Rattle.card.specs.declared.Card.{Card}
 use Rattle.card.specs.declared.Ask.TheVariants.{Bus as A-as-Bus, On, Out}
-use Rattle.lookup.specs.declared.Got.{Got}
 use Rattle.judge.specs.declared.Paged.{Paged}
 use Rattle.judge.specs.declared.Verdict.{Verdict}
 use Rattle.judge.specs.declared.Verdict.TheVariants.{Fine, Order, Twice}
 use Rattle.judge.specs.Verdicts.{asked, room_for, off_bus, taken, page_in}
+use Rattle.lookup.specs.declared.Record as R
 
 -- "`bus` again"
 unfoldable pub judge_bus : Card → Bool → ℕ → Verdict
@@ -20,21 +20,21 @@ judge_unit card bus declared room used number link top =
     cond (leb bus number) (Order 2) (cond declared (Twice 2) (asked card (On link) (room_for room used (top + 1))))
 
 -- "VPI above that unit's top"; "unit and VPI given again by `vp`, `drop` or `page`"
-unfoldable pub judge_vp : Card → ℕ → ℕ → ℕ → Got → Target → ℕ → Verdict
+unfoldable pub judge_vp : Card → ℕ → ℕ → ℕ → Option R.Record → Target → ℕ → Verdict
 judge_vp card bus top vpi got target outvpi =
     cond (ltb top vpi) (Order 3) (cond (off_bus bus target) (Order 4) (cond (taken got) (Twice 3) (asked card (Out outvpi) Fine)))
 
-unfoldable pub judge_drop : ℕ → ℕ → Got → Verdict
+unfoldable pub judge_drop : ℕ → ℕ → Option R.Record → Verdict
 judge_drop top vpi got = cond (ltb top vpi) (Order 3) (cond (taken got) (Twice 3) Fine)
 
-unfoldable pub judge_page : ℕ → ℕ → ℕ → ℕ → Got → ℕ → Verdict
+unfoldable pub judge_page : ℕ → ℕ → ℕ → ℕ → Option R.Record → ℕ → Verdict
 judge_page room used top vpi got topvci = cond (ltb top vpi) (Order 3) (cond (taken got) (Twice 3) (room_for room used (topvci + 1)))
 
 -- "`vc` without its page before it or above its top VCI"; "same `vc`": got is the VPI's record, and got₂ the VCI's in its page
 abbrev pub in_page : Paged → ℕ → Verdict → Verdict
 in_page page vci rest = cond page.known (cond (ltb page.top vci) (Order 4) rest) (Order 3)
 
-unfoldable pub judge_vc : Card → ℕ → ℕ → ℕ → Got → ℕ → Got → Target → ℕ → Verdict
+unfoldable pub judge_vc : Card → ℕ → ℕ → ℕ → Option R.Record → ℕ → Option R.Record → Target → ℕ → Verdict
 judge_vc card bus top vpi got vci got₂ target outvpi =
     cond (ltb top vpi) (Order 3)
     (in_page (page_in got) vci (cond (off_bus bus target) (Order 5) (cond (taken got₂) (Twice 4) (asked card (Out outvpi) Fine))))

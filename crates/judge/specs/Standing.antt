@@ -1,11 +1,9 @@
 -- What stands in the shelf and in a memory that a line is judged by. Assumes nothing.
-use Rattle.std.specs.Prelude.{ℕ, ◌+◌, ◌*◌, Bool, cond}
+use Rattle.std.specs.Prelude.{ℕ, ◌+◌, ◌*◌, Bool, cond, None, Option}
 use Rattle.bus.specs.declared.Target.{Target}
 use Rattle.card.specs.declared.Card.{Card}
 use Rattle.card.specs.declared.Ask.TheVariants.{Bus as A-as-Bus}
 use Rattle.lookup.specs.Record.{size}
-use Rattle.lookup.specs.declared.Got.{Got}
-use Rattle.lookup.specs.declared.Got.TheVariants.{Nothing as Got-as-Nothing}
 use Rattle.shelf.specs.Sessions.{hears}
 use Rattle.shelf.specs.Shelf.{Shelf}
 use Rattle.line.specs.declared.Line.{Line}
@@ -17,17 +15,18 @@ use Rattle.judge.specs.declared.Verdict.TheVariants.{Fine, Order}
 use Rattle.judge.specs.Verdicts.{asked, page_in}
 use Rattle.judge.specs.Owners.{unit_of, owner_of, owned_by, sessions_at, spot}
 use Rattle.judge.specs.Judge.{judge_bus, judge_unit, judge_vp, judge_drop, judge_page, judge_vc, judge_mc}
+use Rattle.lookup.specs.declared.Record as R
 
 -- what stands in a page's record for a VCI; nothing where there is no page
-abbrev pub second : (ℕ → Got) → Paged → ℕ → Got
-second stands page vci = cond page.known (stands (page.place + size * vci)) Got-as-Nothing
+abbrev pub second : (ℕ → Option R.Record) → Paged → ℕ → Option R.Record
+second stands page vci = cond page.known (stands (page.place + size * vci)) None
 
 -- a `vc` line at a declared unit
-abbrev pub judge_vc_at : Card → ℕ → (ℕ → Got) → Owner → ℕ → ℕ → Target → ℕ → Verdict
+abbrev pub judge_vc_at : Card → ℕ → (ℕ → Option R.Record) → Owner → ℕ → ℕ → Target → ℕ → Verdict
 judge_vc_at card bus stands o v w target outvpi = judge_vc card bus o.top v (stands (spot o v)) w (second stands (page_in (stands (spot o v))) w) target outvpi
 
 -- the verdict on a line that names this unit
-unfoldable pub judge_by : Card → ℕ → Bool → (ℕ → Got) → Shelf → ℕ → Owner → Line → Verdict
+unfoldable pub judge_by : Card → ℕ → Bool → (ℕ → Option R.Record) → Shelf → ℕ → Owner → Line → Verdict
 judge_by card room first stands shelf used o (Bus bus) = judge_bus card first bus
 judge_by card room first stands shelf used o (L-as-Unit settings limits) =
     cond first (Order 1) (judge_unit card shelf.bus o.known room used settings.number settings.link settings.top)
@@ -39,7 +38,7 @@ judge_by card room first stands shelf used o (Vc u v w target class outvpi outvc
     cond first (Order 1) (owned_by o λ o. judge_vc_at card shelf.bus stands o v w target outvpi)
 judge_by card room first stands shelf used o (Mc u session) = cond first (Order 1) (owned_by o λ o. judge_mc (hears (sessions_at shelf o) session))
 
-abbrev pub judge_at : Card → ℕ → Bool → (ℕ → Got) → Shelf → ℕ → Line → Verdict
+abbrev pub judge_at : Card → ℕ → Bool → (ℕ → Option R.Record) → Shelf → ℕ → Line → Verdict
 judge_at card room first stands shelf used l = judge_by card room first stands shelf used (owner_of shelf (unit_of l)) l
 
 -- the same of the first line

@@ -1,5 +1,5 @@
 -- The parts of a verdict, each of what stands where, as a value. Assumes nothing.
-use Rattle.std.specs.Prelude.{ℕ, ◌+◌, ◌*◌, Bool, true, false, cond, leb}
+use Rattle.std.specs.Prelude.{ℕ, ◌+◌, ◌*◌, Bool, true, false, cond, leb, None, Option, Some}
 use Rattle.bus.specs.declared.Target.{Target}
 use Rattle.bus.specs.declared.Target.TheVariants.{Unit as T-as-Unit, Session, All}
 use Rattle.card.specs.Cards.{holds}
@@ -7,11 +7,10 @@ use Rattle.card.specs.declared.Card.{Card}
 use Rattle.card.specs.declared.Ask.{Ask}
 use Rattle.lookup.specs.Record.{size}
 use Rattle.lookup.specs.declared.Record.TheVariants.{Empty, Drop, Route, Page}
-use Rattle.lookup.specs.declared.Got.{Got}
-use Rattle.lookup.specs.declared.Got.TheVariants.{Is, Nothing}
 use Rattle.judge.specs.declared.Paged.{Paged}
 use Rattle.judge.specs.declared.Verdict.{Verdict}
 use Rattle.judge.specs.declared.Verdict.TheVariants.{Fine, Form, Order, Twice, Wide, Room}
+use Rattle.lookup.specs.declared.Record as R
 
 -- Wide, "narrow card only": what the line asks of the card
 abbrev pub asked : Card → Ask → Verdict → Verdict
@@ -28,20 +27,20 @@ off_bus bus (Session session) = false
 off_bus bus All = false
 
 -- whether a place is taken already
-abbrev pub taken : Got → Bool
-taken (Is Empty) = false
-taken (Is Drop) = true
-taken (Is (Route header vpi vci)) = true
-taken (Is (Page top place)) = true
-taken Nothing = true
+abbrev pub taken : Option R.Record → Bool
+taken (Some Empty) = false
+taken (Some Drop) = true
+taken (Some (Route header vpi vci)) = true
+taken (Some (Page top place)) = true
+taken None = true
 
 -- the page that a record is, where it is one
-abbrev pub page_in : Got → Paged
-page_in (Is Empty) = record { known = false; top = 0; place = 0 }
-page_in (Is Drop) = record { known = false; top = 0; place = 0 }
-page_in (Is (Route header outvpi outvci)) = record { known = false; top = 0; place = 0 }
-page_in (Is (Page top place)) = record { known = true; top = top; place = place }
-page_in Nothing = record { known = false; top = 0; place = 0 }
+abbrev pub page_in : Option R.Record → Paged
+page_in (Some Empty) = record { known = false; top = 0; place = 0 }
+page_in (Some Drop) = record { known = false; top = 0; place = 0 }
+page_in (Some (Route header outvpi outvci)) = record { known = false; top = 0; place = 0 }
+page_in (Some (Page top place)) = record { known = true; top = top; place = place }
+page_in None = record { known = false; top = 0; place = 0 }
 
 -- 01's number of a verdict
 abbrev pub number_of : Verdict → ℕ

@@ -14,8 +14,8 @@ use arbiter::NOBODY;
 use bus::Target;
 use card::{Ask, Card};
 use line::{Line, Wrong};
-use lookup::{Got, Record};
-use shelf::{Found, Settings};
+use lookup::Record;
+use shelf::Settings;
 
 // What is wrong with a line, in the order in which it is tried; Order and Twice carry the field, counted from the word as 1.
 #[derive(Clone, Copy)]
@@ -81,10 +81,10 @@ pub fn off_bus(bus: u8, target: Target) -> bool
 }
 
 // Whether something stands at a place already.
-pub fn taken(got: Got) -> bool
+pub fn taken(got: Option<Record>) -> bool
     ensures { result ≡ taken_is got }
 {
-    let Got::Is(r) = got else {
+    let Some(r) = got else {
         return true;
     };
     match r {
@@ -104,7 +104,7 @@ fn find_owner(s: &[u8], number: u8) -> Owner
     requires { length s.now ≡ 2048 }
     ensures { (result ≡ owner_of (shelf_in s.now) number) × (result.at < 32) }
 {
-    let Found::At(at) = state::find(s, number) else {
+    let Some(at) = state::find(s, number) else {
         return Owner {
             known: false,
             top: 0,
@@ -180,7 +180,7 @@ pub fn vci_spot(page: Paged, vci: u16) -> usize
 }
 
 // The page that a record is, where it is one.
-pub fn page_in(got: Got) -> Paged
+pub fn page_in(got: Option<Record>) -> Paged
     ensures { result ≡ page_in got }
 {
     let none = Paged {
@@ -188,7 +188,7 @@ pub fn page_in(got: Got) -> Paged
         top: 0,
         place: 0,
     };
-    let Got::Is(r) = got else {
+    let Some(r) = got else {
         return none;
     };
     match r {

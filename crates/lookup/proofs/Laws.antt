@@ -1,4 +1,5 @@
 -- The tests of a lookup, one at a time; and two memories in which the same stands everywhere are looked up alike. Assumes nothing.
+use Rattle.std.specs.Prelude.{Option}
 use mathlib.Core.Path.{◌≡◌}
 use mathlib.Core.Bool.{true, false, ◌&&◌}
 use Prim.Native.Nat.{ℕ, ◌+◌, ◌*◌, ◌<◌, ◌≤◌}
@@ -6,11 +7,11 @@ use lib.Dec.{eqb}
 use borrow.Author.Tests.{lt-ltb, le-ltb}
 use Rattle.header.specs.declared.Header as H
 use Rattle.lookup.specs.Record.{size}
-use Rattle.lookup.specs.declared.Got.{Got}
 use Rattle.lookup.specs.Lookup.{by_got, by_fields}
 use Rattle.lookup.specs.declared.Looked.TheVariants.{Ignored, Misrouted}
+use Rattle.lookup.specs.declared.Record as R
 
-module _ (stands : ℕ → Got) (top place : ℕ) (h : H.Header) where
+module _ (stands : ℕ → Option R.Record) (top place : ℕ) (h : H.Header) where
   pub no_path : (eqb h.vpi 0 && eqb h.vci 0) ≡ true → by_fields stands top place h ≡ Ignored
   no_path z = rw z
 

@@ -1,12 +1,10 @@
 -- A translation record in its bytes, and a memory of records. Assumes nothing.
-use Rattle.std.specs.Prelude.{ℕ, ◌+◌, ◌%◌, ◌^◌, ◌<◌, min, Bool, cond, List, ◌∷◌, ◌++◌, length, get_or, drop, replicate, leb, eqb}
+use Rattle.std.specs.Prelude.{ℕ, ◌+◌, ◌%◌, ◌^◌, ◌<◌, min, Bool, cond, List, ◌∷◌, ◌++◌, length, get_or, drop, replicate, leb, eqb, None, Option, Some}
 use Rattle.octets.specs.Octets.{be2, be4, two, four, splice, part, cat}
 use Rattle.card.specs.declared.Card.{Card}
 use Rattle.card.specs.declared.Card.TheVariants.{Narrow, Wide}
 use Rattle.lookup.specs.declared.Record as R
 use Rattle.lookup.specs.declared.Record.TheVariants.{Empty, Drop, Route, Page}
-use Rattle.lookup.specs.declared.Got.{Got}
-use Rattle.lookup.specs.declared.Got.TheVariants.{Is, Nothing}
 
 -- "8 bytes a record", and the most bytes that a table's records take
 abbrev pub size : ℕ
@@ -44,20 +42,20 @@ vpi_in Narrow b = get_or b 3 0
 vpi_in Wide b = two b 6
 
 -- what the bytes of a record say
-unfoldable pub record_in : Card → List ℕ → Got
+unfoldable pub record_in : Card → List ℕ → Option R.Record
 record_in card b =
-    cond (eqb (get_or b 0 0) 0) (Is Empty)
-    (cond (eqb (get_or b 0 0) 1) (Is Drop)
-    (cond (eqb (get_or b 0 0) 2) (Is (Route (two b 1) (vpi_in card b) (two b 4)))
-    (cond (eqb (get_or b 0 0) 3) (Is (Page (two b 1) (four b 4))) Nothing)))
+    cond (eqb (get_or b 0 0) 0) (Some Empty)
+    (cond (eqb (get_or b 0 0) 1) (Some Drop)
+    (cond (eqb (get_or b 0 0) 2) (Some (Route (two b 1) (vpi_in card b) (two b 4)))
+    (cond (eqb (get_or b 0 0) 3) (Some (Page (two b 1) (four b 4))) None)))
 
 -- whether a record at a place is wholly inside a memory
 abbrev pub inside : List ℕ → ℕ → Bool
 inside memory at = leb (at + size) (length memory)
 
 -- what stands at a place of a memory, and the memory with a record written there
-unfoldable pub record_at : Card → List ℕ → ℕ → Got
-record_at card memory at = cond (inside memory at) (record_in card (part memory at size)) Nothing
+unfoldable pub record_at : Card → List ℕ → ℕ → Option R.Record
+record_at card memory at = cond (inside memory at) (record_in card (part memory at size)) None
 
 unfoldable pub written : Card → List ℕ → ℕ → R.Record → List ℕ
 written card memory at r = cond (inside memory at) (splice memory at (bytes_of card r)) memory

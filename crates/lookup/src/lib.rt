@@ -23,13 +23,6 @@ pub enum Record {
     Page { top: u16, place: u32 },
 }
 
-// What stands at a place of a memory: a record, or nothing, where the place is not wholly inside or the kind is unknown.
-#[derive(Clone, Copy)]
-pub enum Got {
-    Is(Record),
-    Nothing,
-}
-
 // The bytes of a route: the outgoing VPI is byte 3 on the narrow card, bytes 6 and 7 on the wide one.
 fn route(card: Card, header: u16, vpi: u16, vci: u16) -> [u8; SIZE]
     ensures { result ≡ route_of card header vpi vci }
@@ -101,41 +94,41 @@ fn vpi_in(card: Card, b: &[u8]) -> u16
     }
 }
 
-// What the bytes of a record say.
-fn read(card: Card, b: &[u8]) -> Got
+// What the bytes of a record say; nothing where the kind is unknown.
+fn read(card: Card, b: &[u8]) -> Option<Record>
     requires { length b.now ≡ 8 }
     ensures { result ≡ record_in card b.now }
 {
     let kind = b[0];
     if kind == 0 {
-        return Got::Is(Record::Empty);
+        return Some(Record::Empty);
     }
     if kind == 1 {
-        return Got::Is(Record::Drop);
+        return Some(Record::Drop);
     }
     if kind == 2 {
         let header = octets::two(b, 1);
         let vpi = vpi_in(card, b);
         let vci = octets::two(b, 4);
-        return Got::Is(Record::Route { header, vpi, vci });
+        return Some(Record::Route { header, vpi, vci });
     }
     if kind == 3 {
         let top = octets::two(b, 1);
         let place = octets::four(b, 4);
-        return Got::Is(Record::Page { top, place });
+        return Some(Record::Page { top, place });
     }
-    Got::Nothing
+    None
 }
 
-// What stands at a place of a memory.
-pub fn get(card: Card, memory: &[u8], at: usize) -> Got
+// What stands at a place of a memory; nothing where the place is not wholly inside or the kind is unknown.
+pub fn get(card: Card, memory: &[u8], at: usize) -> Option<Record>
     ensures { result ≡ record_at card memory.now at }
 {
     if memory.len() < SIZE {
-        return Got::Nothing;
+        return None;
     }
     if memory.len() - SIZE < at {
-        return Got::Nothing;
+        return None;
     }
     read(card, &memory[at..at + SIZE])
 }
@@ -190,10 +183,10 @@ fn goes(routing: u16, vpi: u16, vci: u16, h: Header) -> Looked
 }
 
 // By the record of the cell's VCI in a page.
-fn by_vci(got: Got, h: Header) -> Looked
+fn by_vci(got: Option<Record>, h: Header) -> Looked
     ensures { result ≡ by_vci got h }
 {
-    let Got::Is(r) = got else {
+    let Some(r) = got else {
         return Looked::Misrouted;
     };
     match r {
@@ -238,7 +231,7 @@ pub fn translate(card: Card, link: Link, top: u16, place: u32, memory: &[u8], wo
         return Looked::Misrouted;
     }
     let at = (place as usize) + SIZE * (h.vpi as usize);
-    let Got::Is(r) = get(card, memory, at) else {
+    let Some(r) = get(card, memory, at) else {
         return Looked::Misrouted;
     };
     by_vpi(card, memory, r, h)

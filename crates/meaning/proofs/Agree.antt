@@ -1,6 +1,6 @@
 -- A line judged by what stands in the shelf and the memory of good lines is judged by those lines; and what it does there is the shelf and the
 -- memory of one line more. Assumes nothing.
-use Rattle.std.specs.Prelude.{None}
+use Rattle.std.specs.Prelude.{None, Some}
 use mathlib.Core.Path.{◌≡◌, refl, ap, ◌∙◌}
 use mathlib.Core.Bool.{Bool, true, false, cond}
 use mathlib.Core.List.{List, [], ◌∷◌}
@@ -15,8 +15,6 @@ use Rattle.card.specs.declared.Ask.TheVariants.{Out}
 use Rattle.lookup.specs.Record.{size, usable, record_at, written, Holds}
 use Rattle.lookup.specs.declared.Record as R
 use Rattle.lookup.specs.declared.Record.TheVariants.{Empty, Drop as R-as-Drop, Route, Page as R-as-Page}
-use Rattle.lookup.specs.declared.Got.{Got}
-use Rattle.lookup.specs.declared.Got.TheVariants.{Is}
 use Rattle.shelf.specs.Shelves.{blank}
 use Rattle.shelf.specs.declared.Unit as U
 use Rattle.line.specs.declared.Line.{Line}
@@ -48,7 +46,7 @@ under true x y z h = refl
 under false x y z h = h refl
 
 module _ (card : Card) (memory : List ℕ) (told : List Line) (w : Grown told) (s : Shelved told) (hold : (k : Whose) (i : ℕ) → Holds card (record_of told k i)) where
-  abbrev stands : ℕ → Got
+  abbrev stands : ℕ → Option R.Record
   stands = record_at card (memory_of card memory told)
 
   abbrev at : (u top : ℕ) → top_of told (of_unit u) ≡ some top → U.Unit
@@ -62,11 +60,11 @@ module _ (card : Card) (memory : List ℕ) (told : List Line) (w : Grown told) (
   owner_is_lem u top e = ap (owner_at (shelf_of told)) (s.here u top e).found
 
   -- a declared unit's record
-  stands_path : (u top : ℕ) (e : top_of told (of_unit u) ≡ some top) (v : ℕ) → v ≤ top → stands (spot (owner u top e) v) ≡ Is (record_of told (of_unit u) v)
+  stands_path : (u top : ℕ) (e : top_of told (of_unit u) ≡ some top) (v : ℕ) → v ≤ top → stands (spot (owner u top e) v) ≡ Some (record_of told (of_unit u) v)
   stands_path u top e v h = ap (λ p. stands (p + size * v)) (s.here u top e).starts ∙ stands_at card memory told hold (of_unit u) top v e h
 
   -- the VCI's record in the page that stands there
-  stands_circuit : (u v t p : ℕ) → record_of told (of_unit u) v ≡ R-as-Page t p → (c : ℕ) → c ≤ t → stands (p + size * c) ≡ Is (record_of told (of_page u v) c)
+  stands_circuit : (u v t p : ℕ) → record_of told (of_unit u) v ≡ R-as-Page t p → (c : ℕ) → c ≤ t → stands (p + size * c) ≡ Some (record_of told (of_page u v) c)
   stands_circuit u v t p e c h =
       let o = w.opened u v t p e in
       ap (λ q. stands (q + size * c)) o.1 ∙ stands_at card memory told hold (of_page u v) t c o.0 h
@@ -92,18 +90,18 @@ module _ (card : Card) (memory : List ℕ) (told : List Line) (w : Grown told) (
       go (some top) e = ap (λ o. o.known) (owner_is_lem u top e)
 
   -- a test of the top, then of what stands there
-  below : (u top : ℕ) (e : top_of told (of_unit u) ≡ some top) (v : ℕ) (f : Got → Verdict) → cond (ltb (owner u top e).top v) (Order 3) (f (stands (spot (owner u top e) v))) ≡ cond (ltb top v) (Order 3) (f (Is (record_of told (of_unit u) v)))
+  below : (u top : ℕ) (e : top_of told (of_unit u) ≡ some top) (v : ℕ) (f : Option R.Record → Verdict) → cond (ltb (owner u top e).top v) (Order 3) (f (stands (spot (owner u top e) v))) ≡ cond (ltb top v) (Order 3) (f (Some (record_of told (of_unit u) v)))
   below u top e v f =
       ap (λ t. cond (ltb t v) (Order 3) (f (stands (spot (owner u top e) v)))) (s.here u top e).tops
-      ∙ under (ltb top v) (Order 3) (f (stands (spot (owner u top e) v))) (f (Is (record_of told (of_unit u) v))) (λ n. ap f (stands_path u top e v (ltb-false top v n)))
+      ∙ under (ltb top v) (Order 3) (f (stands (spot (owner u top e) v))) (f (Some (record_of told (of_unit u) v))) (λ n. ap f (stands_path u top e v (ltb-false top v n)))
 
   -- the page, and its VCI
-  page_agree : (u v c : ℕ) (r : R.Record) → record_of told (of_unit u) v ≡ r → (f : Got → Verdict) → in_page (page_in (Is r)) c (f (second stands (page_in (Is r)) c)) ≡ in_page (page_in (Is r)) c (f (Is (record_of told (of_page u v) c)))
+  page_agree : (u v c : ℕ) (r : R.Record) → record_of told (of_unit u) v ≡ r → (f : Option R.Record → Verdict) → in_page (page_in (Some r)) c (f (second stands (page_in (Some r)) c)) ≡ in_page (page_in (Some r)) c (f (Some (record_of told (of_page u v) c)))
   page_agree u v c Empty e f = refl
   page_agree u v c R-as-Drop e f = refl
   page_agree u v c (Route h o x) e f = refl
   page_agree u v c (R-as-Page t p) e f =
-      under (ltb t c) (Order 4) (f (stands (p + size * c))) (f (Is (record_of told (of_page u v) c))) (λ n. ap f (stands_circuit u v t p e c (ltb-false t c n)))
+      under (ltb t c) (Order 4) (f (stands (p + size * c))) (f (Some (record_of told (of_page u v) c))) (λ n. ap f (stands_circuit u v t p e c (ltb-false t c n)))
 
   pub judge_agree : (room : ℕ) (l : Line) → Ranged l → judge_at card room (is_first told) stands (shelf_of told) (size * total told) l ≡ judge card room told l
   unfolding judge_by judge judge_vp judge_drop judge_page judge_vc judge_mc
@@ -118,7 +116,7 @@ module _ (card : Card) (memory : List ℕ) (told : List Line) (w : Grown told) (
   judge_agree room (Page u v topvci) r =
       first_or told _ _ (owned_agree u _ _ (λ top e. below u top e v (λ g. cond (taken g) (Twice 3) (room_for room (size * total told) (topvci + 1)))))
   judge_agree room (Vc u v c target class outvpi outvci) r =
-      let f : Got → Verdict = λ g. cond (off_bus (shelf_of told).bus target) (Order 5) (cond (taken g) (Twice 4) (asked card (Out outvpi) Fine)) in
+      let f : Option R.Record → Verdict = λ g. cond (off_bus (shelf_of told).bus target) (Order 5) (cond (taken g) (Twice 4) (asked card (Out outvpi) Fine)) in
       first_or told _ _
       (owned_agree u _ _
       (λ top e.
@@ -158,7 +156,7 @@ module _ (card : Card) (memory : List ℕ) (told : List Line) (w : Grown told) (
       let m = memory_of card memory told in
       let o = w.opened u v p.pagetop p.place p.page in
       ap (λ x. put_vc card m x v c r) (owner_is_lem u p.top p.declared)
-      ∙ ap (λ g. put_in card m (page_in g) c r) (stands_path u p.top p.declared v p.within ∙ ap Is p.page)
+      ∙ ap (λ g. put_in card m (page_in g) c r) (stands_path u p.top p.declared v p.within ∙ ap Some p.page)
       ∙ ap (λ q. written card m (q + size * c) r) o.1
       ∙ memory_gift card memory told w (Vc u v c target class outvpi outvci) (record { whose = of_page u v; at = c; gift = r }) refl refl p.pagetop o.0 p.inpage
   memory_agree (Mc u session) e = memory_still card memory told w (Mc u session) refl refl

@@ -1,4 +1,5 @@
 -- What a line that is fine says of the lines before it. Assumes nothing.
+use Rattle.std.specs.Prelude.{Some}
 use mathlib.Core.Path.{◌≡◌, refl, sym}
 use mathlib.Core.Bool.{Bool, true, false, cond, false≢true}
 use mathlib.Core.List.{List, [], ◌∷◌}
@@ -14,7 +15,6 @@ use Rattle.card.specs.declared.Ask.TheVariants.{Bus as A-as-Bus, On, Out}
 use Rattle.lookup.specs.Record.{size}
 use Rattle.lookup.specs.declared.Record as R
 use Rattle.lookup.specs.declared.Record.TheVariants.{Empty, Drop as R-as-Drop, Route, Page as R-as-Page}
-use Rattle.lookup.specs.declared.Got.TheVariants.{Is}
 use Rattle.outlet.specs.declared.Limits.{Limits}
 use Rattle.shelf.specs.declared.Settings.{Settings}
 use Rattle.line.specs.declared.Line.{Line}
@@ -56,7 +56,7 @@ owner : (o : Option ℕ) (k : ℕ → Verdict) → owned o k ≡ Fine → (top :
 owner none k e = absurd (order_fine e)
 owner (some top) k e = (top, refl, e)
 
-pub free : (r : R.Record) → taken (Is r) ≡ false → r ≡ Empty
+pub free : (r : R.Record) → taken (Some r) ≡ false → r ≡ Empty
 free Empty e = refl
 free R-as-Drop e = absurd (false≢true (sym e))
 free (Route h v w) e = absurd (false≢true (sym e))
@@ -67,7 +67,7 @@ undeclared none e = refl
 undeclared (some top) e = absurd (false≢true (sym e))
 
 -- in the page: its top and place, and what was asked after
-paged : (r : R.Record) (vci : ℕ) (rest : Verdict) → in_page (page_in (Is r)) vci rest ≡ Fine → (top : ℕ) × (place : ℕ) × (r ≡ R-as-Page top place) × (vci ≤ top) × (rest ≡ Fine)
+paged : (r : R.Record) (vci : ℕ) (rest : Verdict) → in_page (page_in (Some r)) vci rest ≡ Fine → (top : ℕ) × (place : ℕ) × (r ≡ R-as-Page top place) × (vci ≤ top) × (rest ≡ Fine)
 paged Empty vci rest e = absurd (order_fine e)
 paged R-as-Drop vci rest e = absurd (order_fine e)
 paged (Route h v w) vci rest e = absurd (order_fine e)
@@ -124,11 +124,11 @@ module _ (card : Card) (room : ℕ) (told : List Line) where
       }
 
   -- the VPI of a declared unit, where nothing stands yet
-  at_path : (u v : ℕ) (k : ℕ → Verdict) → started told (owned (top_of told (of_unit u)) λ top. cond (ltb top v) (Order 3) (cond (taken (Is (record_of told (of_unit u) v))) (Twice 3) (k top))) ≡ Fine → AtPath told u v × ((top : ℕ) × (k top ≡ Fine))
+  at_path : (u v : ℕ) (k : ℕ → Verdict) → started told (owned (top_of told (of_unit u)) λ top. cond (ltb top v) (Order 3) (cond (taken (Some (record_of told (of_unit u) v))) (Twice 3) (k top))) ≡ Fine → AtPath told u v × ((top : ℕ) × (k top ≡ Fine))
   at_path u v k e =
       let o = owner (top_of told (of_unit u)) _ (begun told _ e).1 in
       let w = past (ltb o.0 v) (Order 3) _ order_fine o.2 in
-      let t = past (taken (Is (record_of told (of_unit u) v))) (Twice 3) _ twice_fine w.1 in
+      let t = past (taken (Some (record_of told (of_unit u) v))) (Twice 3) _ twice_fine w.1 in
       (record { top = o.0; declared = o.1; within = ltb-false _ _ w.0; vacant = free _ t.0 }, (o.0, t.1))
 
   pub fine_drop : (u v : ℕ) → judge card room told (Drop u v) ≡ Fine → AtPath told u v
@@ -147,7 +147,7 @@ module _ (card : Card) (room : ℕ) (told : List Line) where
       let o = owner (top_of told (of_unit u)) _ (begun told _ e).1 in
       let w = past (ltb o.0 v) (Order 3) _ order_fine o.2 in
       let b = past (off_bus (shelf_of told).bus target) (Order 4) _ order_fine w.1 in
-      let t = past (taken (Is (record_of told (of_unit u) v))) (Twice 3) _ twice_fine b.1 in (
+      let t = past (taken (Some (record_of told (of_unit u) v))) (Twice 3) _ twice_fine b.1 in (
         record { top = o.0; declared = o.1; within = ltb-false _ _ w.0; vacant = free _ t.0 },
         (kept (holds card (Out outvpi)) Fine Wide wide_fine t.1).0,
       )
@@ -159,7 +159,7 @@ module _ (card : Card) (room : ℕ) (told : List Line) where
       let q = past (ltb o.0 v) (Order 3) _ order_fine o.2 in
       let p = paged (record_of told (of_unit u) v) w _ q.1 in
       let b = past (off_bus (shelf_of told).bus target) (Order 5) _ order_fine p.4 in
-      let t = past (taken (Is (record_of told (of_page u v) w))) (Twice 4) _ twice_fine b.1 in (
+      let t = past (taken (Some (record_of told (of_page u v) w))) (Twice 4) _ twice_fine b.1 in (
         record {
           top = o.0;
           declared = o.1;

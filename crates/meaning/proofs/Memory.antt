@@ -1,5 +1,6 @@
 -- The memory of good lines: what stands at each place is what the lines gave it, and what a line does to it is the memory of one line more.
 -- Assumes nothing.
+use Rattle.std.specs.Prelude.{Some}
 use mathlib.Core.Path.{◌≡◌, refl, sym, ap, ap₂, subst, ◌∙◌}
 use mathlib.Core.Bool.{Bool, true, false, ◌&&◌}
 use mathlib.Core.List.{List, [], ◌∷◌, ◌++◌, append_assoc, append-nil}
@@ -22,7 +23,6 @@ use Rattle.octets.specs.Octets.{cat}
 use Rattle.lookup.specs.Record.{size, most, usable, record_at, written, cleared, Holds, image}
 use Rattle.lookup.specs.declared.Record as R
 use Rattle.lookup.specs.declared.Record.TheVariants.{Empty, Drop as R-as-Drop, Route, Page as R-as-Page}
-use Rattle.lookup.specs.declared.Got.TheVariants.{Is}
 use Rattle.lookup.proofs.RecordLaws.{image_get, image_put, image_append, image_empty}
 use Rattle.outlet.specs.declared.Limits.{Limits}
 use Rattle.shelf.specs.declared.Settings.{Settings}
@@ -106,14 +106,14 @@ index : (told : List Line) (k : Whose) (top i : ℕ) → top_of told k ≡ some 
 unfolding records
 index told k top i e h = let s = start_lt told k top e in let n = regions_length (record_of told) told in omega arith
 
-pub stands_at : (card : Card) (memory : List ℕ) (told : List Line) → ((k : Whose) (i : ℕ) → Holds card (record_of told k i)) → (k : Whose) (top i : ℕ) → top_of told k ≡ some top → i ≤ top → record_at card (memory_of card memory told) (size * start told k + size * i) ≡ Is (record_of told k i)
+pub stands_at : (card : Card) (memory : List ℕ) (told : List Line) → ((k : Whose) (i : ℕ) → Holds card (record_of told k i)) → (k : Whose) (top i : ℕ) → top_of told k ≡ some top → i ≤ top → record_at card (memory_of card memory told) (size * start told k + size * i) ≡ Some (record_of told k i)
 unfolding memory_of rest
 stands_at card memory told hold k top i e h =
     let place : size * start told k + size * i ≡ size * (start told k + i) = omega arith in
     let r = record_at_lem told k top i e h in
     ap (record_at card (image card (records told) ++ rest memory told)) place
     ∙ image_get card (records told) (rest memory told) (start told k + i) Empty (index told k top i e h) (subst (Holds card) (sym r) (hold k i))
-    ∙ ap Is r
+    ∙ ap Some r
 
 -- what one more gift makes of the records
 module _ (told : List Line) (l : Line) (g : Giving) (e : gives l (size * total told) ≡ some g) (once : Once told) (top : ℕ) (declared : top_of told g.whose ≡ some top) (within : g.at ≤ top) where

@@ -1,11 +1,10 @@
 -- What a line does to a memory and a shelf as they stand. Assumes nothing.
-use Rattle.std.specs.Prelude.{ℕ, ◌+◌, ◌*◌, ◌<◌, Bool, cond, List}
+use Rattle.std.specs.Prelude.{ℕ, ◌+◌, ◌*◌, ◌<◌, Bool, cond, List, Option}
 use Rattle.bus.specs.Routing.{routing}
 use Rattle.card.specs.declared.Card.{Card}
 use Rattle.lookup.specs.Record.{size, record_at, written}
 use Rattle.lookup.specs.declared.Record as R
 use Rattle.lookup.specs.declared.Record.TheVariants.{Drop as R-as-Drop, Route, Page as R-as-Page}
-use Rattle.lookup.specs.declared.Got.{Got}
 use Rattle.outlet.specs.Outlets.{Given}
 use Rattle.shelf.specs.Shelf.{Shelf}
 use Rattle.line.specs.declared.Reading.{Reading}
@@ -41,7 +40,7 @@ memory_by card memory used o (Vc u v w target class outvpi outvci) = put_vc card
 memory_by card memory used o (Mc u session) = memory
 
 -- a line that is read
-abbrev pub verdict_at : Card → ℕ → Bool → (ℕ → Got) → Shelf → ℕ → Reading → Verdict
+abbrev pub verdict_at : Card → ℕ → Bool → (ℕ → Option R.Record) → Shelf → ℕ → Reading → Verdict
 verdict_at card room first stands shelf used (Good l) = judge_at card room first stands shelf used l
 verdict_at card room first stands shelf used (Bad wrong) = Form wrong
 

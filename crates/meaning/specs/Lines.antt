@@ -1,9 +1,8 @@
 -- The lines of a table, each judged against the lines before it; the first faulty one ends it. Assumes nothing.
-use Rattle.std.specs.Prelude.{ℕ, ◌+◌, ◌*◌, ◌≡◌, Bool, true, false, cond, List, [], ◌∷◌}
+use Rattle.std.specs.Prelude.{ℕ, ◌+◌, ◌*◌, ◌≡◌, Bool, true, false, cond, List, [], ◌∷◌, Some}
 use Rattle.std.proofs.Math.Option.{Option, none, some}
 use Rattle.card.specs.declared.Card.{Card}
 use Rattle.lookup.specs.Record.{size}
-use Rattle.lookup.specs.declared.Got.TheVariants.{Is}
 use Rattle.line.specs.declared.Line.{Line}
 use Rattle.line.specs.declared.Line.TheVariants.{Bus, Unit as L-as-Unit, Vp, Drop, Page, Vc, Mc}
 use Rattle.line.specs.declared.Reading.{Reading}
@@ -40,14 +39,14 @@ judge card room told (L-as-Unit settings limits) =
     (judge_unit card (shelf_of told).bus (is_declared (top_of told (of_unit settings.number))) room (size * total told) settings.number settings.link
     settings.top)
 judge card room told (Vp u v target class outvpi) =
-    started told (owned (top_of told (of_unit u)) λ top. judge_vp card (shelf_of told).bus top v (Is (record_of told (of_unit u) v)) target outvpi)
-judge card room told (Drop u v) = started told (owned (top_of told (of_unit u)) λ top. judge_drop top v (Is (record_of told (of_unit u) v)))
+    started told (owned (top_of told (of_unit u)) λ top. judge_vp card (shelf_of told).bus top v (Some (record_of told (of_unit u) v)) target outvpi)
+judge card room told (Drop u v) = started told (owned (top_of told (of_unit u)) λ top. judge_drop top v (Some (record_of told (of_unit u) v)))
 judge card room told (Page u v topvci) =
-    started told (owned (top_of told (of_unit u)) λ top. judge_page room (size * total told) top v (Is (record_of told (of_unit u) v)) topvci)
+    started told (owned (top_of told (of_unit u)) λ top. judge_page room (size * total told) top v (Some (record_of told (of_unit u) v)) topvci)
 judge card room told (Vc u v w target class outvpi outvci) =
     started told
     (owned (top_of told (of_unit u)) λ top.
-    judge_vc card (shelf_of told).bus top v (Is (record_of told (of_unit u) v)) w (Is (record_of told (of_page u v) w)) target outvpi)
+    judge_vc card (shelf_of told).bus top v (Some (record_of told (of_unit u) v)) w (Some (record_of told (of_page u v) w)) target outvpi)
 judge card room told (Mc u session) = started told (owned (top_of told (of_unit u)) λ top. judge_mc (hears_in told u session))
 
 -- the lines so far are good: each was fine after those before it

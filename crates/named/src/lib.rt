@@ -7,8 +7,6 @@ ghost use Rattle.text.specs.Decimals.{number_field};
 ghost use Rattle.state.specs.Bytes.{col, place_by};
 ghost use Rattle.named.specs.Named.{link_text, mode_text, settings_text, cbr_text, limits_text, inlet_text, four_text, ins_text, outs_text, session_text, sessions_text, front_text, rings_text, cells_text, place_text, unit_text};
 
-use shelf::Found;
-
 // A name and the byte of a column.
 fn put_column(out: &mut [u8], at: usize, name: &[u8], s: &[u8], column: usize, i: usize) -> usize
     requires { (length s.now ≡ 2048) × (column < 32) × (i < 32) × (at + length name.now + 21 ≤ length out.old) }
@@ -190,7 +188,7 @@ pub fn unit(out: &mut [u8], at: usize, s: &[u8], number: u8) -> usize
     ensures { Wrote out.old at (unit_text s.now number) result out.new }
 {
     match state::find(s, number) {
-        Found::At(i) => put_unit(out, at, s, i),
-        Found::Nothing => text::put(out, at, b"show\tunit\trefused\t9"),
+        Some(i) => put_unit(out, at, s, i),
+        None => text::put(out, at, b"show\tunit\trefused\t9"),
     }
 }

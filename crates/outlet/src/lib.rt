@@ -168,13 +168,6 @@ pub enum Fate {
     Queued,
 }
 
-// Which queue's oldest cell leaves next.
-#[derive(Clone, Copy)]
-pub enum Leaving {
-    Queue(u8),
-    Empty,
-}
-
 // The queue that holds a class; a class has two bits.
 pub fn queue_of(limits: Limits, class: u8) -> u8
     ensures { result ≡ queue_of limits class }
@@ -253,28 +246,28 @@ pub fn fate_in(capacity: u8, limit: u8, held: u8, link: Link, header: u32) -> Fa
     fate_at(held, capacity, limit, clp)
 }
 
-// Which cell leaves next.
-pub fn leaving_of(outlet: Outlet) -> Leaving
+// Which queue's oldest cell leaves next, if there is one.
+pub fn leaving_of(outlet: Outlet) -> Option<u8>
     ensures { result ≡ leaving outlet }
 {
     let limits = outlet.limits;
     let mode = limits.mode;
     if 0 < held(outlet, 0) {
-        return Leaving::Queue(0);
+        return Some(0);
     }
     let Mode::Four = mode else {
-        return Leaving::Empty;
+        return None;
     };
     if 0 < held(outlet, 1) {
-        return Leaving::Queue(1);
+        return Some(1);
     }
     if 0 < held(outlet, 2) {
-        return Leaving::Queue(2);
+        return Some(2);
     }
     if 0 < held(outlet, 3) {
-        return Leaving::Queue(3);
+        return Some(3);
     }
-    Leaving::Empty
+    None
 }
 
 // Whether the outlet marks the user cell that leaves next.

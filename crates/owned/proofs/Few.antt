@@ -1,6 +1,7 @@
 -- The first so many of 40 rows are lent: what comes of an event is what comes of it with all of them, and the rows behind are as they were. Assumes nothing.
 --     many, whole        as many are lent as are said, and with those behind they are 40
 --     loads_few, arrives_few, ..     what the entry point leaves, of the rows that are lent, is what `owned` ensures, of all of them.        hands_few, counts_few     and what a hand leaves, which changes none; what a count answers
+use Rattle.std.specs.Prelude.{Err, Ok, Result}
 use Prim.Native.Nat.{ℕ, zero, suc, ◌*◌, ◌≤◌, ◌<◌, min}
 use native.Mathlib.Omega.{arith}
 use mathlib.Core.Path.{◌≡◌, refl, sym, ap, subst, ◌∙◌}
@@ -25,9 +26,7 @@ use Rattle.answer.specs.Counting.{zeros, row_after, settled_to, settled}
 use Rattle.answer.proofs.Settling.{length_settled}
 use Rattle.soundness.specs.State.{roomy, sound_of}
 use Rattle.soundness.specs.Soundings.{sound_in, formed_all}
-use Rattle.soundness.specs.declared.Admitted as A
-use Rattle.soundness.specs.declared.Admitted.TheVariants.{At, Refused}
-use Rattle.soundness.specs.Admission.{admitted, admitted_in, decided, formed_or, told_apart, counted_in, unit_at}
+use Rattle.soundness.specs.Admission.{admitted, admitted_in, decided, formed_or, counted_in, unit_at}
 use Rattle.soundness.proofs.Facts.{sound_iff}
 use Rattle.soundness.proofs.InPlace.{in_place, came_in, kept_out, row_there}
 use Rattle.lookup.specs.Record.{usable}
@@ -55,8 +54,7 @@ use Rattle.handing.proofs.InPlace.{collect_fits}
 use Rattle.framing.specs.Frames.{checked}
 use Rattle.framing.specs.InPlace.{frame_out}
 use Rattle.framing.proofs.Moves.{moved_count}
-use Rattle.entry.specs.declared.Counted.{Counted}
-use Rattle.entry.specs.Counts.{counted, count_of}
+use Rattle.entry.specs.Counts.{count_of}
 use Rattle.entry.specs.Outcomes.{Left, arrives, frames, hears, takes, hands, collects, counts_of, loads, LeavesStore, LeavesAll, LeavesBytes, LeavesCell, LeavesMemory}
 
 -- ---- the rows: those that are lent are settled, and the others stand behind them
@@ -127,11 +125,11 @@ module _ (n : ℕ) (card : Card) (b : List ℕ) where
       → (formed_or b (outcome_of (decided (admitted card (shelf_in b) store n unit right) inside (refused (shelf_in b)))) (refused_with 8)).rises.to ≤ n
   at_unit store unit right inside h = pick (admitted_in card b store n unit right) refl
     where
-      pick : (a : A.Admitted) → admitted_in card b store n unit right ≡ a → (formed_or b (outcome_of (decided (admitted card (shelf_in b) store n unit right) inside (refused (shelf_in b)))) (refused_with 8)).rises.to ≤ n
-      pick (At i) e =
+      pick : (a : Result ℕ ℕ) → admitted_in card b store n unit right ≡ a → (formed_or b (outcome_of (decided (admitted card (shelf_in b) store n unit right) inside (refused (shelf_in b)))) (refused_with 8)).rises.to ≤ n
+      pick (Ok i) e =
           let w = in_place card b store n unit right i e in
           subst (λ (o : Outcome). o.rises.to ≤ n) (came_in outcome_of inside (refused (shelf_in b)) (refused_with 8) card b store n unit right i e) (h i w.below w.row)
-      pick (Refused m) e = subst (λ (o : Outcome). o.rises.to ≤ n) (kept_out outcome_of inside (refused (shelf_in b)) (refused_with 8) card b store n unit right m e refl) (omega arith)
+      pick (Err m) e = subst (λ (o : Outcome). o.rises.to ≤ n) (kept_out outcome_of inside (refused (shelf_in b)) (refused_with 8) card b store n unit right m e refl) (omega arith)
 
   arrive_most : (memory : List ℕ) (store unit : ℕ) (cell : List ℕ) → (arrive_out card b memory store n unit cell).rises.to ≤ n
   arrive_most memory store unit cell =
@@ -239,10 +237,11 @@ module _ (rows : List Counters) (lent : ℕ) (long : length rows ≡ 40) where
       same : hands card b store lot n unit cell ≡ hands card b store lot lent unit cell
       same = rw (admitted_few card (shelf_in b) (length store) lent unit (eqb (length cell) 56), admitted_in_few card b (length store) lent unit (eqb (length cell) 56))
 
-  pub counts_few : (card : Card) (b store : List ℕ) (unit : ℕ) (r : Counted) → r ≡ counts_of card b store lot (length lot) unit → r ≡ counts_of card b store rows lent unit
-  unfolding counted
+  pub counts_few : (card : Card) (b store : List ℕ) (unit : ℕ) (r : Result C.Counters ℕ) → r ≡ counts_of card b store lot (length lot) unit → r ≡ counts_of card b store rows lent unit
+  unfolding count_of
   counts_few card b store unit r h =
-      let at = counted_in card b (length store) n unit in
-      h ∙ ap (λ (k : ℕ). counts_of card b store lot k unit) many
-      ∙ decide (eqb at.number 0) (λ t. rw (t, get_or-take n rows at.at zeros (row_there card b (length store) n unit (eqb-true at.number 0 t)).1)) (λ t. rw t)
-      ∙ ap (λ (a : A.Admitted). count_of (told_apart a) rows) (admitted_in_few card b (length store) lent unit true)
+      h ∙ ap (λ (k : ℕ). counts_of card b store lot k unit) many ∙ pick (counted_in card b (length store) n unit) refl ∙ ap (λ (a : Result ℕ ℕ). count_of a rows) (admitted_in_few card b (length store) lent unit true)
+    where
+      pick : (a : Result ℕ ℕ) → counted_in card b (length store) n unit ≡ a → count_of a lot ≡ count_of a rows
+      pick (Ok i) e = let there = row_there card b (length store) n unit i e in ap Ok (get_or-take n rows i zeros there.1)
+      pick (Err number) e = refl

@@ -6,7 +6,6 @@ ghost use Rattle.entry.specs.Outcomes.{arrives, frames, hears, takes, hands, col
 
 use answer::{Answer, Counters};
 use card::Card;
-use entry::Counted;
 
 // What is given back, and the rows afterwards.
 #[derive(Clone, Copy)]
@@ -153,7 +152,7 @@ pub fn count(
     rows: [Counters; 40],
     lent: usize,
     unit: u8,
-) -> Counted
+) -> Result<Counters, u8>
     ensures { result ≡ counts_of card state.now store.now rows lent unit }
 {
     let n = within(lent);

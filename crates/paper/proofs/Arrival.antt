@@ -1,4 +1,5 @@
 -- What `lookup` says of a header in a memory is what the paper says. Assumes nothing.
+use Rattle.std.specs.Prelude.{None, Option, Some}
 use Prim.Native.Nat.{ℕ, zero, suc, ◌+◌, ◌*◌, ◌-◌, ◌/◌, ◌%◌, ◌<◌, ◌≤◌}
 use native.Mathlib.Nat.{add_assoc}
 use native.Mathlib.Omega.{arith}
@@ -21,8 +22,6 @@ use lib.Seq.{get_or-take, get_or-drop}
 use Rattle.lookup.proofs.RecordLaws.{kind_route, kind_page}
 use Rattle.lookup.specs.Record as record·
 use Rattle.lookup.specs.declared.Record.TheVariants as record·is
-use Rattle.lookup.specs.declared.Got.{Got}
-use Rattle.lookup.specs.declared.Got.TheVariants as got
 use Rattle.lookup.specs.Lookup as lookup
 use Rattle.lookup.specs.declared.Looked.{Looked}
 use Rattle.lookup.specs.declared.Looked.TheVariants as looked
@@ -34,6 +33,7 @@ use Rattle.store.proofs.Slots.{by_lt}
 use Rattle.outlet.proofs.Truth.{decide}
 use Rattle.paper.proofs.Cells.{four_is, vpi_is, fields_are, check_iff}
 use Rattle.paper.proofs.Counters.{both}
+use Rattle.lookup.specs.declared.Record as R
 
 -- what the lookup answers for a way; it tests no check
 abbrev pub looked_as : Way → ℕ → Looked
@@ -60,7 +60,7 @@ module _ (card : Card) (memory : List ℕ) (at : ℕ) where
   four_at : octets.four b 4 ≡ four memory (at + 4)
   four_at = (λ i. two_at 4 (omega arith) i * 65536 + (two_at 6 (omega arith) ∙ ap (two memory) (sym (add_assoc at 4 2))) i) ∙ four_is memory (at + 4)
 
-  at_outside : (Inside memory at → ⊥) → record·.record_at card memory at ≡ got.Nothing
+  at_outside : (Inside memory at → ⊥) → record·.record_at card memory at ≡ None
   unfolding record·.record_at
   at_outside n = rw (lt-leb (at + 8) (length memory) (omega arith))
 
@@ -68,15 +68,15 @@ module _ (card : Card) (memory : List ℕ) (at : ℕ) where
   unfolding record·.record_at
   at_inside h = rw (le-leb (at + 8) (length memory) h)
 
-  at_empty : KindAt memory at 0 → record·.record_at card memory at ≡ got.Is record·is.Empty
+  at_empty : KindAt memory at 0 → record·.record_at card memory at ≡ Some record·is.Empty
   unfolding record·.record_in
   at_empty k = at_inside k.0 ∙ rw (first ∙ k.1)
 
-  at_drop : KindAt memory at 1 → record·.record_at card memory at ≡ got.Is record·is.Drop
+  at_drop : KindAt memory at 1 → record·.record_at card memory at ≡ Some record·is.Drop
   unfolding record·.record_in
   at_drop k = at_inside k.0 ∙ rw (first ∙ k.1)
 
-  at_unknown : Inside memory at → 3 < byte memory at → record·.record_at card memory at ≡ got.Nothing
+  at_unknown : Inside memory at → 3 < byte memory at → record·.record_at card memory at ≡ None
   unfolding record·.record_in
   at_unknown h k =
       let n = get_or b 0 0 in
@@ -87,15 +87,15 @@ vpi_at : (card : Card) (memory : List ℕ) (at : ℕ) → record·.vpi_in card (
 vpi_at Narrow memory at = byte_in memory at 3 (omega arith)
 vpi_at Wide memory at = two_at Wide memory at 6 (omega arith)
 
-at_route : (card : Card) (memory : List ℕ) (at : ℕ) → KindAt memory at 2 → record·.record_at card memory at ≡ got.Is (record·is.Route (two memory (at + 1)) (outgoing card memory at) (two memory (at + 4)))
+at_route : (card : Card) (memory : List ℕ) (at : ℕ) → KindAt memory at 2 → record·.record_at card memory at ≡ Some (record·is.Route (two memory (at + 1)) (outgoing card memory at) (two memory (at + 4)))
 at_route card memory at k =
     at_inside card memory at k.0 ∙ kind_route card (octets.part memory at 8) (first card memory at ∙ k.1)
-    ∙ (λ i. got.Is (record·is.Route (two_at card memory at 1 (omega arith) i) (vpi_at card memory at i) (two_at card memory at 4 (omega arith) i)))
+    ∙ (λ i. Some (record·is.Route (two_at card memory at 1 (omega arith) i) (vpi_at card memory at i) (two_at card memory at 4 (omega arith) i)))
 
-at_page : (card : Card) (memory : List ℕ) (at : ℕ) → KindAt memory at 3 → record·.record_at card memory at ≡ got.Is (record·is.Page (two memory (at + 1)) (four memory (at + 4)))
+at_page : (card : Card) (memory : List ℕ) (at : ℕ) → KindAt memory at 3 → record·.record_at card memory at ≡ Some (record·is.Page (two memory (at + 1)) (four memory (at + 4)))
 at_page card memory at k =
     at_inside card memory at k.0 ∙ kind_page card (octets.part memory at 8) (first card memory at ∙ k.1)
-    ∙ (λ i. got.Is (record·is.Page (two_at card memory at 1 (omega arith) i) (four_at card memory at i)))
+    ∙ (λ i. Some (record·is.Page (two_at card memory at 1 (omega arith) i) (four_at card memory at i)))
 
 -- B. a way that the paper gives is the one that the lookup answers
 -- the header that goes on
@@ -113,7 +113,7 @@ on_bus link w v c h = λ i. top i * 1048576 + c * 16 + pts i * 2 + clps i
     clps = omega arith
 
 module _ (card : Card) (memory : List ℕ) (link : Link) (w : ℕ) where
-  abbrev stands : ℕ → Got
+  abbrev stands : ℕ → Option R.Record
   stands at = record·.record_at card memory at
 
   by_route : (at c : ℕ) (way : Way) → ByRoute card memory at c way → lookup.goes_by (two memory (at + 1)) (outgoing card memory at) c (fields link w) ≡ looked_as way w

@@ -1,4 +1,5 @@
 -- On a memory that good lines made, the lookup is what the lines say. Assumes nothing.
+use Rattle.std.specs.Prelude.{Option, Some}
 use mathlib.Core.Path.{◌≡◌, refl, sym, ap, ap₂, ◌∙◌}
 use mathlib.Core.Bool.{Bool, true, false, cond, ◌&&◌}
 use mathlib.Core.List.{List, [], ◌∷◌}
@@ -16,8 +17,6 @@ use Rattle.card.specs.declared.Card.{Card}
 use Rattle.lookup.specs.Record.{size, usable, record_at, Holds}
 use Rattle.lookup.specs.declared.Record as R
 use Rattle.lookup.specs.declared.Record.TheVariants.{Empty, Drop as R-as-Drop, Route, Page as R-as-Page}
-use Rattle.lookup.specs.declared.Got.{Got}
-use Rattle.lookup.specs.declared.Got.TheVariants.{Is}
 use Rattle.lookup.specs.Lookup.{goes_by, by_vci, by_vpi, by_got, translated}
 use Rattle.lookup.specs.declared.Looked.{Looked}
 use Rattle.lookup.specs.declared.Looked.TheVariants.{Ignored, Misrouted}
@@ -37,7 +36,7 @@ abbrev by : R.Record → R.Record → H.Header → Looked
 by Empty c h = Misrouted
 by R-as-Drop c h = Ignored
 by (Route routing vpi vci) c h = goes_by routing vpi h.vci h
-by (R-as-Page top place) c h = cond (ltb top h.vci) Misrouted (by_vci (Is c) h)
+by (R-as-Page top place) c h = cond (ltb top h.vci) Misrouted (by_vci (Some c) h)
 
 same_both : {A : Type 0} (b : Bool) (x : A) → cond b x x ≡ x
 same_both true x = refl
@@ -58,8 +57,8 @@ module _ (card : Card) (room : ℕ) (told : List Line) (a b top : ℕ) (g : Good
       ∙ q.vacant (of_page a b) w (page_new told a b top p q)
 
 -- a circuit: its VPI has its page, and it is within
-by_page : (r : R.Record) (t p : ℕ) → r ≡ R-as-Page t p → (c : R.Record) (h : H.Header) → h.vci ≤ t → by r c h ≡ by_vci (Is c) h
-by_page r t p e c h w = ap (λ x. by x c h) e ∙ ap (λ b. cond b Misrouted (by_vci (Is c) h)) (le-ltb t h.vci w)
+by_page : (r : R.Record) (t p : ℕ) → r ≡ R-as-Page t p → (c : R.Record) (h : H.Header) → h.vci ≤ t → by r c h ≡ by_vci (Some c) h
+by_page r t p e c h w = ap (λ x. by x c h) e ∙ ap (λ b. cond b Misrouted (by_vci (Some c) h)) (le-ltb t h.vci w)
 
 in_its_page : (card : Card) (room : ℕ) (told : List Line) (a b c : ℕ) (target : Target) (class outvpi outvci : ℕ) → Good card room (Vc a b c target class outvpi outvci ∷ told) → (u : ℕ) (h : H.Header) → ((eqb u a && eqb h.vpi b) && eqb h.vci c) ≡ true → by (record_of told (of_unit u) h.vpi) (Route (routing target class) outvpi outvci) h ≡ goes_by (routing target class) outvpi outvci h
 unfolding by_vci
@@ -93,13 +92,13 @@ by_served card room (Mc a session ∷ told) g u h = by_served card room told g.1
 
 -- what stands where the lines put it is what the lines gave
 module _ (card : Card) (memory : List ℕ) (told : List Line) (g : Good card (usable memory) told) (r : AllRanged told) where
-  abbrev stands : ℕ → Got
+  abbrev stands : ℕ → Option R.Record
   stands = record_at card (memory_of card memory told)
 
   hold : (k : Whose) (i : ℕ) → Holds card (record_of told k i)
   hold = records_hold card (usable memory) told (omega arith) g r
 
-  stands_circuit : (u v t p : ℕ) → record_of told (of_unit u) v ≡ R-as-Page t p → (c : ℕ) → c ≤ t → stands (p + size * c) ≡ Is (record_of told (of_page u v) c)
+  stands_circuit : (u v t p : ℕ) → record_of told (of_unit u) v ≡ R-as-Page t p → (c : ℕ) → c ≤ t → stands (p + size * c) ≡ Some (record_of told (of_page u v) c)
   stands_circuit u v t p e c h =
       let o = (grown card (usable memory) told g).opened u v t p e in
       ap (λ q. stands (q + size * c)) o.1 ∙ stands_at card memory told hold (of_page u v) t c o.0 h

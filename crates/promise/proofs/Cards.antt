@@ -18,7 +18,6 @@ use Rattle.card.specs.declared.Ask.TheVariants.{Bus as A-as-Bus, On, Out}
 use Rattle.lookup.specs.Record.{size, usable, record_at}
 use Rattle.lookup.specs.declared.Record as R
 use Rattle.lookup.specs.declared.Record.TheVariants.{Empty, Drop as R-as-Drop, Route, Page as R-as-Page}
-use Rattle.lookup.specs.declared.Got.TheVariants.{Is}
 use Rattle.lookup.specs.Lookup.{translated}
 use Rattle.shelf.specs.Shelves.{blank, declared, find_in}
 use Rattle.line.specs.declared.Line.{Line}
@@ -68,7 +67,7 @@ by_owner : (o : Option ℕ) (f g : ℕ → Verdict) (w : Verdict) → ((top : �
 by_owner none f g w h e = absurd (order_fine e)
 by_owner (some top) f g w h e = h top e
 
-by_page : (r : R.Record) (vci : ℕ) (y z w : Verdict) → (y ≡ Fine → z ≡ w) → in_page (page_in (Is r)) vci y ≡ Fine → in_page (page_in (Is r)) vci z ≡ w
+by_page : (r : R.Record) (vci : ℕ) (y z w : Verdict) → (y ≡ Fine → z ≡ w) → in_page (page_in (Some r)) vci y ≡ Fine → in_page (page_in (Some r)) vci z ≡ w
 by_page Empty vci y z w h e = absurd (order_fine e)
 by_page R-as-Drop vci y z w h e = absurd (order_fine e)
 by_page (Route a b c) vci y z w h e = absurd (order_fine e)
@@ -94,7 +93,7 @@ narrow_judge room told (Vp u v target class outvpi) e =
     (λ top.
     past (ltb top v) (Order 3) _ _ _ order_fine
     (past (off_bus (shelf_of told).bus target) (Order 4) _ _ _ order_fine
-    (past (taken (Is (record_of told (of_unit u) v))) (Twice 3) _ _ _ twice_fine (narrow_asked (Out outvpi) Fine)))))
+    (past (taken (Some (record_of told (of_unit u) v))) (Twice 3) _ _ _ twice_fine (narrow_asked (Out outvpi) Fine)))))
     e
 narrow_judge room told (Drop u v) e = e
 narrow_judge room told (Page u v topvci) e = e
@@ -105,7 +104,7 @@ narrow_judge room told (Vc u v w target class outvpi outvci) e =
     past (ltb top v) (Order 3) _ _ _ order_fine
     (by_page (record_of told (of_unit u) v) w _ _ _
     (past (off_bus (shelf_of told).bus target) (Order 5) _ _ _ order_fine
-    (past (taken (Is (record_of told (of_page u v) w))) (Twice 4) _ _ _ twice_fine (narrow_asked (Out outvpi) Fine))))))
+    (past (taken (Some (record_of told (of_page u v) w))) (Twice 4) _ _ _ twice_fine (narrow_asked (Out outvpi) Fine))))))
     e
 narrow_judge room told (Mc u session) e = e
 

@@ -1,4 +1,5 @@
 -- A line gets a number exactly when 01's condition for it holds and none before it does. Assumes nothing.
+use Rattle.std.specs.Prelude.{Some}
 use mathlib.Core.Path.{◌≡◌, refl, sym, ap, ap₂, subst, ◌∙◌}
 use mathlib.Core.Bool.{Bool, true, false, cond, not, false≢true}
 use mathlib.Core.List.Memᴰ
@@ -21,7 +22,6 @@ use Rattle.card.specs.declared.Ask.TheVariants.{Bus as A-as-Bus, On, Out}
 use Rattle.lookup.specs.Record.{size, usable}
 use Rattle.lookup.specs.declared.Record as R
 use Rattle.lookup.specs.declared.Record.TheVariants.{Empty, Drop as R-as-Drop, Route, Page as R-as-Page}
-use Rattle.lookup.specs.declared.Got.TheVariants.{Is}
 use Rattle.outlet.specs.declared.Limits.{Limits}
 use Rattle.shelf.specs.declared.Settings.{Settings}
 use Rattle.line.specs.declared.Line.{Line}
@@ -85,7 +85,7 @@ module _ (O A W M : Type 0) where
   declared_test none v o y n = n refl
   declared_test (some top) v o y n = (o, y top refl)
 
-  page_test : (r : R.Record) (vci : ℕ) (v : Verdict) → (((t p : ℕ) → r ≡ R-as-Page t p → ⊥) → O) → ((t p : ℕ) → r ≡ R-as-Page t p → t < vci → O) → ((t p : ℕ) → r ≡ R-as-Page t p → vci ≤ t → Means O A W M v) → Means O A W M (in_page (page_in (Is r)) vci v)
+  page_test : (r : R.Record) (vci : ℕ) (v : Verdict) → (((t p : ℕ) → r ≡ R-as-Page t p → ⊥) → O) → ((t p : ℕ) → r ≡ R-as-Page t p → t < vci → O) → ((t p : ℕ) → r ≡ R-as-Page t p → vci ≤ t → Means O A W M v) → Means O A W M (in_page (page_in (Some r)) vci v)
   page_test Empty vci v n h y = n (λ t p e. let z : ◌≡◌ {A = ℕ} 0 1 = cc in omega arith)
   page_test R-as-Drop vci v n h y = n (λ t p e. let z : ◌≡◌ {A = ℕ} 0 1 = cc in omega arith)
   page_test (Route a b c) vci v n h y = n (λ t p e. let z : ◌≡◌ {A = ℕ} 0 1 = cc in omega arith)
@@ -212,7 +212,7 @@ module _ (card : Card) (memory : List ℕ) (told : List Line) (good : Good card 
       omega arith
 
   -- a line says nothing again if what it gives has not been given
-  anew : (l : Line) → ((u top : ℕ) → Declares u top l → top_of told (of_unit u) ≡ none) → ((u vpi : ℕ) → Gives u vpi l → taken (Is (record_of told (of_unit u) vpi)) ≡ false) → ((u vpi vci : ℕ) → IsVc u vpi vci l → taken (Is (record_of told (of_page u vpi) vci)) ≡ false) → ((u session : ℕ) → l ≡ Mc u session → hears_in told u session ≡ false) → Again told l → ⊥
+  anew : (l : Line) → ((u top : ℕ) → Declares u top l → top_of told (of_unit u) ≡ none) → ((u vpi : ℕ) → Gives u vpi l → taken (Some (record_of told (of_unit u) vpi)) ≡ false) → ((u vpi vci : ℕ) → IsVc u vpi vci l → taken (Some (record_of told (of_page u vpi) vci)) ≡ false) → ((u session : ℕ) → l ≡ Mc u session → hears_in told u session ≡ false) → Again told l → ⊥
   anew l unit vpi vc mc (unit_again u top top₁ d b) = none_some (sym (unit u top d) ∙ top_is told grew u top₁ b)
   anew l unit vpi vc mc (vpi_again u v h b) = before_given told u v (vpi u v h) b
   anew l unit vpi vc mc (vc_again u v w h b) = before_vc told u v w (vc u v w h) b
@@ -262,18 +262,18 @@ module _ (card : Card) (memory : List ℕ) (told : List Line) (good : Good card 
       (λ t. not_over memory (8 * records_of (l ∷ told)) (let k = leb-true (size * total told + size * (top + 1)) (usable memory) t in omega arith))
 
   -- the VPI of a `vp`, `drop` or `page` line, where something may stand
-  free_path : (u v : ℕ) → taken (Is (record_of told (of_unit u) v)) ≡ false → (a b : ℕ) → (u ≡ a) × (v ≡ b) → taken (Is (record_of told (of_unit a) b)) ≡ false
-  free_path u v t a b h = ap₂ (λ x y. taken (Is (record_of told (of_unit x) y))) (sym h.0) (sym h.1) ∙ t
+  free_path : (u v : ℕ) → taken (Some (record_of told (of_unit u) v)) ≡ false → (a b : ℕ) → (u ≡ a) × (v ≡ b) → taken (Some (record_of told (of_unit a) b)) ≡ false
+  free_path u v t a b h = ap₂ (λ x y. taken (Some (record_of told (of_unit x) y))) (sym h.0) (sym h.1) ∙ t
 
-  gives_path : (l : Line) (u v : ℕ) (x : Verdict) → Gives u v l → ((a b : ℕ) → Gives a b l → (u ≡ a) × (v ≡ b)) → ((a t : ℕ) → Declares a t l → ⊥) → ((a b c : ℕ) → IsVc a b c l → ⊥) → (OutOfOrder told l → ⊥) → ((Again told l → ⊥) → Says l x) → Says l (cond (taken (Is (record_of told (of_unit u) v))) (Twice 3) x)
+  gives_path : (l : Line) (u v : ℕ) (x : Verdict) → Gives u v l → ((a b : ℕ) → Gives a b l → (u ≡ a) × (v ≡ b)) → ((a t : ℕ) → Declares a t l → ⊥) → ((a b c : ℕ) → IsVc a b c l → ⊥) → (OutOfOrder told l → ⊥) → ((Again told l → ⊥) → Says l x) → Says l (cond (taken (Some (record_of told (of_unit u) v))) (Twice 3) x)
   gives_path l u v x g its nounit novc ok rest =
-      twice_test _ _ _ _ (taken (Is (record_of told (of_unit u) v))) 3 x ok (λ y. vpi_again u v g (given_before told u v y))
+      twice_test _ _ _ _ (taken (Some (record_of told (of_unit u) v))) 3 x ok (λ y. vpi_again u v g (given_before told u v y))
       (λ y.
       rest
       (anew l (λ a t z. absurd (nounit a t z)) (λ a b h. free_path u v y a b (its a b h)) (λ a b c z. absurd (novc a b c z)) (λ a t z. absurd (no_mc l u v (inl g) a t z))))
 
-  free_vc : (u v w : ℕ) → taken (Is (record_of told (of_page u v) w)) ≡ false → (a b c : ℕ) → (u ≡ a) × (v ≡ b) × (w ≡ c) → taken (Is (record_of told (of_page a b) c)) ≡ false
-  free_vc u v w t a b c h = sym (λ i. taken (Is (record_of told (of_page (h.0 i) (h.1 i)) (h.2 i)))) ∙ t
+  free_vc : (u v w : ℕ) → taken (Some (record_of told (of_page u v) w)) ≡ false → (a b c : ℕ) → (u ≡ a) × (v ≡ b) × (w ≡ c) → taken (Some (record_of told (of_page a b) c)) ≡ false
+  free_vc u v w t a b c h = sym (λ i. taken (Some (record_of told (of_page (h.0 i) (h.1 i)) (h.2 i)))) ∙ t
 
   in_this : (u v t a b : ℕ) → u ≡ a → v ≡ b → In (Page u v t) told → In (Page a b t) told
   in_this u v t a b x y = Memᴰ.cast (sym (ap₂ (λ m n. Page m n t) x y))
@@ -367,7 +367,7 @@ module _ (card : Card) (memory : List ℕ) (told : List Line) (good : Good card 
       (λ o.
       let page = page_in_lem told u v t (grew.opened u v t p r).0 in
       let ok = in_order l u v top below b e refl (λ n. second_of) (on_bus bus target o) (λ n x. ⊎_elim (λ z. absurd z) (λ z. (z.1.0, z.1.1))) (λ n x c z. (t, in_this u v t n x z.0 z.1 page, let q = z.2 in omega arith)) in
-      twice_test _ _ _ _ (taken (Is (record_of told (of_page u v) w))) 4 _ ok (λ y. vc_again u v w (refl, refl, refl) (vc_before told u v w y))
+      twice_test _ _ _ _ (taken (Some (record_of told (of_page u v) w))) 4 _ ok (λ y. vc_again u v w (refl, refl, refl) (vc_before told u v w y))
       (λ y. goes_out l outvpi (λ k. k) (λ k. k) refl ok (anew l (λ n s z. absurd z) (λ n x z. absurd z) (free_vc u v w y) (λ n s z. absurd (no_mc l u v (inr (w, (refl, refl, refl))) n s z)))))))
   judged (Mc u session) =
       let l = Mc u session in

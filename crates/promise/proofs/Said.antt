@@ -12,7 +12,6 @@ use borrow.Author.Tests.{eqb-true, eq-eqb}
 use Rattle.lookup.specs.Record.{size}
 use Rattle.lookup.specs.declared.Record as R
 use Rattle.lookup.specs.declared.Record.TheVariants.{Empty, Page as R-as-Page}
-use Rattle.lookup.specs.declared.Got.TheVariants.{Is}
 use Rattle.card.specs.declared.Card.{Card}
 use Rattle.shelf.specs.Shelves.{find_in}
 use Rattle.shelf.specs.Shelf.{Shelf}
@@ -135,23 +134,23 @@ declared told u top e = let m = top_in told (of_unit u) top e in (m.0, m.1, top_
 pub page_in_lem : (told : List Line) (u v top : ℕ) → top_of told (of_page u v) ≡ some top → In (Page u v top) told
 page_in_lem told u v top e = let m = top_in told (of_page u v) top e in Memᴰ.cast (top_page m.0 u v top m.2) m.1
 
-not_taken : (r : R.Record) → r ≡ Empty → taken (Is r) ≡ false
-not_taken r e = ap (λ x. taken (Is x)) e
+not_taken : (r : R.Record) → r ≡ Empty → taken (Some r) ≡ false
+not_taken r e = ap (λ x. taken (Some x)) e
 
-pub given_before : (told : List Line) (u v : ℕ) → taken (Is (record_of told (of_unit u) v)) ≡ true → Before told (Gives u v)
+pub given_before : (told : List Line) (u v : ℕ) → taken (Some (record_of told (of_unit u) v)) ≡ true → Before told (Gives u v)
 given_before told u v t =
     let m = given_in told (of_unit u) v (λ e. false≢true (sym (not_taken (record_of told (of_unit u) v) e) ∙ t)) in
     (m.0, m.1, given_gives m.0 u v m.2.0 m.2.1)
 
-pub before_given : (told : List Line) (u v : ℕ) → taken (Is (record_of told (of_unit u) v)) ≡ false → Before told (Gives u v) → ⊥
+pub before_given : (told : List Line) (u v : ℕ) → taken (Some (record_of told (of_unit u) v)) ≡ false → Before told (Gives u v) → ⊥
 before_given told u v f b = in_given told b.0 b.1 (of_unit u) v (λ place. gives_given b.0 u v place b.2) (free (record_of told (of_unit u) v) f)
 
-pub vc_before : (told : List Line) (u v w : ℕ) → taken (Is (record_of told (of_page u v) w)) ≡ true → Before told (IsVc u v w)
+pub vc_before : (told : List Line) (u v w : ℕ) → taken (Some (record_of told (of_page u v) w)) ≡ true → Before told (IsVc u v w)
 vc_before told u v w t =
     let m = given_in told (of_page u v) w (λ e. false≢true (sym (not_taken (record_of told (of_page u v) w) e) ∙ t)) in
     (m.0, m.1, given_vc m.0 u v w m.2.0 m.2.1)
 
-pub before_vc : (told : List Line) (u v w : ℕ) → taken (Is (record_of told (of_page u v) w)) ≡ false → Before told (IsVc u v w) → ⊥
+pub before_vc : (told : List Line) (u v w : ℕ) → taken (Some (record_of told (of_page u v) w)) ≡ false → Before told (IsVc u v w) → ⊥
 before_vc told u v w f b = in_given told b.0 b.1 (of_page u v) w (λ place. vc_given b.0 u v w place b.2) (free (record_of told (of_page u v) w) f)
 
 module _ (told : List Line) (grew : Grown told) where

@@ -1,5 +1,5 @@
 -- Two cards on equal bytes that say and give back the same leave equal bytes. Assumes nothing.
-use Rattle.std.specs.Prelude.{None, Option, Some}
+use Rattle.std.specs.Prelude.{None, Option, Some, Err, Ok, Result}
 use Prim.Native.Nat.{ℕ, zero, suc, ◌+◌, ◌*◌, ◌%◌, ◌^◌, min}
 use mathlib.Core.Path.{◌≡◌, refl, sym, ap, subst, ◌∙◌}
 use mathlib.Core.Bool.{Bool, true, false, cond, ◌&&◌}
@@ -36,8 +36,6 @@ use Rattle.answer.specs.declared.Answer.TheVariants.{Arrived}
 use Rattle.answer.specs.declared.Arrival as A
 use Rattle.answer.specs.declared.Arrival.TheVariants.{Hec, Inletfull, Queued}
 use Rattle.soundness.specs.Admission.{at_unit, admitted, admitted_in, decided, unit_at}
-use Rattle.soundness.specs.declared.Admitted as D
-use Rattle.soundness.specs.declared.Admitted.TheVariants.{At, Refused}
 use Rattle.soundness.proofs.InPlace.{in_place}
 use Rattle.arriving.specs.Arriving as arriving
 use Rattle.arriving.specs.InPlace as arriving·
@@ -145,7 +143,7 @@ module _ (shelf : Shelf) (place : ℕ) where
 answer_is : {x y : N.Answer} → answers x ≡ answers y → x ≡ y
 answer_is e = cc
 
-module _ (card : Card) (b memory store : List ℕ) (rows : List C.Counters) (unit : ℕ) (c : List ℕ) (place : ℕ) (e : arriving·.comes_in card b (length store) (length rows) unit c ≡ At place) where
+module _ (card : Card) (b memory store : List ℕ) (rows : List C.Counters) (unit : ℕ) (c : List ℕ) (place : ℕ) (e : arriving·.comes_in card b (length store) (length rows) unit c ≡ Ok place) where
   abbrev l : Lent
   l = record { state = b; memory = memory; store = store; rows = rows }
 
@@ -205,7 +203,7 @@ module _ (c c' : Card) (b memory memory' store store' : List ℕ) (rows rows' : 
   two = record { state = b; memory = memory'; store = store'; rows = rows' }
 
   module _ (g : Good c one) (g' : Good c' two) where
-    abbrev way_in : ℕ → Bool → D.Admitted
+    abbrev way_in : ℕ → Bool → Result ℕ ℕ
     way_in unit right = at_unit (find_in (declared (shelf_in b)) unit) right
 
     arrived : (unit : ℕ) (cell : List ℕ) → (does c one (arrive unit cell)).said ≡ (does c' two (arrive unit cell)).said → (does c one (arrive unit cell)).lent.state ≡ (does c' two (arrive unit cell)).lent.state
@@ -215,12 +213,12 @@ module _ (c c' : Card) (b memory memory' store store' : List ℕ) (rows rows' : 
         let y = lets_in c' b (length store') (length rows') unit (eqb (length cell) 53) g'.formed g'.sound in
         ap (after c memory) x ∙ at (way_in unit (eqb (length cell) 53)) x y ∙ ap (after c' memory') (sym y)
       where
-        after : Card → List ℕ → D.Admitted → List ℕ
+        after : Card → List ℕ → Result ℕ ℕ → List ℕ
         after card m d = decided d (λ place. arriving·.state_at card b place m cell) (λ number. b)
 
-        at : (d : D.Admitted) → arriving·.comes_in c b (length store) (length rows) unit cell ≡ d → arriving·.comes_in c' b (length store') (length rows') unit cell ≡ d → after c memory d ≡ after c' memory' d
-        at (Refused number) p q = refl
-        at (At place) p q =
+        at : (d : Result ℕ ℕ) → arriving·.comes_in c b (length store) (length rows) unit cell ≡ d → arriving·.comes_in c' b (length store') (length rows') unit cell ≡ d → after c memory d ≡ after c' memory' d
+        at (Err number) p q = refl
+        at (Ok place) p q =
             state_is c b memory store rows unit cell place p
             ∙ by_ways (shelf_in b) place _ _ b (not_queued c (unit_at (shelf_in b) place) memory cell) (not_queued c' (unit_at (shelf_in b) place) memory' cell)
             (answer_is (sym (said_is c b memory store rows unit cell place p) ∙ e ∙ said_is c' b memory' store' rows' unit cell place q))

@@ -1,5 +1,5 @@
 -- Every event does on the shelf what it does on the document's. Assumes nothing.
-use Rattle.std.specs.Prelude.{None, Some}
+use Rattle.std.specs.Prelude.{None, Some, Err, Ok, Result}
 use Prim.Native.Nat.{ℕ, ◌+◌, ◌<◌, ◌≤◌}
 use native.Mathlib.Omega.{arith}
 use mathlib.Core.Path.{◌≡◌, refl, sym, ap, subst, ◌∙◌}
@@ -16,8 +16,6 @@ use Rattle.shelf.specs.Shelf.{Shelf}
 use Rattle.soundness.specs.State.{Sound}
 use Rattle.soundness.proofs.Facts.{sound_iff}
 use Rattle.outlet.specs.Taking.{leaving}
-use Rattle.outlet.specs.declared.Leaving as L
-use Rattle.outlet.specs.declared.Leaving.TheVariants as leaves
 use Rattle.answer.specs.Answers.{refused, row, arrival_rises, hearing_rises, #taken}
 use Rattle.answer.specs.declared.Hearing as H
 use Rattle.bus.specs.Frame.{heard}
@@ -27,14 +25,11 @@ use Rattle.answer.specs.declared.Answer.TheVariants as answer
 use Rattle.answer.specs.Counting.{settled_to, settled, value, zeros}
 use Rattle.answer.proofs.Settling.{settled_ahead}
 use Rattle.answer.specs.declared.Counters as C
-use Rattle.soundness.specs.Admission.{at_unit, admitted, decided, told_apart, unit_at, Housed}
-use Rattle.soundness.specs.declared.Admitted as A
-use Rattle.soundness.specs.declared.Admitted.TheVariants.{At, Refused}
+use Rattle.soundness.specs.Admission.{at_unit, admitted, decided, unit_at, Housed}
 use Rattle.soundness.proofs.Laws.{sound_housed}
 use Rattle.arriving.specs.Arriving as arriving
 use Rattle.taking.specs.Takes as taking
-use Rattle.entry.specs.Counts.{count_of, counted}
-use Rattle.entry.specs.declared.Counted.TheVariants as Counted
+use Rattle.entry.specs.Counts.{count_of}
 use Rattle.handing.specs.Hands as handing
 use Rattle.handing.specs.Collects as collecting
 use Rattle.document.specs.Events.{arrive, frame, hear, take_cell, count, hand, collect, answers, counts}
@@ -114,16 +109,16 @@ module _ (card : Card) (w : World) (d : D.Shelf) (a : WorldAlike card w d) where
   as_was number lent = record { said = refl; bytes = refl; many = refl; shelf = a.shelf; rows = a.rows; beyond = λ j h. refl }
 
   -- an event at a unit: let in on both, or refused with the same number
-  at_unit_lem : (unit : ℕ) (right : Bool) (lent : List ℕ) (out : A.Admitted → Outcome) (inside : ℕ → document.Step) →
-      ((number : ℕ) → 0 < number → out (Refused number) ≡ record { said = answers (answer.Refused number); world = w; bytes = lent }) →
-      ((i : ℕ) → i < length d.units → right ≡ true → StepAlike card w d (out (At i)) (inside i)) →
+  at_unit_lem : (unit : ℕ) (right : Bool) (lent : List ℕ) (out : Result ℕ ℕ → Outcome) (inside : ℕ → document.Step) →
+      ((number : ℕ) → 0 < number → out (Err number) ≡ record { said = answers (answer.Refused number); world = w; bytes = lent }) →
+      ((i : ℕ) → i < length d.units → right ≡ true → StepAlike card w d (out (Ok i)) (inside i)) →
       StepAlike card w d (out (admitted card w.shelf (length w.store) (length w.rows) unit right))
       (document.admitted (D.find_in d.units unit) right inside (λ number. document.refused d number lent))
   unfolding admitted at_unit document.admitted
   at_unit_lem unit right lent out inside refusal let_in =
       rw (a.sound, find_alike card w.shelf w.memory w.store d a.shelf unit) (go (D.find_in d.units unit) refl right refl)
     where
-      refused_alike : (number : ℕ) → 0 < number → StepAlike card w d (out (Refused number)) (document.refused d number lent)
+      refused_alike : (number : ℕ) → 0 < number → StepAlike card w d (out (Err number)) (document.refused d number lent)
       refused_alike number held = subst (λ o. StepAlike card w d o (document.refused d number lent)) (sym (refusal number held)) (as_was number lent)
 
       go : (f : Option ℕ) → D.find_in d.units unit ≡ f → (b : Bool) → right ≡ b →
@@ -195,15 +190,15 @@ module _ (card : Card) (w : World) (d : D.Shelf) (a : WorldAlike card w d) where
   took_from [] i q buffer = refl
   took_from (c ∷ cells) i q buffer = length-set d.units i (D.with_queue (D.unit_at d i) q cells)
 
-  took_many : (l : L.Leaving) (i : ℕ) (buffer : List ℕ) → length (T.takes_by l d i buffer).shelf.units ≡ length d.units
+  took_many : (l : Option ℕ) (i : ℕ) (buffer : List ℕ) → length (T.takes_by l d i buffer).shelf.units ≡ length d.units
   unfolding T.takes_by
-  took_many (leaves.Queue q) i buffer = took_from (D.queue_at (D.unit_at d i) q) i q buffer
-  took_many leaves.Empty i buffer = refl
+  took_many (Some q) i buffer = took_from (D.queue_at (D.unit_at d i) q) i q buffer
+  took_many None i buffer = refl
 
-  took_beyond : (l : L.Leaving) (i j : ℕ) → i < j → get_or (settled w.rows (taking.done_by l w.shelf i).rises) j zeros ≡ get_or w.rows j zeros
+  took_beyond : (l : Option ℕ) (i j : ℕ) → i < j → get_or (settled w.rows (taking.done_by l w.shelf i).rises) j zeros ≡ get_or w.rows j zeros
   unfolding taking.done_by settled_to
-  took_beyond (leaves.Queue q) i j h = settled_ahead w.rows (row i #taken) (i + 1) j (omega arith)
-  took_beyond leaves.Empty i j h = refl
+  took_beyond (Some q) i j h = settled_ahead w.rows (row i #taken) (i + 1) j (omega arith)
+  took_beyond None i j h = refl
 
   -- count
   counters_are : (row : C.Counters) (unit : ℕ) → ((c : Counter) → value row (place_of c) ≡ counter_of d.history unit c) → row ≡ counters_of d.history unit
@@ -225,12 +220,12 @@ module _ (card : Card) (w : World) (d : D.Shelf) (a : WorldAlike card w d) where
       }
 
   pub count_step : (unit : ℕ) → StepAlike card w d (happens card w (count unit)) (document.happens_to d (count unit))
-  unfolding happens document.happens_to counted told_apart count_said
+  unfolding happens document.happens_to count_of count_said
   count_step unit =
       at_unit_lem unit true []
-      (λ adm. record { said = count_said (count_of (told_apart adm) w.rows); world = w; bytes = [] })
+      (λ adm. record { said = count_said (count_of adm w.rows); world = w; bytes = [] })
       (λ place. document.step (counts (counters_of d.history (D.number_of (D.unit_at d place)))) d [])
-      (λ number held. ap (λ b. record { said = count_said (cond b (Counted.Counters (get_or w.rows 0 zeros)) (Counted.Refused number)); world = w; bytes = [] }) (ne_eqb number 0 (λ e. omega arith)))
+      (λ number held. refl)
       (λ i h r.
       record {
         said = ap counts (counters_are (get_or w.rows i zeros) (D.number_of (D.unit_at d i)) (a.rows i h));

@@ -1,4 +1,5 @@
 -- Each entry point's contract is the step that `does` speaks of. Assumes nothing.
+use Rattle.std.specs.Prelude.{Err, Ok, Result}
 use Prim.Native.Nat.{ℕ}
 use mathlib.Core.Path.{◌≡◌, refl, sym, ◌∙◌}
 use mathlib.Core.Bool.{Bool, true, false, cond}
@@ -9,8 +10,6 @@ use Rattle.card.specs.declared.Card.{Card}
 use Rattle.state.specs.Bytes.{shelf_in}
 use Rattle.soundness.specs.Soundings.{formed_all}
 use Rattle.soundness.specs.Admission.{admitted, decided, unit_at, with_unit}
-use Rattle.soundness.specs.declared.Admitted as A
-use Rattle.soundness.specs.declared.Admitted.TheVariants.{At, Refused}
 use Rattle.answer.specs.Answers.{none, ends, refused, refused_with}
 use Rattle.answer.specs.Done.{Done, outcome_of}
 use Rattle.answer.specs.Counting.{settled, settled_to}
@@ -73,9 +72,9 @@ hand_rows card b store records unit long rows = by (formed_all b) (admitted card
     none_there place true = refl
     none_there place false = refl
 
-    by : (f : Bool) (d : A.Admitted) → settled rows (cond f (outcome_of (decided d inside (refused (shelf_in b)))) (refused_with 8)).rises ≡ rows
-    by true (At place) = none_there place (busy (unit_at (shelf_in b) place))
-    by true (Refused number) = refl
+    by : (f : Bool) (d : Result ℕ ℕ) → settled rows (cond f (outcome_of (decided d inside (refused (shelf_in b)))) (refused_with 8)).rises ≡ rows
+    by true (Ok place) = none_there place (busy (unit_at (shelf_in b) place))
+    by true (Err number) = refl
     by false d = refl
 
 -- whatever meets it is the step

@@ -1,5 +1,5 @@
 -- An event in lent bytes is the event on the shelf that they are. Assumes nothing.
-use Rattle.std.specs.Prelude.{None, Option, Some}
+use Rattle.std.specs.Prelude.{None, Option, Some, Err, Ok, Result}
 use Prim.Native.Nat.{ℕ, ◌<◌, ◌≤◌}
 use native.Mathlib.Omega.{arith}
 use mathlib.Core.Path.{◌≡◌, refl, sym, ap, ◌∙◌}
@@ -19,9 +19,7 @@ use Rattle.answer.specs.declared.Counters as C
 use Rattle.answer.specs.Answers.{refused_with}
 use Rattle.answer.specs.Done.{outcome_of}
 use Rattle.answer.specs.declared.Answer.TheVariants as answer
-use Rattle.soundness.specs.Admission.{at_unit, admitted, admitted_in, decided, told_apart}
-use Rattle.soundness.specs.declared.Admitted as A
-use Rattle.soundness.specs.declared.Admitted.TheVariants.{At, Refused}
+use Rattle.soundness.specs.Admission.{at_unit, admitted, admitted_in, decided}
 use Rattle.soundness.proofs.InPlace.{formed_in, unformed_in, LetInPlace, in_place as let_in_place}
 use Rattle.arriving.specs.Arriving.{arrive_done, arrive_store}
 use Rattle.arriving.specs.InPlace as arriving
@@ -41,7 +39,7 @@ use Rattle.framing.specs.InPlace as framing
 use Rattle.framing.proofs.InPlace.{frame_decodes, frame_formed, frame_long, frame_free, frame_bus, frame_count, frame_kept, frame_others}
 use Rattle.table.specs.Loads.{load_done, load_memory}
 use Rattle.table.proofs.EventInPlace.{load_decodes, load_formed, load_long, load_spare}
-use Rattle.entry.specs.Counts.{count_of, counted}
+use Rattle.entry.specs.Counts.{count_of}
 use Rattle.paper.specs.State.{Formed}
 use Rattle.paper.proofs.State.{formed_iff}
 use Rattle.document.specs.Events.{Event, arrive, frame, hear, take_cell, count, hand, collect, bytes_of, answers}
@@ -137,7 +135,7 @@ module _ (card : Card) (l : Lent) where
           world = record { shelf = collect_decodes card b s n unit (length buffer) long formed t; memory = l.memory; store = l.store; rows = settled l.rows out.rises };
           bytes = cond (formed t) (collect_buffer card w.shelf l.store n unit buffer) buffer;
         }
-    same (count unit) = λ t. record { said = count_said (count_of (told_apart (formed_in card b s n unit true formed t)) l.rows); world = w; bytes = [] }
+    same (count unit) = λ t. record { said = count_said (count_of (formed_in card b s n unit true formed t) l.rows); world = w; bytes = [] }
 
     pub formed_after : (e : Event) → formed_all (does card l e).lent.state ≡ true
     unfolding does
@@ -219,7 +217,7 @@ module _ (card : Card) (l : Lent) where
 
   -- B. bytes that are none
   unformed : formed_all b ≡ false → (e : Event) → does card l e ≡ record { said = answers (answer.Refused 8); lent = l; bytes = bytes_of e }
-  unfolding does bytes_of decided settled_to checked sound_in told_apart counted count_said
+  unfolding does bytes_of decided settled_to checked sound_in count_of count_said
   unformed none (arrive unit c) =
       λ t.
       let out = cond (none t) (outcome_of (arrive_done card w.shelf l.memory s n unit c)) (refused_with 8) in
@@ -298,11 +296,11 @@ module _ (card : Card) (l : Lent) where
         };
         bytes = cond (none t) (collect_buffer card w.shelf l.store n unit buffer) buffer;
       }
-  unformed none (count unit) = λ t. record { said = count_said (count_of (told_apart (unformed_in card b s n unit true none t)) l.rows); lent = l; bytes = [] }
+  unformed none (count unit) = λ t. record { said = count_said (count_of (unformed_in card b s n unit true none t) l.rows); lent = l; bytes = [] }
 
 -- C. what is refused changes no byte
 keeps : (x : Bool) (f : Option ℕ) (r : Bool) (inside : ℕ → List ℕ) (state : List ℕ) → (◌≡◌ {A = ℕ} (cond x (cond (is_at f) (cond r 0 10) 9) 8) 0 → ⊥) →
-    decided (cond x (at_unit f r) (Refused 8)) inside (λ number. state) ≡ state
+    decided (cond x (at_unit f r) (Err 8)) inside (λ number. state) ≡ state
 unfolding decided at_unit
 keeps true (Some i) true inside state h = absurd (h refl)
 keeps true (Some i) false inside state h = refl
@@ -340,9 +338,9 @@ module _ (card : Card) (l : Lent) (long : Long l) (formed : formed_all l.state �
           ((λ k. cond (a.sound k) (cond (is_at (a.found k)) (cond (a.fits k) (cond (taken_at (seen l).shelf (a.found k)) 11 0) 10) 9) 8)
           ∙ ap (λ u. cond (busy u) 11 0) (unit_at_lem b' i blank p.below) ∙ ap (λ x. cond x 11 0) t))
 
-      go : (d : A.Admitted) → handing.comes_in card b' (length l.store) (length l.rows) unit (length c) ≡ d → decided d (handing.hand_state_at b') (λ number. b') ≡ b'
-      go (Refused number) e = refl
-      go (At i) e = busy_kept i (let_in_place card b' (length l.store) (length l.rows) unit (eqb (length c) 56) i e) (busy (unit_in b' i)) refl
+      go : (d : Result ℕ ℕ) → handing.comes_in card b' (length l.store) (length l.rows) unit (length c) ≡ d → decided d (handing.hand_state_at b') (λ number. b') ≡ b'
+      go (Err number) e = refl
+      go (Ok i) e = busy_kept i (let_in_place card b' (length l.store) (length l.rows) unit (eqb (length c) 56) i e) (busy (unit_in b' i)) refl
 
   state_kept : (e : Event) → (refusal card (seen l) e ≡ 0 → ⊥) → (does card l e).lent.state ≡ l.state
   unfolding does known fits taken checked sound_in

@@ -1,4 +1,5 @@
 -- Soundness is kept by every event. Assumes nothing.
+use Rattle.std.specs.Prelude.{Err, Ok, Result}
 use Prim.Native.Nat.{ℕ, ◌<◌}
 use native.Mathlib.Omega.{arith}
 use mathlib.Core.Path.{◌≡◌, refl, sym, ap, ◌∙◌}
@@ -19,8 +20,6 @@ use Rattle.answer.proofs.Settling.{length_settled}
 use Rattle.answer.specs.Answers.{refused}
 use Rattle.answer.specs.Done.{Done}
 use Rattle.soundness.specs.Admission.{admitted, decided, unit_at, Housed}
-use Rattle.soundness.specs.declared.Admitted as A
-use Rattle.soundness.specs.declared.Admitted.TheVariants.{At, Refused}
 use Rattle.soundness.proofs.Laws.{at_let_in, let_in_housed}
 use Rattle.arriving.specs.Arriving as arriving
 use Rattle.hearing.specs.Hearings as hearing
@@ -48,11 +47,11 @@ module _ (card : Card) (w : World) (inside : ℕ → Done) (store : ℕ → List
   abbrev n : ℕ
   n = length w.rows
 
-  abbrev d : A.Admitted
+  abbrev d : Result ℕ ℕ
   d = admitted card w.shelf s n unit right
 
   -- the world afterwards, by the way in
-  abbrev after : A.Admitted → Bool
+  abbrev after : Result ℕ ℕ → Bool
   after a =
       let done = decided a inside (refused w.shelf) in
       sound_of card done.reply.shelf (length (decided a store (λ number. w.store))) (length (settled w.rows done.rises))
@@ -64,17 +63,17 @@ module _ (card : Card) (w : World) (inside : ℕ → Done) (store : ℕ → List
   unfolding decided settled_to
   at_unit sound kept = go d refl
     where
-      go : (a : A.Admitted) → d ≡ a → after a ≡ true
-      go (Refused number) e = sound
-      go (At i) e =
+      go : (a : Result ℕ ℕ) → d ≡ a → after a ≡ true
+      go (Err number) e = sound
+      go (Ok i) e =
           let l = at_let_in card w.shelf s n unit right i e in
           let k = kept i ((find_at unit (declared w.shelf) i).0 l.found).inside ((sound_iff card w.shelf s n).0 sound) (let_in_housed card w.shelf s n unit right i l).0 l.fits in
           (λ t. sound_of card (inside i).reply.shelf (k.1 t) (length_settled w.rows (inside i).rises (inside i).rises.to t)) ∙ (sound_iff card (inside i).reply.shelf s n).1 k.0
 
-either_way : (store : List ℕ) (a : A.Admitted) → decided a (λ place. store) (λ number. store) ≡ store
+either_way : (store : List ℕ) (a : Result ℕ ℕ) → decided a (λ place. store) (λ number. store) ≡ store
 unfolding decided
-either_way store (At place) = refl
-either_way store (Refused number) = refl
+either_way store (Ok place) = refl
+either_way store (Err number) = refl
 
 -- a frame: refused, or sent, heard and granted
 framed : (card : Card) (w : World) (s r : Bool) (good : Done) (store : List ℕ) → s ≡ true → sound_in card w ≡ true →

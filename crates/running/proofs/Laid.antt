@@ -1,4 +1,5 @@
 -- The memory of a good table, byte by byte. Assumes nothing.
+use Rattle.std.specs.Prelude.{Some}
 use Prim.Native.Nat.{ℕ, ◌+◌, ◌-◌, ◌*◌, ◌/◌, ◌%◌, ◌<◌, ◌≤◌}
 use native.Mathlib.Omega.{arith}
 use mathlib.Core.Path.{◌≡◌, refl, sym, ap, ap₂, subst, ◌∙◌}
@@ -17,7 +18,6 @@ use Rattle.card.specs.declared.Card.TheVariants.{Narrow, Wide}
 use Rattle.lookup.specs.Record.{size, usable, route_of, page_of, bytes_of, image}
 use Rattle.lookup.specs.declared.Record as R
 use Rattle.lookup.specs.declared.Record.TheVariants.{Empty, Drop as R-as-Drop, Route as R-as-Route, Page as R-as-Page}
-use Rattle.lookup.specs.declared.Got.TheVariants.{Is}
 use Rattle.lookup.proofs.RecordLaws.{bytes_length, image_length}
 use Rattle.line.specs.declared.Line.{Line}
 use Rattle.line.specs.declared.Line.TheVariants.{Bus, Unit as L-as-Unit, Vp, Drop, Page, Vc, Mc}
@@ -137,11 +137,11 @@ module _ (card : Card) (room : ℕ) (told : List Line) (good : Good card room to
 
 no_gift : (told : List Line) (u v : ℕ) → (Before told (Gives u v) → ⊥) → record_of told (of_unit u) v ≡ Empty
 no_gift told u v n =
-    decide (taken (Is (record_of told (of_unit u) v))) (λ t. absurd (n (given_before told u v t))) (λ t. free (record_of told (of_unit u) v) t)
+    decide (taken (Some (record_of told (of_unit u) v))) (λ t. absurd (n (given_before told u v t))) (λ t. free (record_of told (of_unit u) v) t)
 
 no_vc : (told : List Line) (u v w : ℕ) → (Before told (IsVc u v w) → ⊥) → record_of told (of_page u v) w ≡ Empty
 no_vc told u v w n =
-    decide (taken (Is (record_of told (of_page u v) w))) (λ t. absurd (n (vc_before told u v w t))) (λ t. free (record_of told (of_page u v) w) t)
+    decide (taken (Some (record_of told (of_page u v) w))) (λ t. absurd (n (vc_before told u v w t))) (λ t. free (record_of told (of_page u v) w) t)
 
 -- B. each record in its eight bytes
 high : (n : ℕ) → n < 65536 → n / 256 % 256 ≡ n / 256

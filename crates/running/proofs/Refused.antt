@@ -1,5 +1,5 @@
 -- Refusals 8 to 11 over every event. Assumes nothing.
-use Rattle.std.specs.Prelude.{None, Option, Some}
+use Rattle.std.specs.Prelude.{None, Option, Some, Err, Ok, Result}
 use Prim.Native.Nat.{ℕ}
 use mathlib.Core.Path.{◌≡◌, refl, sym, ap, ◌∙◌}
 use mathlib.Core.Bool.{Bool, true, false, cond}
@@ -16,22 +16,17 @@ use Rattle.answer.specs.Answers.{#taken, number_of, none, row, ends, refused}
 use Rattle.answer.specs.Done.{Done}
 use Rattle.answer.specs.Counting.{settled_to}
 use Rattle.answer.specs.declared.Counters as C
-use Rattle.soundness.specs.Admission.{at_unit, admitted, decided, told_apart, unit_at, with_unit}
-use Rattle.soundness.specs.declared.Admitted as A
-use Rattle.soundness.specs.declared.Admitted.TheVariants.{At, Refused}
+use Rattle.soundness.specs.Admission.{at_unit, admitted, decided, unit_at, with_unit}
 use Rattle.arriving.specs.Arriving as arriving
 use Rattle.arriving.specs.declared.Way.{Way}
 use Rattle.arriving.specs.declared.Way.TheVariants.{Bus, Lost}
 use Rattle.hearing.specs.Hearings as hearing
-use Rattle.outlet.specs.declared.Leaving as L
-use Rattle.outlet.specs.declared.Leaving.TheVariants as leaves
 use Rattle.outlet.specs.Taking.{leaving}
 use Rattle.taking.specs.Takes as taking
 use Rattle.handing.specs.Hands as hands
 use Rattle.handing.specs.Collects as collects
 use Rattle.framing.specs.Frames as framing
-use Rattle.entry.specs.Counts.{counted}
-use Rattle.entry.specs.declared.Counted.TheVariants as Counted
+use Rattle.entry.specs.Counts.{count_of}
 use Rattle.answer.specs.declared.Arrival.TheVariants.{Inletfull, Queued}
 use Rattle.answer.specs.declared.Answer.TheVariants as answer
 use Rattle.document.specs.Events.{Event, arrive, frame, hear, take_cell, count, hand, collect, bytes_of, answers, number_said}
@@ -39,12 +34,12 @@ use Rattle.running.specs.Events.{World, Outcome, ended, count_said, happens}
 use Rattle.running.specs.Refusing.{known, fits, taken_at, taken, refusal, RefusedIff, RefusalChangesNothing}
 
 -- an event that is refused, or let in
-unfoldable number_by : A.Admitted → ℕ
-number_by (At place) = 0
-number_by (Refused number) = number
+unfoldable number_by : Result ℕ ℕ → ℕ
+number_by (Ok place) = 0
+number_by (Err number) = number
 
 -- State, Unit, Length, in that order
-in_order : (s : Bool) (f : Option ℕ) (r : Bool) → number_by (cond s (at_unit f r) (Refused 8)) ≡ cond s (cond (is_at f) (cond r 0 10) 9) 8
+in_order : (s : Bool) (f : Option ℕ) (r : Bool) → number_by (cond s (at_unit f r) (Err 8)) ≡ cond s (cond (is_at f) (cond r 0 10) 9) 8
 unfolding at_unit number_by
 in_order true (Some place) true = refl
 in_order true (Some place) false = refl
@@ -56,20 +51,20 @@ abbrev as_was : World → ℕ → List ℕ → Outcome
 as_was w number bytes = record { said = answers (answer.Refused number); world = w; bytes = bytes }
 
 -- an event at a unit: what it does where it is let in, the store and the lent bytes afterwards
-module _ (w : World) (inside : ℕ → Done) (store bytes : A.Admitted → List ℕ) (lent : List ℕ) where
-  abbrev came : A.Admitted → Outcome
+module _ (w : World) (inside : ℕ → Done) (store bytes : Result ℕ ℕ → List ℕ) (lent : List ℕ) where
+  abbrev came : Result ℕ ℕ → Outcome
   came d = ended w (decided d inside (refused w.shelf)) (store d) (bytes d)
 
-  at_unit_lem : ((place : ℕ) → number_of (inside place).reply.answer ≡ 0) → (d : A.Admitted) → number_said (came d).said ≡ number_by d
+  at_unit_lem : ((place : ℕ) → number_of (inside place).reply.answer ≡ 0) → (d : Result ℕ ℕ) → number_said (came d).said ≡ number_by d
   unfolding decided number_of number_by number_said
-  at_unit_lem none (At place) = none place
-  at_unit_lem none (Refused number) = refl
+  at_unit_lem none (Ok place) = none place
+  at_unit_lem none (Err number) = refl
 
-  at_unit_kept : ((number : ℕ) → store (Refused number) ≡ w.store) → ((number : ℕ) → bytes (Refused number) ≡ lent) →
-      (d : A.Admitted) → (number_by d ≡ 0 → ⊥) → came d ≡ as_was w (number_by d) lent
+  at_unit_kept : ((number : ℕ) → store (Err number) ≡ w.store) → ((number : ℕ) → bytes (Err number) ≡ lent) →
+      (d : Result ℕ ℕ) → (number_by d ≡ 0 → ⊥) → came d ≡ as_was w (number_by d) lent
   unfolding decided number_of settled_to number_by
-  at_unit_kept stored kept (At place) h = absurd (h refl)
-  at_unit_kept stored kept (Refused number) h =
+  at_unit_kept stored kept (Ok place) h = absurd (h refl)
+  at_unit_kept stored kept (Err number) h =
       λ i. record { said = answers (answer.Refused number); world = record { shelf = w.shelf; memory = w.memory; store = stored number i; rows = w.rows }; bytes = kept number i }
 
 -- no event that is let in answers with a number
@@ -82,10 +77,10 @@ arrive_none (Bus routing header) shelf place = pick (arriving.inlet_full (unit_a
     pick true = refl
     pick false = refl
 
-take_none : (leaving : L.Leaving) (shelf : Shelf) (place : ℕ) → number_of (taking.done_by leaving shelf place).reply.answer ≡ 0
+take_none : (leaving : Option ℕ) (shelf : Shelf) (place : ℕ) → number_of (taking.done_by leaving shelf place).reply.answer ≡ 0
 unfolding taking.done_by number_of
-take_none (leaves.Queue q) shelf place = refl
-take_none leaves.Empty shelf place = refl
+take_none (Some q) shelf place = refl
+take_none None shelf place = refl
 
 hear_none : (shelf : Shelf) (place : ℕ) (heard : List ℕ) → number_of (hearing.done_at shelf place heard).reply.answer ≡ 0
 unfolding number_of
@@ -105,8 +100,8 @@ collect_none shelf place = pick (collects.bare (unit_at shelf place))
 
 -- a hand-in: State, Unit, Length, then Busy
 module _ (w : World) (cell : List ℕ) where
-  abbrev hand_in : Bool → Option ℕ → Bool → A.Admitted
-  hand_in s f r = cond s (at_unit f r) (Refused 8)
+  abbrev hand_in : Bool → Option ℕ → Bool → Result ℕ ℕ
+  hand_in s f r = cond s (at_unit f r) (Err 8)
 
   abbrev hand_number : Bool → Option ℕ → Bool → ℕ
   hand_number s f r = cond s (cond (is_at f) (cond r (cond (taken_at w.shelf f) 11 0) 10) 9) 8
@@ -122,7 +117,7 @@ module _ (w : World) (cell : List ℕ) where
   hand_number_lem true None r = refl
   hand_number_lem false f r = refl
 
-  abbrev hand_came : A.Admitted → Outcome
+  abbrev hand_came : Result ℕ ℕ → Outcome
   hand_came d = ended w (decided d (hands.hand_at w.shelf) (refused w.shelf)) (decided d (λ place. hands.hand_store_at w.shelf place w.store cell) (λ number. w.store)) cell
 
   hand_kept : (s : Bool) (f : Option ℕ) (r : Bool) → (hand_number s f r ≡ 0 → ⊥) → hand_came (hand_in s f r) ≡ as_was w (hand_number s f r) cell
@@ -139,23 +134,15 @@ module _ (w : World) (cell : List ℕ) where
   hand_kept false f r h = refl
 
 -- a count
-count_number : (d : A.Admitted) (row : C.Counters) → number_said (count_said (counted (told_apart d) row)) ≡ number_by d
-unfolding counted told_apart count_said number_by number_said number_of
-count_number (At place) row = refl
-count_number (Refused number) row = pick (eqb number 0) refl
-  where
-    pick : (b : Bool) → eqb number 0 ≡ b → number_said (count_said (cond b (Counted.Counters row) (Counted.Refused number))) ≡ number
-    pick true t = sym (eqb-true number 0 t)
-    pick false t = refl
+count_number : (d : Result ℕ ℕ) (rows : List C.Counters) → number_said (count_said (count_of d rows)) ≡ number_by d
+unfolding count_of count_said number_by number_said number_of
+count_number (Ok place) rows = refl
+count_number (Err number) rows = refl
 
-count_said_lem : (d : A.Admitted) (row : C.Counters) → (number_by d ≡ 0 → ⊥) → count_said (counted (told_apart d) row) ≡ answers (answer.Refused (number_by d))
-unfolding counted told_apart count_said number_by
-count_said_lem (At place) row h = absurd (h refl)
-count_said_lem (Refused number) row h = pick (eqb number 0) refl
-  where
-    pick : (b : Bool) → eqb number 0 ≡ b → count_said (cond b (Counted.Counters row) (Counted.Refused number)) ≡ answers (answer.Refused number)
-    pick true t = absurd (h (eqb-true number 0 t))
-    pick false t = refl
+count_said_lem : (d : Result ℕ ℕ) (rows : List C.Counters) → (number_by d ≡ 0 → ⊥) → count_said (count_of d rows) ≡ answers (answer.Refused (number_by d))
+unfolding count_of count_said number_by
+count_said_lem (Ok place) rows h = absurd (h refl)
+count_said_lem (Err number) rows h = refl
 
 -- a frame: State, then Length
 abbrev frame_number : Bool → Bool → ℕ
@@ -179,7 +166,7 @@ module _ (card : Card) (w : World) where
   abbrev sound : Bool
   sound = sound_of card w.shelf (length w.store) (length w.rows)
 
-  abbrev let_in : ℕ → Bool → A.Admitted
+  abbrev let_in : ℕ → Bool → Result ℕ ℕ
   let_in unit right = admitted card w.shelf (length w.store) (length w.rows) unit right
 
   by_order : (unit : ℕ) (right : Bool) → number_by (let_in unit right) ≡ cond sound (cond (is_at (find_in (declared w.shelf) unit)) (cond right 0 10) 9) 8

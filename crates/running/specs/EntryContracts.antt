@@ -13,7 +13,6 @@ use Rattle.card.specs.declared.Card.{Card}
 use Rattle.answer.specs.declared.Answer.{Answer}
 use Rattle.answer.specs.declared.Counters as C
 use Rattle.entry.specs.Outcomes.{arrives, frames, hears, takes, hands, collects, counts_of, loads, LeavesStore, LeavesAll, LeavesBytes, LeavesCell, LeavesMemory}
-use Rattle.entry.specs.declared.Counted.{Counted}
 use Rattle.entry.specs.contracts.arrive as entry_arrive
 use Rattle.entry.specs.contracts.frame as entry_frame
 use Rattle.entry.specs.contracts.hear as entry_hear
@@ -53,7 +52,7 @@ Hands card l unit cell r state store = LeavesCell (hands card l.state l.store l.
 abbrev pub Collects : Card → Lent → ℕ → List ℕ → Answer → List ℕ → List C.Counters → List ℕ → Type 0
 Collects card l unit buffer r state rows bytes = LeavesBytes (collects card l.state l.store l.rows (length l.rows) unit buffer) r state bytes rows
 
-abbrev pub Counts : Card → Lent → ℕ → Counted → Type 0
+abbrev pub Counts : Card → Lent → ℕ → Result C.Counters ℕ → Type 0
 Counts card l unit r = r ≡ counts_of card l.state l.store l.rows (length l.rows) unit
 
 abbrev pub Loads : Card → List ℕ → List ℕ → List ℕ → List C.Counters → Answer → List ℕ → List ℕ → List C.Counters → Type 0
@@ -134,7 +133,7 @@ pub record Steps (card : Card) : Type 0 where
       Hands card l unit cell r state store → came_to l r state store l.rows cell ≡ does card l (hand unit cell)
   pub collects : (l : Lent) (unit : ℕ) (buffer : List ℕ) (r : Answer) (state : List ℕ) (rows : List C.Counters) (bytes : List ℕ) →
       Collects card l unit buffer r state rows bytes → came_to l r state l.store rows bytes ≡ does card l (collect unit buffer)
-  pub counts : (l : Lent) (unit : ℕ) (r : Counted) →
+  pub counts : (l : Lent) (unit : ℕ) (r : Result C.Counters ℕ) →
       Counts card l unit r → record { said = count_said r; lent = l; bytes = [] } ≡ does card l (count unit)
   pub loads : (text memory store : List ℕ) (rows : List C.Counters) (r : Answer) (memory' state' : List ℕ) (rows' : List C.Counters) →
       Loads card text memory store rows r memory' state' rows' → record { state = state'; memory = memory'; store = store; rows = rows' } ≡ loaded_in card text memory store rows

@@ -15,8 +15,6 @@ use Rattle.handing.specs.Hands.{hand_done, hand_store}
 use Rattle.handing.specs.Collects.{collect_done, collect_buffer}
 use Rattle.document.specs.Events.{Event, arrive, frame, hear, take_cell, count, hand, collect, Said, answers, counts}
 use Rattle.entry.specs.Counts.{count_of}
-use Rattle.entry.specs.declared.Counted.{Counted}
-use Rattle.entry.specs.declared.Counted.TheVariants.{Counters, Refused}
 
 -- what a shelf runs with
 pub record World : Type 0 where
@@ -40,9 +38,9 @@ ended w done store bytes =
       bytes = bytes;
     }
 
-unfoldable pub count_said : Counted → Said
-count_said (Counters row) = counts row
-count_said (Refused number) = answers (answer.Refused number)
+unfoldable pub count_said : Result C.Counters ℕ → Said
+count_said (Ok row) = counts row
+count_said (Err number) = answers (answer.Refused number)
 
 -- what each of the seven does
 unfoldable pub happens : Card → World → Event → Outcome

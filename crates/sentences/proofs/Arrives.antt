@@ -1,4 +1,5 @@
 -- Arrival at a unit. Assumes nothing.
+use Rattle.std.specs.Prelude.{Ok}
 use Prim.Native.Nat.{ℕ, ◌+◌, ◌<◌}
 use native.Mathlib.Omega.{arith}
 use mathlib.Core.Path.{◌≡◌, refl, sym, ap, subst, ◌∙◌}
@@ -20,7 +21,6 @@ use Rattle.answer.specs.Answers.{arrival_rises}
 use Rattle.answer.specs.declared.Arrival as A
 use Rattle.answer.specs.declared.Arrival.TheVariants as arrival
 use Rattle.soundness.specs.Admission as admit
-use Rattle.soundness.specs.declared.Admitted.TheVariants as admitted
 use Rattle.arriving.specs.Arriving as arriving
 use Rattle.arriving.specs.declared.Way.{Way as Way·}
 use Rattle.arriving.specs.declared.Way.TheVariants.{Bus, Lost as Lost·}
@@ -42,7 +42,7 @@ use Rattle.paper.proofs.State.{found_at}
 use Rattle.sentences.proofs.Found.{many_units, unit_at_lem}
 
 -- an event that names a declared unit, with bytes of the right length, is let in at its place
-pub let_in : (card : Card) (shelf : Shelf) (bytes rows : ℕ) → Sound card shelf bytes rows → (unit place : ℕ) → DeclaredAt shelf unit place → (right : Bool) → right ≡ true → admit.admitted card shelf bytes rows unit right ≡ admitted.At place
+pub let_in : (card : Card) (shelf : Shelf) (bytes rows : ℕ) → Sound card shelf bytes rows → (unit place : ℕ) → DeclaredAt shelf unit place → (right : Bool) → right ≡ true → admit.admitted card shelf bytes rows unit right ≡ Ok place
 unfolding admit.admitted admit.at_unit
 let_in card shelf bytes rows s unit place d right e = rw ((sound_iff card shelf bytes rows).1 s, found_at card shelf bytes rows s unit place d, e)
 

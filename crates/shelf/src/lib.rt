@@ -38,13 +38,6 @@ pub struct Unit {
     pub sessions: [u8; 32],
 }
 
-// Where a unit stands among the declared ones.
-#[derive(Clone, Copy)]
-pub enum Found {
-    At(usize),
-    Nothing,
-}
-
 impl Unit {
     // how many data cells an inlet holds
     pub const INLET: u8 = 4;

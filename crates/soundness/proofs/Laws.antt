@@ -1,5 +1,5 @@
 -- What an event that is let in may count on. Assumes nothing.
-use Rattle.std.proofs.Common.{◌≡◌, ℕ, ◌+◌, ◌<◌, ◌≤◌, Bool, true, false, cond, List, [], length, get_or, drop, refl, ap, ◌∙◌, subst, arith, length-drop, length-take, None, Option, Some}
+use Rattle.std.proofs.Common.{◌≡◌, ℕ, ◌+◌, ◌<◌, ◌≤◌, Bool, true, false, cond, List, [], length, get_or, drop, refl, ap, ◌∙◌, subst, arith, length-drop, length-take, None, Option, Some, Err, Ok, Result}
 use Rattle.octets.specs.Octets.{part}
 use Rattle.octets.proofs.Parts.{get_d_any}
 use Rattle.header.specs.declared.Link.TheVariants.{Uni}
@@ -13,47 +13,45 @@ use Rattle.store.proofs.Slots.{part_inside}
 use Rattle.soundness.proofs.Facts.{sound_iff}
 use Rattle.soundness.specs.State.{sound_of}
 use Rattle.soundness.specs.Admission.{at_unit, admitted, decided, unit_at, Housed}
-use Rattle.soundness.specs.declared.Admitted as A
-use Rattle.soundness.specs.declared.Admitted.TheVariants.{At, Refused}
 
 -- the four ways through, in 01's order
 module _ (card : Card) (shelf : Shelf) (store rows unit : ℕ) (right : Bool) where
-  pub unsound : sound_of card shelf store rows ≡ false → admitted card shelf store rows unit right ≡ Refused 8
+  pub unsound : sound_of card shelf store rows ≡ false → admitted card shelf store rows unit right ≡ Err 8
   unfolding admitted
   unsound e = rw e
 
-  pub stranger : sound_of card shelf store rows ≡ true → find_in (declared shelf) unit ≡ None → admitted card shelf store rows unit right ≡ Refused 9
+  pub stranger : sound_of card shelf store rows ≡ true → find_in (declared shelf) unit ≡ None → admitted card shelf store rows unit right ≡ Err 9
   unfolding admitted at_unit
   stranger e f = rw (e, f)
 
-  pub misfit : (i : ℕ) → sound_of card shelf store rows ≡ true → find_in (declared shelf) unit ≡ Some i → right ≡ false → admitted card shelf store rows unit right ≡ Refused 10
+  pub misfit : (i : ℕ) → sound_of card shelf store rows ≡ true → find_in (declared shelf) unit ≡ Some i → right ≡ false → admitted card shelf store rows unit right ≡ Err 10
   unfolding admitted at_unit
   misfit i e f r = rw (e, f, r)
 
-  pub let_in : (i : ℕ) → sound_of card shelf store rows ≡ true → find_in (declared shelf) unit ≡ Some i → right ≡ true → admitted card shelf store rows unit right ≡ At i
+  pub let_in : (i : ℕ) → sound_of card shelf store rows ≡ true → find_in (declared shelf) unit ≡ Some i → right ≡ true → admitted card shelf store rows unit right ≡ Ok i
   unfolding admitted at_unit
   let_in i e f r = rw (e, f, r)
 
 -- an event's outcome is that of its way in
-module _ {X : Type 0} (inside outside : ℕ → X) (d : A.Admitted) where
-  pub decided_at : (i : ℕ) → d ≡ At i → inside i ≡ decided d inside outside
+module _ {X : Type 0} (inside outside : ℕ → X) (d : Result ℕ ℕ) where
+  pub decided_at : (i : ℕ) → d ≡ Ok i → inside i ≡ decided d inside outside
   unfolding decided
   decided_at i e = rw e
 
-  pub decided_refused : (n : ℕ) → d ≡ Refused n → outside n ≡ decided d inside outside
+  pub decided_refused : (n : ℕ) → d ≡ Err n → outside n ≡ decided d inside outside
   unfolding decided
   decided_refused n e = rw e
 
 -- what holds of it either way; and of two outcomes of one way in
-pub decided_all : {X : Type 0} (P : X → Type 0) (inside outside : ℕ → X) (d : A.Admitted) → ((i : ℕ) → d ≡ At i → P (inside i)) → ((n : ℕ) → P (outside n)) → P (decided d inside outside)
+pub decided_all : {X : Type 0} (P : X → Type 0) (inside outside : ℕ → X) (d : Result ℕ ℕ) → ((i : ℕ) → d ≡ Ok i → P (inside i)) → ((n : ℕ) → P (outside n)) → P (decided d inside outside)
 unfolding decided
-decided_all P inside outside (At i) p q = p i refl
-decided_all P inside outside (Refused n) p q = q n
+decided_all P inside outside (Ok i) p q = p i refl
+decided_all P inside outside (Err n) p q = q n
 
-pub decided_both : {X Y Z : Type 0} (f : X → Z) (g : Y → Z) (inside outside : ℕ → X) (within without : ℕ → Y) (d : A.Admitted) → ((i : ℕ) → d ≡ At i → f (inside i) ≡ g (within i)) → ((n : ℕ) → f (outside n) ≡ g (without n)) → f (decided d inside outside) ≡ g (decided d within without)
+pub decided_both : {X Y Z : Type 0} (f : X → Z) (g : Y → Z) (inside outside : ℕ → X) (within without : ℕ → Y) (d : Result ℕ ℕ) → ((i : ℕ) → d ≡ Ok i → f (inside i) ≡ g (within i)) → ((n : ℕ) → f (outside n) ≡ g (without n)) → f (decided d inside outside) ≡ g (decided d within without)
 unfolding decided
-decided_both f g inside outside within without (At i) p q = p i refl
-decided_both f g inside outside within without (Refused n) p q = q n
+decided_both f g inside outside within without (Ok i) p q = p i refl
+decided_both f g inside outside within without (Err n) p q = q n
 
 -- a unit that a sound shelf has
 module _ (card : Card) (shelf : Shelf) (store rows : ℕ) where
@@ -80,11 +78,11 @@ pub record LetIn (card : Card) (shelf : Shelf) (store rows unit : ℕ) (right : 
   pub fits : right ≡ true
 
 module _ (card : Card) (shelf : Shelf) (store rows unit : ℕ) (right : Bool) (i : ℕ) where
-  pub at_let_in : admitted card shelf store rows unit right ≡ At i → LetIn card shelf store rows unit right i
+  pub at_let_in : admitted card shelf store rows unit right ≡ Ok i → LetIn card shelf store rows unit right i
   unfolding admitted at_unit
   at_let_in e = pick (sound_of card shelf store rows) refl (find_in (declared shelf) unit) refl right refl e
     where
-      pick : (s : Bool) → sound_of card shelf store rows ≡ s → (f : Option ℕ) → find_in (declared shelf) unit ≡ f → (r : Bool) → right ≡ r → cond s (at_unit f r) (Refused 8) ≡ At i → LetIn card shelf store rows unit right i
+      pick : (s : Bool) → sound_of card shelf store rows ≡ s → (f : Option ℕ) → find_in (declared shelf) unit ≡ f → (r : Bool) → right ≡ r → cond s (at_unit f r) (Err 8) ≡ Ok i → LetIn card shelf store rows unit right i
       pick true es (Some j) ef true er h = let q : j ≡ i = cc in record { sound = es; found = ef ∙ ap Some q; fits = er }
       pick true es (Some j) ef false er h = let z : ◌≡◌ {A = ℕ} 0 1 = cc in absurd (omega arith)
       pick true es None ef r er h = let z : ◌≡◌ {A = ℕ} 0 1 = cc in absurd (omega arith)

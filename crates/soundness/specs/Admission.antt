@@ -1,5 +1,5 @@
 -- What every event asks before anything else. Assumes nothing.
-use Rattle.std.specs.Prelude.{ℕ, ◌<◌, Bool, true, cond, List, slice_index_or, slice_set, None, Option, Some}
+use Rattle.std.specs.Prelude.{ℕ, ◌<◌, Bool, true, cond, List, slice_index_or, slice_set, None, Option, Some, Err, Ok, Result}
 use Rattle.card.specs.declared.Card.{Card}
 use Rattle.outlet.specs.Outlets.{Given, RingFits, RingsFit}
 use Rattle.outlet.specs.declared.Ring.{Ring}
@@ -11,42 +11,35 @@ use Rattle.shelf.specs.Shelf.{Shelf}
 use Rattle.state.specs.Bytes.{shelf_in}
 use Rattle.soundness.specs.State.{sound_of, SideFits}
 use Rattle.soundness.specs.Soundings.{formed_all}
-use Rattle.soundness.specs.declared.Admitted as A
-use Rattle.soundness.specs.declared.Admitted.TheVariants.{At, Refused}
-use Rattle.soundness.specs.declared.Place.{Place}
 
 -- "9 Unit: unit not declared", "10 Length: cell slice or buffer not 53 bytes, frame not 57"
-unfoldable pub at_unit : Option ℕ → Bool → A.Admitted
-at_unit (Some place) right = cond right (At place) (Refused 10)
-at_unit None right = Refused 9
+unfoldable pub at_unit : Option ℕ → Bool → Result ℕ ℕ
+at_unit (Some place) right = cond right (Ok place) (Err 10)
+at_unit None right = Err 9
 
 -- "Refusals 8 to 10, in that order"
-unfoldable pub admitted : Card → Shelf → ℕ → ℕ → ℕ → Bool → A.Admitted
-admitted card shelf store rows unit right = cond (sound_of card shelf store rows) (at_unit (find_in (declared shelf) unit) right) (Refused 8)
+unfoldable pub admitted : Card → Shelf → ℕ → ℕ → ℕ → Bool → Result ℕ ℕ
+admitted card shelf store rows unit right = cond (sound_of card shelf store rows) (at_unit (find_in (declared shelf) unit) right) (Err 8)
 
 -- the same of a state in lent bytes: bytes that are no link, no mode or no mark, where they say one of a declared unit, are no state
-unfoldable pub admitted_in : Card → List ℕ → ℕ → ℕ → ℕ → Bool → A.Admitted
-admitted_in card b store rows unit right = cond (formed_all b) (admitted card (shelf_in b) store rows unit right) (Refused 8)
+unfoldable pub admitted_in : Card → List ℕ → ℕ → ℕ → ℕ → Bool → Result ℕ ℕ
+admitted_in card b store rows unit right = cond (formed_all b) (admitted card (shelf_in b) store rows unit right) (Err 8)
 
 -- what comes of lent bytes that are a state, and of others
 abbrev pub formed_or : {X : Type 0} → List ℕ → X → X → X
 formed_or b good bad = cond (formed_all b) good bad
 
 -- what an event does where it is let in at a place, and where it is refused with a number
-unfoldable pub decided : {X : Type 0} → A.Admitted → (ℕ → X) → (ℕ → X) → X
-decided (At place) inside outside = inside place
-decided (Refused number) inside outside = outside number
+unfoldable pub decided : {X : Type 0} → Result ℕ ℕ → (ℕ → X) → (ℕ → X) → X
+decided (Ok place) inside outside = inside place
+decided (Err number) inside outside = outside number
 
 -- which row is read
-unfoldable pub told_apart : A.Admitted → Place
-told_apart (At place) = record { number = 0; at = place }
-told_apart (Refused number) = record { number = number; at = 0 }
+abbrev pub counted : Card → Shelf → ℕ → ℕ → ℕ → Result ℕ ℕ
+counted card shelf store rows unit = admitted card shelf store rows unit true
 
-abbrev pub counted : Card → Shelf → ℕ → ℕ → ℕ → Place
-counted card shelf store rows unit = told_apart (admitted card shelf store rows unit true)
-
-abbrev pub counted_in : Card → List ℕ → ℕ → ℕ → ℕ → Place
-counted_in card b store rows unit = told_apart (admitted_in card b store rows unit true)
+abbrev pub counted_in : Card → List ℕ → ℕ → ℕ → ℕ → Result ℕ ℕ
+counted_in card b store rows unit = admitted_in card b store rows unit true
 
 -- the unit in a place, and the shelf with another unit there
 abbrev pub unit_at : Shelf → ℕ → U.Unit

@@ -8,7 +8,7 @@ ghost use Rattle.soundness.specs.State.{roomy as roomy_in, nobody_or};
 ghost use Rattle.soundness.specs.Lanes.{highest_link, lesser, settings_at, limits_at, rings_at, fixed_at, lane_at, lane_good, lanes};
 ghost use Rattle.soundness.specs.Numbered.{standing as standing_of, note_at, Notes, place_in, marks, ask_in, asks_held, grant_in, cells_in, how_many, Word, noted_by, noted_in, none, held_in, numbers_good};
 ghost use Rattle.soundness.specs.Soundings.{sound_in, looked};
-ghost use Rattle.soundness.specs.Admission.{admitted_in, told_apart, counted_in};
+ghost use Rattle.soundness.specs.Admission.{admitted_in, counted_in};
 
 use arbiter::NOBODY;
 use card::Card;
@@ -427,52 +427,35 @@ pub fn sound(card: Card, s: &[u8], store: usize, rows: usize, held: &mut [u8; 32
     look(card, s, store, rows, 0, held) != 1
 }
 
-// The unit stands in this place, or the event is refused with this number.
-#[derive(Clone, Copy)]
-pub enum Admitted {
-    At(usize),
-    Refused(u8),
-}
-
-// Which row is read: the one in a place, with number 0, or none, with the number of the refusal.
-#[derive(Clone, Copy)]
-pub struct Place {
-    pub number: u8,
-    pub at: usize,
-}
-
-// Whether an event at the unit with this number is let in; whether its slice has the right length.
-pub fn admit(card: Card, s: &[u8], store: usize, rows: usize, unit: u8, right: bool) -> Admitted
+// The place of the unit with this number where an event is let in there, or the number of the refusal; whether its slice has the right length.
+pub fn admit(
+    card: Card,
+    s: &[u8],
+    store: usize,
+    rows: usize,
+    unit: u8,
+    right: bool,
+) -> Result<usize, u8>
     requires { length s.now ≡ 2048 }
     ensures { result ≡ admitted_in card s.now store rows unit right }
 {
     let mut held = [0; 32];
     let note = look(card, s, store, rows, unit, &mut held);
     if note == 1 {
-        return Admitted::Refused(8);
+        return Err(8);
     }
     if note == 0 {
-        return Admitted::Refused(9);
+        return Err(9);
     }
     if !right {
-        return Admitted::Refused(10);
+        return Err(10);
     }
-    Admitted::At(place_of(note))
+    Ok(place_of(note))
 }
 
-// The same as a struct.
-fn told_apart(a: Admitted) -> Place
-    ensures { result ≡ told_apart a }
-{
-    match a {
-        Admitted::At(at) => Place { number: 0, at },
-        Admitted::Refused(number) => Place { number, at: 0 },
-    }
-}
-
-// Which row is read for the unit with this number.
-pub fn counted(card: Card, s: &[u8; 2048], store: &[u8], rows: usize, unit: u8) -> Place
+// Which row is read for the unit with this number, or the number of the refusal.
+pub fn counted(card: Card, s: &[u8; 2048], store: &[u8], rows: usize, unit: u8) -> Result<usize, u8>
     ensures { result ≡ counted_in card s.now (length store.now) rows unit }
 {
-    told_apart(admit(card, s, store.len(), rows, unit, true))
+    admit(card, s, store.len(), rows, unit, true)
 }

@@ -11,7 +11,7 @@ ghost use Rattle.state.specs.Placing.{zeros, fresh_bytes, link_byte, mode_byte, 
 use arbiter::Arbiter;
 use header::Link;
 use outlet::{Limits, Mode, Outlet, Ring};
-use shelf::{Found, Settings, Side, Unit};
+use shelf::{Settings, Side, Unit};
 
 pub fn link_of(b: u8) -> Link
     ensures { result ≡ link_of b }
@@ -174,8 +174,8 @@ pub fn put_byte(s: &mut [u8], c: usize, i: usize, value: u8)
     s[c * 32 + i] = value;
 }
 
-// Where the unit with this number stands.
-pub fn find(s: &[u8], number: u8) -> Found
+// Where the unit with this number stands among the declared ones.
+pub fn find(s: &[u8], number: u8) -> Option<usize>
     requires { length s.now ≡ 2048 }
     ensures { result ≡ find_in (declared (shelf_in s.now)) number }
 {
@@ -183,11 +183,11 @@ pub fn find(s: &[u8], number: u8) -> Found
     let mut i: usize = 0;
     while i < end {
         if at(s, 0, i) == number {
-            return Found::At(i);
+            return Some(i);
         }
         i += 1;
     }
-    Found::Nothing
+    None
 }
 
 // What each unit number asks at.

@@ -21,7 +21,6 @@ use judge::{Owner, Verdict};
 use line::{Line, Reading, Wrong};
 use lookup::Record;
 use outlet::Outlet;
-use shelf::Found;
 
 // Writes a record at a VPI of a declared unit.
 fn put_path(card: Card, memory: &mut [u8], o: Owner, vpi: u16, r: Record)
@@ -108,7 +107,7 @@ fn join(s: &mut [u8], number: u8, session: u8)
     requires { length s.old ≡ 2048 }
     ensures { s.new ≡ joined_at s.old (find_in (declared_in (shelf_in s.old)) number) session }
 {
-    let Found::At(i) = state::find(s, number) else {
+    let Some(i) = state::find(s, number) else {
         return;
     };
     state::join(s, i, session);

@@ -12,8 +12,7 @@ ghost use Rattle.taking.specs.InPlace.{state_at, take_out, take_state, take_buff
 use answer::{Answer, Single};
 use card::Card;
 use header::Link;
-use outlet::{Leaving, Outlet};
-use soundness::Admitted;
+use outlet::Outlet;
 
 // Writes a line cell: header, check, payload. The payload goes by way of a local array: the compiler then knows that the
 // two do not overlap, and copies in words.
@@ -44,7 +43,7 @@ fn take_at(s: &mut [u8], place: usize, store: &[u8], buffer: &mut [u8]) -> Singl
     ensures kept { (s.new ≡ state_at s.old place) × (buffer.new ≡ buffer_at (shelf_in s.old) place store.now buffer.old) }
 {
     let outlet = state::outlet_at(s, place);
-    let Leaving::Queue(queue) = outlet::leaving_of(outlet) else {
+    let Some(queue) = outlet::leaving_of(outlet) else {
         return answer::uncounted(Answer::Empty);
     };
     let limits = outlet.limits;
@@ -71,7 +70,7 @@ pub fn take(
     ensures fits { ((outcome_by result).rises.to ≤ 32) × ((outcome_by result).rises.to ≤ rows) }
 {
     match soundness::admit(card, s, store.len(), rows, unit, buffer.len() == 53) {
-        Admitted::At(place) => take_at(s, place, store, buffer),
-        Admitted::Refused(number) => answer::uncounted(Answer::Refused(number)),
+        Ok(place) => take_at(s, place, store, buffer),
+        Err(number) => answer::uncounted(Answer::Refused(number)),
     }
 }

@@ -12,16 +12,16 @@ pub send-requires : goal.send-requires
 send-requires c =
     let s = c in
     let b = s.args.s.now in
-    let e = sym c.find.ensures ∙ c.in-At.is in
+    let e = sym c.find.ensures ∙ c.in-Some.is in
     let w = ((find_at (get_or b 803 0) (declared (shelf_in b)) _).0 e).inside in
     (s.requires.0, s.requires.1, omega (arith, w, declared_length (shelf_in b) (units_length b 0 32)), s.requires.2, s.requires.3)
 
-pub returns-in-At : goal.returns-in-At
+pub returns-in-Some : goal.returns-in-Some
 unfolding listened_by store_by buffer_by state_by
-returns-in-At c =
+returns-in-Some c =
     let a = c.args in
     let b = a.s.now in
-    let e = sym (sym c.find.ensures ∙ c.in-At.is) in
+    let e = sym (sym c.find.ensures ∙ c.in-Some.is) in
     let w = c.send.ensures in record {
       each_after = w.each_after ∙ ap (λ x. heeded_of (listened_by x (shelf_in b) a.store.now a.each.now)) e;
       kept = (
@@ -30,13 +30,13 @@ returns-in-At c =
       );
     }
 
-pub returns-in-Nothing : goal.returns-in-Nothing
+pub returns-in-None : goal.returns-in-None
 unfolding listened_by store_by buffer_by state_by
-returns-in-Nothing c =
+returns-in-None c =
     let s = c in
     let a = s.args in
     let b = a.s.now in
-    let e = sym (sym c.find.ensures ∙ c.in-Nothing.is) in record {
+    let e = sym (sym c.find.ensures ∙ c.in-None.is) in record {
       each_after = c.silence.ensures a.each.now ∙ ap (λ x. heeded_of (listened_by x (shelf_in b) a.store.now a.each.now)) e;
       kept = (
         ap (λ x. state_by x b a.store.now) e,

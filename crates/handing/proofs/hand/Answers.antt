@@ -16,18 +16,18 @@ hand_at-requires c =
     let a = c.args in
     let b = a.s.now in
     let long : length b ≡ 2048 = search rules in
-    let e = sym c.admit.ensures ∙ c.in-At.is in
+    let e = sym c.admit.ensures ∙ c.in-Ok.is in
     let w = in_place a.card b (length a.store.now) a.rows a.unit (eqb (length a.cell.now) 56) _ e in
     (long, eqb-true (length a.cell.now) 56 w.let_in.fits, w.housed)
 
-pub returns-in-At : goal.returns-in-At
-returns-in-At c =
+pub returns-in-Ok : goal.returns-in-Ok
+returns-in-Ok c =
     let a = c.args in
     let b = a.s.now in
     let store = length a.store.now in
     let right = eqb (length a.cell.now) 56 in
-    let i = c.in-At.place in
-    let e = sym c.admit.ensures ∙ c.in-At.is in
+    let i = c.in-Ok.place in
+    let e = sym c.admit.ensures ∙ c.in-Ok.is in
     let done = c.hand_at.ensures in (
       done.result_value ∙ came_in outcome_of (hand_at (shelf_in b)) (refused (shelf_in b)) (refused_with 8) a.card b store a.rows a.unit right i e,
       (
@@ -36,15 +36,15 @@ returns-in-At c =
       ),
     )
 
-pub returns-in-Refused : goal.returns-in-Refused
+pub returns-in-Err : goal.returns-in-Err
 unfolding spread
-returns-in-Refused c =
+returns-in-Err c =
     let a = c.args in
     let b = a.s.now in
     let store = length a.store.now in
     let right = eqb (length a.cell.now) 56 in
-    let n = c.in-Refused.number in
-    let e = sym c.admit.ensures ∙ c.in-Refused.is in (
+    let n = c.in-Err.number in
+    let e = sym c.admit.ensures ∙ c.in-Err.is in (
       ap outcome_by c.uncounted.ensures ∙ kept_out outcome_of (hand_at (shelf_in b)) (refused (shelf_in b)) (refused_with 8) a.card b store a.rows a.unit right n e refl,
       (
         decided_refused _ _ _ _ e,

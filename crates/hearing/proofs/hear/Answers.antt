@@ -11,23 +11,23 @@ use Rattle.soundness.proofs.InPlace.{LetInPlace, in_place}
 use Rattle.hearing.proofs.InPlace.{out_at, store_at_lem, out_refused, store_refused}
 use borrow.Author.Rules.{rules}
 use Rattle.hearing.proofs.hear.Goals as goal
-use Rattle.hearing.proofs.hear.Goals.{In-At}
+use Rattle.hearing.proofs.hear.Goals.{In-Ok}
 
-let_in : (c : In-At) → let a = c.args in LetInPlace a.card a.s.now (length a.store.now) a.rows a.unit (eqb (length a.frame.now) 57) c.in-At.place
-let_in c = let a = c.args in in_place a.card a.s.now (length a.store.now) a.rows a.unit (eqb (length a.frame.now) 57) _ (sym c.admit.ensures ∙ c.in-At.is)
+let_in : (c : In-Ok) → let a = c.args in LetInPlace a.card a.s.now (length a.store.now) a.rows a.unit (eqb (length a.frame.now) 57) c.in-Ok.place
+let_in c = let a = c.args in in_place a.card a.s.now (length a.store.now) a.rows a.unit (eqb (length a.frame.now) 57) _ (sym c.admit.ensures ∙ c.in-Ok.is)
 
 pub hear_at-requires : goal.hear_at-requires
 hear_at-requires c =
     let a = c.args in
-    let l = let_in (goal.at.hear_at-requires c).In-At in
+    let l = let_in (goal.at.hear_at-requires c).In-Ok in
     let long : length a.s.now ≡ 2048 = search rules in
     (long, eqb-true (length a.frame.now) 57 l.let_in.fits, l.housed)
 
-pub returns-in-At : goal.returns-in-At
-returns-in-At c =
+pub returns-in-Ok : goal.returns-in-Ok
+returns-in-Ok c =
     let a = c.args in
-    let e = sym c.admit.ensures ∙ c.in-At.is in
-    let l = let_in (goal.at.returns-in-At c).In-At in
+    let e = sym c.admit.ensures ∙ c.in-Ok.is in
+    let l = let_in (goal.at.returns-in-Ok c).In-Ok in
     let h = c.hear_at.ensures in record {
       result_value = (
         h.result_value ∙ out_at a.card a.s.now a.rows a.unit a.frame.now (length a.store.now) _ e,
@@ -36,11 +36,11 @@ returns-in-At c =
       fits = subst (λ (x : Outcome). (x.rises.to ≤ 32) × (x.rises.to ≤ a.rows)) (sym h.result_value) (let b = l.below in omega arith, let r = l.row in omega arith);
     }
 
-pub returns-in-Refused : goal.returns-in-Refused
+pub returns-in-Err : goal.returns-in-Err
 unfolding spread
-returns-in-Refused c =
+returns-in-Err c =
     let a = c.args in
-    let e = sym c.admit.ensures ∙ c.in-Refused.is in record {
+    let e = sym c.admit.ensures ∙ c.in-Err.is in record {
       result_value = (
         ap outcome_by c.uncounted.ensures ∙ out_refused a.card a.s.now a.rows a.unit a.frame.now (length a.store.now) _ e,
         (decided_refused _ _ _ _ e, store_refused a.card a.s.now a.rows a.unit a.frame.now a.store.now _ e),

@@ -18,19 +18,19 @@ pub settings_at-settings-requires : goal.settings_at-settings-requires
 settings_at-settings-requires c =
     let s = c in
     let b = s.args.s.now in
-    (s.requires, found_in (shelf_in b) s.args.number c.in-At.at (units_length b 0 32) (sym c.find.ensures ∙ c.in-At.is))
+    (s.requires, found_in (shelf_in b) s.args.number c.in-Some.at (units_length b 0 32) (sym c.find.ensures ∙ c.in-Some.is))
 
 pub place_at-requires : goal.place_at-requires
 place_at-requires c =
     let s = c in
     let b = s.args.s.now in
-    (s.requires, found_in (shelf_in b) s.args.number c.in-At.at (units_length b 0 32) (sym c.find.ensures ∙ c.in-At.is))
+    (s.requires, found_in (shelf_in b) s.args.number c.in-Some.at (units_length b 0 32) (sym c.find.ensures ∙ c.in-Some.is))
 
 pub returns : goal.returns
 unfolding owner_of unit_by
 returns c =
     let s = c in
     let b = s.args.s.now in
-    let e = sym c.find.ensures ∙ c.in-At.is in
-    let inside = found_in (shelf_in b) s.args.number c.in-At.at (units_length b 0 32) e in
-    ((λ t. record { known = true; top = (c.settings_at-settings.ensures t).top; place = c.place_at.ensures t; at = c.in-At.at }) ∙ ap (owner_is c.in-At.at) (sym (unit_at_lem b c.in-At.at blank inside)) ∙ ap (owner_at (shelf_in b)) (sym e), inside)
+    let e = sym c.find.ensures ∙ c.in-Some.is in
+    let inside = found_in (shelf_in b) s.args.number c.in-Some.at (units_length b 0 32) e in
+    ((λ t. record { known = true; top = (c.settings_at-settings.ensures t).top; place = c.place_at.ensures t; at = c.in-Some.at }) ∙ ap (owner_is c.in-Some.at) (sym (unit_at_lem b c.in-Some.at blank inside)) ∙ ap (owner_at (shelf_in b)) (sym e), inside)

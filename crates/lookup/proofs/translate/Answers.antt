@@ -38,4 +38,4 @@ returns c =
     let s = record_at a.card a.memory.now in
     let h = c.read-h.result in
     let e : translated s a.link a.top a.place a.word ≡ by_fields s a.top a.place h = ap (by_fields s a.top a.place) (sym c.read-h.ensures) in
-    c.by_vpi.ensures ∙ sym (e ∙ by_record s a.top a.place h c.if-h.false c.if-top-h.false ∙ ap (λ g. by_got s g h) (sym c.get.ensures ∙ c.in-Is.is))
+    c.by_vpi.ensures ∙ sym (e ∙ by_record s a.top a.place h c.if-h.false c.if-top-h.false ∙ ap (λ g. by_got s g h) (sym c.get.ensures ∙ c.in-Some.is))

@@ -6,13 +6,13 @@ use Rattle.named.proofs.unit.Goals as goal
 
 pub put_unit-requires : goal.put_unit-requires
 put_unit-requires c =
-    let below = found_below c.args.s.now c.args.number _ (sym c.find.ensures ∙ c.in-At.is) in
+    let below = found_below c.args.s.now c.args.number _ (sym c.find.ensures ∙ c.in-Some.is) in
     (search rules, below, search rules)
 
-pub returns-in-At : goal.returns-in-At
+pub returns-in-Some : goal.returns-in-Some
 unfolding unit_text
-returns-in-At c = rw (sym c.find.ensures ∙ c.in-At.is) c.put_unit.ensures.0
+returns-in-Some c = rw (sym c.find.ensures ∙ c.in-Some.is) c.put_unit.ensures.0
 
-pub returns-in-Nothing : goal.returns-in-Nothing
+pub returns-in-None : goal.returns-in-None
 unfolding unit_text
-returns-in-Nothing c = rw (sym c.find.ensures ∙ c.in-Nothing.is) c.put.ensures
+returns-in-None c = rw (sym c.find.ensures ∙ c.in-None.is) c.put.ensures

@@ -1,9 +1,8 @@
-use Rattle.std.proofs.Common.{◌≡◌, true, sym, ap, ◌∙◌, Some}
+use Rattle.std.proofs.Common.{◌≡◌, true, sym, ap, ◌∙◌, Some, Ok}
 use Rattle.shelf.specs.Shelves.{declared, find_in}
 use Rattle.state.specs.Bytes.{shelf_in}
 use Rattle.soundness.specs.Numbered.{place_in}
 use Rattle.soundness.specs.Soundings.{sound_in}
-use Rattle.soundness.specs.declared.Admitted.TheVariants.{At}
 use Rattle.soundness.proofs.InPlace.{unsound_in, stranger_in, misfit_in, comes_in}
 use Rattle.soundness.proofs.Noted.{note_bad, note_good, note_nobody, note_place}
 use Rattle.soundness.proofs.admit.Goals as goal
@@ -39,5 +38,5 @@ pub returns : goal.returns
 returns c =
     let found = c in
     let a = found.args in
-    ap At c.place_of.ensures.0
+    ap Ok c.place_of.ensures.0
     ∙ sym (comes_in a.card a.s.now a.store a.rows a.unit a.right (good (goal.at.returns c).Else-note-eq1) _ (there (goal.at.returns c).Else-note-eq0) (c.if-not-right.false))

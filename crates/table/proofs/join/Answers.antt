@@ -15,10 +15,10 @@ pub join-requires : goal.join-requires
 join-requires c =
     let s = c in
     let b = s.args.s.now in
-    (s.requires, found_in (shelf_in b) s.args.number c.in-At.i (units_length b 0 32) (sym c.find.ensures ∙ c.in-At.is))
+    (s.requires, found_in (shelf_in b) s.args.number c.in-Some.i (units_length b 0 32) (sym c.find.ensures ∙ c.in-Some.is))
 
 pub returns : goal.returns
 unfolding joined_at
 returns c =
     let a = c.args in
-    c.join.ensures ∙ ap (λ f. joined_at a.s.now f a.session) (sym (sym c.find.ensures ∙ c.in-At.is))
+    c.join.ensures ∙ ap (λ f. joined_at a.s.now f a.session) (sym (sym c.find.ensures ∙ c.in-Some.is))

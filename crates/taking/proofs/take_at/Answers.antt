@@ -27,8 +27,8 @@ get_cell-requires c =
     let o = c.outlet_at-outlet in
     let l = c.leaving_of in
     let below = c.requires.2.below in
-    let q = c.in-Queue.queue in
-    let e = c.in-Queue.is in
+    let q = c.in-Some.queue in
+    let e = c.in-Some.is in
     let w = c.outlet_at-at.ensures ∙ ap (λ r. slot_at a.place (outlet_slot o.result.limits q r.head)) c.queue-ring.ensures in
     subst (λ n. n + 56 ≤ length a.store.now) (sym w) (inside a.s.now a.place below o.result o.ensures l.result l.ensures q e (length a.store.now) c.requires.2)
 
@@ -38,8 +38,8 @@ hand_out-requires c =
     let o = c.outlet_at-outlet in
     let l = c.leaving_of in
     let below = c.requires.2.below in
-    let q = c.in-Queue.queue in
-    let e = c.in-Queue.is in
+    let q = c.in-Some.queue in
+    let e = c.in-Some.is in
     let w = c.outlet_at-at.ensures ∙ ap (λ r. slot_at a.place (outlet_slot o.result.limits q r.head)) c.queue-ring.ensures in
     let i = subst (λ n. n + 56 ≤ length a.store.now) (sym w) (inside a.s.now a.place below o.result o.ensures l.result l.ensures q e (length a.store.now) c.requires.2) in
     (cell_length a.store.now c.outlet_at-at.result c.get_cell.result.now i c.get_cell.ensures, c.requires.1)
@@ -50,8 +50,8 @@ put_ring-requires c =
     let o = c.outlet_at-outlet in
     let l = c.leaving_of in
     let below = c.requires.2.below in
-    let q = c.in-Queue.queue in
-    let e = c.in-Queue.is in
+    let q = c.in-Some.queue in
+    let e = c.in-Some.is in
     let f = few a.s.now a.place below o.result o.ensures l.result l.ensures q e in
     (c.requires.0, omega arith, omega arith, below)
 
@@ -62,8 +62,8 @@ returns c =
     let o = c.outlet_at-outlet in
     let l = c.leaving_of in
     let below = c.requires.2.below in
-    let q = c.in-Queue.queue in
-    let e = c.in-Queue.is in
+    let q = c.in-Some.queue in
+    let e = c.in-Some.is in
     let w = c.outlet_at-at.ensures ∙ ap (λ r. slot_at a.place (outlet_slot o.result.limits q r.head)) c.queue-ring.ensures in
     let r = c.queue-ring.ensures in
     let k = c.link_of-link.ensures ∙ ap link_of c.at.ensures in record {
