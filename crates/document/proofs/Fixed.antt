@@ -1,11 +1,10 @@
 -- What no event changes: the lines, and the settings and limits of the units. Assumes nothing.
-use Rattle.std.specs.Prelude.{None, Some}
+use Rattle.std.specs.Prelude.{None, Some, Option}
 use Prim.Native.Nat.{ℕ}
 use native.Mathlib.Omega.{arith}
 use mathlib.Core.Path.{◌≡◌, refl, sym, ap, ◌∙◌}
 use mathlib.Core.Bool.{Bool, true, false, cond}
 use mathlib.Core.List.{List, [], ◌∷◌, map}
-use mathlib.Core.Option.{Option, none, some}
 use lib.Dec.{eqb}
 use lib.ListN.{length, set}
 use lib.Seq.{map-set_same}
@@ -74,7 +73,7 @@ all_moved [] = refl
 all_moved (u ∷ us) = λ t. unit_moved u t ∷ all_moved us t
 
 -- sending
-pub left_kept : (inlet : List Routed) (control loopback : List (List ℕ)) (u : Unit) (s : Sending) → sending_from inlet control loopback u ≡ some s → given_of s.left ≡ given_of u
+pub left_kept : (inlet : List Routed) (control loopback : List (List ℕ)) (u : Unit) (s : Sending) → sending_from inlet control loopback u ≡ Some s → given_of s.left ≡ given_of u
 unfolding sending_from
 left_kept (r ∷ rest) control loopback u s e = let same : record { cell = data_on_bus r; left = with_inlet u rest } ≡ s = cc in ap (λ x. given_of x.left) (sym same)
 left_kept [] (c ∷ rest) loopback u s e = let same : record { cell = bytes_on_bus c; left = with_control_in u rest } ≡ s = cc in ap (λ x. given_of x.left) (sym same)
@@ -83,8 +82,8 @@ left_kept [] [] [] u s e = let z : ◌≡◌ {A = ℕ} 0 1 = cc in absurd (omega
 
 sent_one : (o : Option Sending) (d : Shelf) (place : ℕ) (buffer : List ℕ) → sending_of (unit_at d place) ≡ o → map given_of (sends_one o d place buffer).units ≡ given d
 unfolding sends_one
-sent_one none d place buffer e = refl
-sent_one (some s) d place buffer e =
+sent_one None d place buffer e = refl
+sent_one (Some s) d place buffer e =
     all_kept d.lines (set d.units place s.left) s.cell
     ∙ map-set_same given_of d.units place s.left blank (left_kept _ _ _ (unit_at d place) s e)
 

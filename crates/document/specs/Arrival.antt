@@ -1,6 +1,5 @@
 -- 01's Arrival. Assumes nothing.
-use Rattle.std.specs.Prelude.{ℕ, cond, ◌&&◌, List, [], ◌∷◌, ◌++◌, eqb, leb, ltb, length, get_or}
-use Rattle.std.proofs.Math.Option.{Option, none, some}
+use Rattle.std.specs.Prelude.{ℕ, cond, ◌&&◌, List, [], ◌∷◌, ◌++◌, eqb, leb, ltb, length, get_or, None, Option, Some}
 use Rattle.octets.specs.Octets.{four, part}
 use Rattle.header.specs.Fields.{fields, word}
 use Rattle.header.specs.Check.{check}
@@ -32,10 +31,10 @@ routed target class vpi vci h payload =
 
 -- "kind 0, `misrouted`; drop, `ignored`; route, VCI kept; page, the VCI's record": the line that serves the cell says it, or there is none
 unfoldable pub way_by : Option Serving → H.Header → List ℕ → Way
-way_by none h payload = lost Misrouted
-way_by (some by_drop) h payload = lost Ignored
-way_by (some (by_vp target class outvpi)) h payload = goes (routed target class outvpi h.vci h payload)
-way_by (some (by_vc target class outvpi outvci)) h payload = goes (routed target class outvpi outvci h payload)
+way_by None h payload = lost Misrouted
+way_by (Some by_drop) h payload = lost Ignored
+way_by (Some (by_vp target class outvpi)) h payload = goes (routed target class outvpi h.vci h payload)
+way_by (Some (by_vc target class outvpi outvci)) h payload = goes (routed target class outvpi outvci h payload)
 
 -- "VPI 0 with VCI 0: `ignored`. Then the record for the VPI as that link reads it: above the top .., `misrouted`"
 unfoldable pub way_for : List Line → Settings → H.Header → List ℕ → Way

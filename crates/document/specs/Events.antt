@@ -1,6 +1,5 @@
 -- The events of documents 01 and 02, and what one gives back. Assumes nothing.
-use Rattle.std.specs.Prelude.{ℕ, List, []}
-use Rattle.std.proofs.Math.Option.{Option, none, some}
+use Rattle.std.specs.Prelude.{ℕ, List, [], None, Option, Some}
 use Rattle.answer.specs.Answers.{number_of}
 use Rattle.answer.specs.declared.Answer as A
 use Rattle.answer.specs.declared.Counters as C
@@ -27,13 +26,13 @@ bytes_of (collect unit buffer) = buffer
 
 -- the unit that an event names; a frame is every unit's
 unfoldable pub named : Event → Option ℕ
-named (arrive unit cell) = some unit
-named (frame buffer) = none
-named (hear unit heard) = some unit
-named (take_cell unit buffer) = some unit
-named (count unit) = some unit
-named (hand unit cell) = some unit
-named (collect unit buffer) = some unit
+named (arrive unit cell) = Some unit
+named (frame buffer) = None
+named (hear unit heard) = Some unit
+named (take_cell unit buffer) = Some unit
+named (count unit) = Some unit
+named (hand unit cell) = Some unit
+named (collect unit buffer) = Some unit
 
 -- what an event says: an answer, or the counters of a unit
 pub data Said : Type 0 where

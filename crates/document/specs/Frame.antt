@@ -1,6 +1,5 @@
 -- 01's Frame, with 02's moves before it and 02's order of sending. Assumes nothing.
-use Rattle.std.specs.Prelude.{ℕ, ◌+◌, ◌%◌, ◌^◌, Bool, false, ◌||◌, List, [], ◌∷◌, ◌++◌, map, drop, set, replicate, None, Some}
-use Rattle.std.proofs.Math.Option.{Option, none, some}
+use Rattle.std.specs.Prelude.{ℕ, ◌+◌, ◌%◌, ◌^◌, Bool, false, ◌||◌, List, [], ◌∷◌, ◌++◌, map, drop, set, replicate, None, Some, Option}
 use Rattle.octets.specs.Octets.{part}
 use Rattle.bus.specs.Routing.{routing}
 use Rattle.bus.specs.Frame.{cell as on_bus, sealed, carried, returned}
@@ -121,18 +120,18 @@ pub record Sending : Type 0 where
   pub left : Unit
 
 unfoldable pub sending_from : List Routed → List (List ℕ) → List (List ℕ) → Unit → Option Sending
-sending_from (r ∷ rest) control loopback u = some (record { cell = data_on_bus r; left = with_inlet u rest })
-sending_from [] (c ∷ rest) loopback u = some (record { cell = bytes_on_bus c; left = with_control_in u rest })
-sending_from [] [] (c ∷ rest) u = some (record { cell = bytes_on_bus c; left = with_loopback_in u rest })
-sending_from [] [] [] u = none
+sending_from (r ∷ rest) control loopback u = Some (record { cell = data_on_bus r; left = with_inlet u rest })
+sending_from [] (c ∷ rest) loopback u = Some (record { cell = bytes_on_bus c; left = with_control_in u rest })
+sending_from [] [] (c ∷ rest) u = Some (record { cell = bytes_on_bus c; left = with_loopback_in u rest })
+sending_from [] [] [] u = None
 
 abbrev pub sending_of : Unit → Option Sending
 sending_of u = sending_from u.inlet u.side.controlin u.side.loopbackin u
 
 -- "Then the unit granted in the frame before sends its oldest cell."
 unfoldable pub sends_one : Option Sending → Shelf → ℕ → List ℕ → Sent
-sends_one none shelf place buffer = idle shelf buffer
-sends_one (some s) shelf place buffer =
+sends_one None shelf place buffer = idle shelf buffer
+sends_one (Some s) shelf place buffer =
     let us = set shelf.units place s.left in
     record {
       units = all_hear shelf.lines us s.cell;

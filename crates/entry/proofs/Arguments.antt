@@ -4,8 +4,8 @@
 --     kinds, args, valss, tokens_of, machine     of a list of them, the lifetimes numbered on from j
 --     numbered         the same for the covered function: the number of the rows in place of the rows
 -- Assumes nothing, but for the laws `typed`, which take `Logic`.
+use Rattle.std.specs.Prelude.{None, Option, Some}
 use mathlib.Core.Path.{refl}
-use mathlib.Core.Option.{Option, none, some}
 use Prim.Native.Nat.{ℕ, zero, suc}
 use mathlib.Core.List.{List, [], ◌∷◌, ◌++◌, map}
 use lib.ListN.{length}
@@ -265,8 +265,8 @@ cells (e ∷ E) (v ∷ vs) = (e.0, (e.1, v)) ∷ cells E vs
 -- at the beginning: the result's, the arguments', and n others
 abbrev pub passed : List Arg → ℕ → List (Option Val)
 passed [] zero = []
-passed [] (suc n) = none ∷ passed [] n
-passed (x ∷ xs) n = some (value x) ∷ passed xs n
+passed [] (suc n) = None ∷ passed [] n
+passed (x ∷ xs) n = Some (value x) ∷ passed xs n
 
 -- ---- the plain types: how their machine values are spelled, and that those are of the MIR's type
 abbrev pub card_vals : Card → List Val

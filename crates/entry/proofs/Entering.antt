@@ -5,6 +5,7 @@
 --     risen, replied       the two parts of what is done.        settles     the rows go to `settle` with what rises; the token and the last rows come back
 --     raises, answers      the same two ends of an event at one unit: the rows go to `raise_one` with what is done, whole
 -- Assumes `Logic`, and that the table of calls is monotone under a frame.
+use Rattle.std.specs.Prelude.{None, Option, Some}
 use mathlib.Core.Path.{◌≡◌, refl, sym, ap, subst}
 use Prim.Native.Nat.{ℕ, zero, suc, ◌+◌, ◌≤◌}
 use mathlib.Core.List.{List, [], ◌∷◌}
@@ -42,7 +43,6 @@ use Rattle.answer.specs.declared.Single.{Single}
 use Rattle.answer.specs.Answers.{outcome_by}
 use Rattle.answer.proofs.Calls.{Of, calls_of, calls_plain}
 use Rattle.entry.proofs.Arguments.{lifetimes, shares, Cell, names}
-use mathlib.Core.Option.{Option, none, some}
 use Rattle.answer.specs.contracts.Counters as T
 use Rattle.answer.specs.contracts.Outcome as D
 use Rattle.answer.proofs.Outcome.TheLaws as D'
@@ -86,8 +86,8 @@ module _ {M : Type 1} {𝓤 : Ura M} where
   abbrev pub held : List (Ty × ℕ) → List (Option Val) → List (Item 𝓤) → List (Item 𝓤)
   held [] vs Γ = Γ
   held (e ∷ E) [] Γ = Γ
-  held (e ∷ E) (none ∷ vs) Γ = held E vs (‵ (froom e.0 e.1 0) ∷ ‵ (fdies e.0 e.1) ∷ Γ)
-  held (e ∷ E) (some v ∷ vs) Γ = held E vs (‵ (fat full_share e.0 e.1 0 v) ∷ ‵ (fdies e.0 e.1) ∷ Γ)
+  held (e ∷ E) (None ∷ vs) Γ = held E vs (‵ (froom e.0 e.1 0) ∷ ‵ (fdies e.0 e.1) ∷ Γ)
+  held (e ∷ E) (Some v ∷ vs) Γ = held E vs (‵ (fat full_share e.0 e.1 0 v) ∷ ‵ (fdies e.0 e.1) ∷ Γ)
 
   abbrev pub tokens : List (Lft × Share) → Item 𝓤
   tokens [] = ‵ ftrue

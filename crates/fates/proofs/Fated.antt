@@ -1,4 +1,5 @@
 -- Each fate is met exactly when its fact holds. Assumes nothing.
+use Rattle.std.specs.Prelude.{None, Option, Some}
 use Prim.Native.Nat.{ℕ, ◌<◌, ◌≤◌}
 use native.Mathlib.Omega.{arith}
 use mathlib.Core.Path.{◌≡◌, refl, sym, ap, subst, ◌∙◌}
@@ -6,7 +7,6 @@ use mathlib.Core.Logic.{◌↔◌, ◌⊎◌, inl, inr, ⊎_elim}
 use mathlib.Core.Bool.{Bool, true, false, cond, ◌&&◌, ◌||◌}
 use mathlib.Core.List.Memᴰ
 use mathlib.Core.List.{List, [], ◌∷◌, ◌++◌, Memᴰ as In}
-use mathlib.Core.Option.{Option, none, some}
 use lib.Dec.{eqb, leb, ltb}
 use lib.ListN.{length, get_or}
 use borrow.Author.Tests.{eqb-true, eqb-false, leb-true, leb-false, ltb-true, ltb-false, eq-eqb, ne_eqb, le-leb, lt-leb, lt-ltb, le-ltb}
@@ -99,10 +99,10 @@ module _ (lines : List Line) (u : D-as-Unit) (c : List ℕ) where
 
   by_line : (o : Option Serving) → Routes o → by true false false o ≡ waits (leb 4 (length u.inlet))
   unfolding arrival_by way_by waits
-  by_line none r = absurd r
-  by_line (some by_drop) r = absurd r
-  by_line (some (by_vp target class outvpi)) r = refl
-  by_line (some (by_vc target class outvpi outvci)) r = refl
+  by_line None r = absurd r
+  by_line (Some by_drop) r = absurd r
+  by_line (Some (by_vp target class outvpi)) r = refl
+  by_line (Some (by_vc target class outvpi outvci)) r = refl
 
   -- a cell that goes
   gone : Goes lines u c → arrival_of lines u c ≡ waits (leb 4 (length u.inlet))
@@ -149,16 +149,16 @@ module _ (lines : List Line) (u : D-as-Unit) (c : List ℕ) where
 
       going : right ≡ true → zeros ≡ false → above ≡ false → Routes (line_for lines u c) → ArrivalIs lines u c (waits (leb 4 (length u.inlet)))
       going er ez ea line =
-          room_or (record { check = eqb-true (check (four c 0)) (get_or c 4 0) er; some = nonzero ez; top = ltb-false u.settings.top h.vpi ea; line = line }) (leb 4 (length u.inlet)) refl
+          room_or (record { check = eqb-true (check (four c 0)) (get_or c 4 0) er; Some = nonzero ez; top = ltb-false u.settings.top h.vpi ea; line = line }) (leb 4 (length u.inlet)) refl
 
       go : (r z a : Bool) (o : Option Serving) → right ≡ r → zeros ≡ z → above ≡ a → line_for lines u c ≡ o → ArrivalIs lines u c (by r z a o)
       go false z a o er ez ea eo = eqb-false (check (four c 0)) (get_or c 4 0) er
       go true true a o er ez ea eo = (eqb-true (check (four c 0)) (get_or c 4 0) er, inl ((zeros_iff h).0 ez))
       go true false true o er ez ea eo = (eqb-true (check (four c 0)) (get_or c 4 0) er, nonzero ez, inl (ltb-true u.settings.top h.vpi ea))
-      go true false false none er ez ea eo = (eqb-true (check (four c 0)) (get_or c 4 0) er, nonzero ez, inr eo)
-      go true false false (some by_drop) er ez ea eo = (eqb-true (check (four c 0)) (get_or c 4 0) er, inr (ltb-false u.settings.top h.vpi ea, eo))
-      go true false false (some (by_vp target class outvpi)) er ez ea eo = going er ez ea (subst Routes (sym eo) tt)
-      go true false false (some (by_vc target class outvpi outvci)) er ez ea eo = going er ez ea (subst Routes (sym eo) tt)
+      go true false false None er ez ea eo = (eqb-true (check (four c 0)) (get_or c 4 0) er, nonzero ez, inr eo)
+      go true false false (Some by_drop) er ez ea eo = (eqb-true (check (four c 0)) (get_or c 4 0) er, inr (ltb-false u.settings.top h.vpi ea, eo))
+      go true false false (Some (by_vp target class outvpi)) er ez ea eo = going er ez ea (subst Routes (sym eo) tt)
+      go true false false (Some (by_vc target class outvpi outvci)) er ez ea eo = going er ez ea (subst Routes (sym eo) tt)
 
 -- each arrival fate exactly when its fact holds
 arrival_fate_iff : ArrivalFateIff
@@ -382,12 +382,12 @@ module _ (u v w : ℕ) where
   own a b e = let t = both_true (eqb u a) (eqb v b) e in (eqb-true u a t.0, eqb-true v b t.1)
 
   -- what is given only if a test holds
-  of_only : {X : Type 0} (b : Bool) (x y : X) → only b x ≡ some y → (b ≡ true) × (x ≡ y)
+  of_only : {X : Type 0} (b : Bool) (x y : X) → only b x ≡ Some y → (b ≡ true) × (x ≡ y)
   of_only true x y e = (refl, cc)
   of_only false x y e = let z : ◌≡◌ {A = ℕ} 0 1 = cc in absurd (omega arith)
 
   -- a line that serves it
-  first_line : (l : Line) (lines : List Line) (s : Serving) → serves l u v w ≡ some s → LineIs (l ∷ lines) u v w (some s)
+  first_line : (l : Line) (lines : List Line) (s : Serving) → serves l u v w ≡ Some s → LineIs (l ∷ lines) u v w (Some s)
   unfolding serves
   first_line (Bus bus) lines s e = let z : ◌≡◌ {A = ℕ} 0 1 = cc in absurd (omega arith)
   first_line (L-as-Unit settings limits) lines s e = let z : ◌≡◌ {A = ℕ} 0 1 = cc in absurd (omega arith)
@@ -396,22 +396,22 @@ module _ (u v w : ℕ) where
   first_line (Vp a b target class outvpi) lines s e =
       let x = of_only (eqb u a && eqb v b) (by_vp target class outvpi) s e in
       let o = own a b x.0 in
-      subst (λ y. LineIs (Vp a b target class outvpi ∷ lines) u v w (some y)) x.1 (In.head (λ t. Vp (o.0 t) (o.1 t) target class outvpi))
+      subst (λ y. LineIs (Vp a b target class outvpi ∷ lines) u v w (Some y)) x.1 (In.head (λ t. Vp (o.0 t) (o.1 t) target class outvpi))
   first_line (Drop a b) lines s e =
       let x = of_only (eqb u a && eqb v b) by_drop s e in
       let o = own a b x.0 in
-      subst (λ y. LineIs (Drop a b ∷ lines) u v w (some y)) x.1 (In.head (λ t. Drop (o.0 t) (o.1 t)))
+      subst (λ y. LineIs (Drop a b ∷ lines) u v w (Some y)) x.1 (In.head (λ t. Drop (o.0 t) (o.1 t)))
   first_line (Vc a b c target class outvpi outvci) lines s e =
       let x = of_only ((eqb u a && eqb v b) && eqb w c) (by_vc target class outvpi outvci) s e in
       let two = both_true (eqb u a && eqb v b) (eqb w c) x.0 in
       let o = own a b two.0 in
       let p = eqb-true w c two.1 in
-      subst (λ y. LineIs (Vc a b c target class outvpi outvci ∷ lines) u v w (some y)) x.1 (In.head (λ t. Vc (o.0 t) (o.1 t) (p t) target class outvpi outvci))
+      subst (λ y. LineIs (Vc a b c target class outvpi outvci ∷ lines) u v w (Some y)) x.1 (In.head (λ t. Vc (o.0 t) (o.1 t) (p t) target class outvpi outvci))
 
   -- a line that does not serve it changes nothing
-  other_line : (l : Line) (lines : List Line) (o : Option Serving) → serves l u v w ≡ none → LineIs lines u v w o → LineIs (l ∷ lines) u v w o
+  other_line : (l : Line) (lines : List Line) (o : Option Serving) → serves l u v w ≡ None → LineIs lines u v w o → LineIs (l ∷ lines) u v w o
   unfolding serves
-  other_line l lines none e i = (
+  other_line l lines None e i = (
     λ target class outvpi.
         not_here (Vp u v target class outvpi) (by_vp target class outvpi) (rw (eq-eqb u u refl, eq-eqb v v refl)) (i.0 target class outvpi),
     not_here (Drop u v) by_drop (rw (eq-eqb u u refl, eq-eqb v v refl)) i.1,
@@ -419,12 +419,12 @@ module _ (u v w : ℕ) where
         not_here (Vc u v w target class outvpi outvci) (by_vc target class outvpi outvci) (rw (eq-eqb u u refl, eq-eqb v v refl, eq-eqb w w refl)) (i.2 target class outvpi outvci),
   )
     where
-      not_here : (m : Line) (s : Serving) → serves m u v w ≡ some s → (In m lines → ⊥) → In m (l ∷ lines) → ⊥
+      not_here : (m : Line) (s : Serving) → serves m u v w ≡ Some s → (In m lines → ⊥) → In m (l ∷ lines) → ⊥
       not_here m s some_is away here =
           ⊎_elim (λ q. let f = ap (λ x. serves x u v w) q ∙ e in let z : ◌≡◌ {A = ℕ} 0 1 = cc in omega arith) away (Memᴰ.cases_cons here)
-  other_line l lines (some by_drop) e i = In.tail i
-  other_line l lines (some (by_vp target class outvpi)) e i = In.tail i
-  other_line l lines (some (by_vc target class outvpi outvci)) e i = In.tail i
+  other_line l lines (Some by_drop) e i = In.tail i
+  other_line l lines (Some (by_vp target class outvpi)) e i = In.tail i
+  other_line l lines (Some (by_vc target class outvpi outvci)) e i = In.tail i
 
   -- the latest line that serves it, or none does
   line_serves : (lines : List Line) → LineIs lines u v w (served lines u v w)
@@ -433,8 +433,8 @@ module _ (u v w : ℕ) where
   line_serves (l ∷ lines) = go (serves l u v w) refl (line_serves lines)
     where
       go : (o : Option Serving) → serves l u v w ≡ o → LineIs lines u v w (served lines u v w) → LineIs (l ∷ lines) u v w (either o (served lines u v w))
-      go none e i = other_line l lines (served lines u v w) e i
-      go (some s) e i = first_line l lines s e
+      go None e i = other_line l lines (served lines u v w) e i
+      go (Some s) e i = first_line l lines s e
 
 -- all four
 pub fate_iff : FateIff

@@ -1,12 +1,11 @@
 -- A cell that is said to be queued is held. Assumes nothing.
-use Rattle.std.specs.Prelude.{Some}
+use Rattle.std.specs.Prelude.{Some, None, Option}
 use Prim.Native.Nat.{ℕ, ◌<◌}
 use native.Mathlib.Omega.{arith}
 use mathlib.Core.Path.{◌≡◌, refl, sym, ap, subst, ◌∙◌}
 use mathlib.Core.Logic.{◌↔◌, ◌≢◌}
 use mathlib.Core.Bool.{Bool, true, false, cond, ◌&&◌}
 use mathlib.Core.List.{List, [], ◌∷◌, ◌++◌}
-use mathlib.Core.Option.{Option, none, some}
 use lib.Dec.{eqb, leb, ltb}
 use lib.ListN.{length, length-append, get_or}
 use lib.Seq.{get_or-set_same, get_or-set_other}
@@ -71,10 +70,10 @@ module _ (lines : List Line) (u : D-as-Unit) (c : List ℕ) where
   -- by the line
   by_line : (o : Option Serving) → line_for lines u c ≡ o → Ends (way_by o h payload_of)
   unfolding way_by
-  by_line none e = off arrival.Misrouted (λ q. let z : ◌≡◌ {A = ℕ} 0 1 = cc in omega arith)
-  by_line (some by_drop) e = off arrival.Ignored (λ q. let z : ◌≡◌ {A = ℕ} 0 1 = cc in omega arith)
-  by_line (some (by_vp target class outvpi)) e = on _ (subst (λ o. RoutedBy o h payload_of (routed target class outvpi h.vci h payload_of)) (sym e) refl)
-  by_line (some (by_vc target class outvpi outvci)) e = on _ (subst (λ o. RoutedBy o h payload_of (routed target class outvpi outvci h payload_of)) (sym e) refl)
+  by_line None e = off arrival.Misrouted (λ q. let z : ◌≡◌ {A = ℕ} 0 1 = cc in omega arith)
+  by_line (Some by_drop) e = off arrival.Ignored (λ q. let z : ◌≡◌ {A = ℕ} 0 1 = cc in omega arith)
+  by_line (Some (by_vp target class outvpi)) e = on _ (subst (λ o. RoutedBy o h payload_of (routed target class outvpi h.vci h payload_of)) (sym e) refl)
+  by_line (Some (by_vc target class outvpi outvci)) e = on _ (subst (λ o. RoutedBy o h payload_of (routed target class outvpi outvci h payload_of)) (sym e) refl)
 
   -- by the tests
   ends : Ends (way_of lines u.settings c)
@@ -215,7 +214,7 @@ still_waits lines u x =
     record { inlet = ap (λ (w : Waiting). w.inlet) w; controlin = ap (λ (w : Waiting). w.control) w; loopbackin = ap (λ (w : Waiting). w.loopback) w }
 
 -- 3. whose turn it is, is chosen
-pub is_chosen : (u : D-as-Unit) (f : From) → InTurn u f → chosen_of u ≡ some f
+pub is_chosen : (u : D-as-Unit) (f : From) → InTurn u f → chosen_of u ≡ Some f
 unfolding chosen
 is_chosen u (from_inlet r rest) e = ap (λ l. chosen l u.side.controlin u.side.loopbackin) e
 is_chosen u (from_control c rest) e = λ t. chosen (e.0 t) (e.1 t) u.side.loopbackin

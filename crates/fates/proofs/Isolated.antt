@@ -5,7 +5,6 @@ use native.Mathlib.Omega.{arith}
 use mathlib.Core.Path.{◌≡◌, refl, sym, ap, subst, ◌∙◌}
 use mathlib.Core.Logic.{◌≢◌, inl, inr, ⊎_elim}
 use mathlib.Core.Bool.{Bool, true, false, cond, false≢true}
-use mathlib.Core.Option.{some}
 use mathlib.Core.List.{List, ◌++◌}
 use lib.Dec.{eqb}
 use lib.ListN.{length, length-append, length-take, length-drop, length-set, get_or, take, drop}
@@ -192,7 +191,7 @@ module _ (card : Card) (w : World) (unit : ℕ) (right : Bool) (out : Result ℕ
   -- both
   both : ((number : ℕ) → out (Err number) ≡ w) →
       ((i : ℕ) → Housed i (unit_at w.shelf i) (length w.store) → right ≡ true → OnlyAt i w (out (Ok i))) →
-      (n : ℕ) → some unit ≡ some n → Alone w n (out way)
+      (n : ℕ) → Some unit ≡ Some n → Alone w n (out way)
   both refusal let_in n e = let same : unit ≡ n = cc in subst (λ m. Alone w m (out way)) same (at_place refusal let_in, nowhere refusal)
 
 -- the 56 bytes of an arrived cell
@@ -270,7 +269,7 @@ module _ (w : World) (i : ℕ) (housed : Housed i (unit_at w.shelf i) (length w.
       pick false = only_unit w i _ (in_row w.rows i #taken) w.store (as_was i w.store) (collecting.collected_from u)
 
 -- each event that names a unit
-isolated : (card : Card) (w : World) (e : Event) (unit : ℕ) → named e ≡ some unit → Alone w unit (happens card w e).world
+isolated : (card : Card) (w : World) (e : Event) (unit : ℕ) → named e ≡ Some unit → Alone w unit (happens card w e).world
 unfolding named happens decided settled_to
 isolated card w (arrive unit c) n e =
     both card w unit (eqb (length c) 53)
@@ -325,10 +324,10 @@ module _ (card : Card) (l : Lent) (long : Long l) where
   abbrev r : ℕ
   r = length l.rows
 
-  same_place : (unit n : ℕ) (right : Bool) (i place : ℕ) → some unit ≡ some n → find_in (declared (shelf_in b)) n ≡ Some place → admitted_in card b s r unit right ≡ Ok i → i ≡ place
+  same_place : (unit n : ℕ) (right : Bool) (i place : ℕ) → Some unit ≡ Some n → find_in (declared (shelf_in b)) n ≡ Some place → admitted_in card b s r unit right ≡ Ok i → i ≡ place
   same_place unit n right i place e there way = let f = (in_place card b s r unit right i way).let_in.found in let m : unit ≡ n = cc in cc
 
-  rings : (e : Event) (n : ℕ) → named e ≡ some n → (place : ℕ) → find_in (declared (shelf_in b)) n ≡ Some place → OnlyRings place b (does card l e).lent.state
+  rings : (e : Event) (n : ℕ) → named e ≡ Some n → (place : ℕ) → find_in (declared (shelf_in b)) n ≡ Some place → OnlyRings place b (does card l e).lent.state
   unfolding named does
   rings (arrive unit c) n e place there k apart =
       arrive_other card b l.memory s r unit c long k (λ i way p q x. apart (inl (p, q)) (x ∙ same_place unit n (eqb (length c) 53) i place e there way))
@@ -345,7 +344,7 @@ module _ (card : Card) (l : Lent) (long : Long l) where
   rings (count unit) n e place there k apart = refl
 
 -- a unit that is not declared
-strange : (shelf : Shelf) (e : Event) (n : ℕ) → named e ≡ some n → find_in (declared shelf) n ≡ None → known shelf e ≡ false
+strange : (shelf : Shelf) (e : Event) (n : ℕ) → named e ≡ Some n → find_in (declared shelf) n ≡ None → known shelf e ≡ false
 unfolding named known
 strange shelf (arrive unit c) n e missing = let m : unit ≡ n = cc in ap (λ x. is_at (find_in (declared shelf) x)) m ∙ ap is_at missing
 strange shelf (frame buffer) n e missing = let z : ◌≡◌ {A = ℕ} 0 1 = cc in absurd (omega arith)

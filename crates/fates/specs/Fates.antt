@@ -1,8 +1,7 @@
 -- "Each arriving cell meets exactly one fate, each copy on the bus meets exactly one fate at each unit it addresses": each fate as a fact in document
 -- 01's words, on the document's shelf. Assumes nothing.
-use Rattle.std.specs.Prelude.{ℕ, ◌<◌, ◌≤◌, ◌≡◌, ◌↔◌, ◌⊎◌, length, get_or, Some}
+use Rattle.std.specs.Prelude.{ℕ, ◌<◌, ◌≤◌, ◌≡◌, ◌↔◌, ◌⊎◌, length, get_or, Some, None, Option}
 use mathlib.Core.List.{List, ◌++◌, Memᴰ as In}
-use Rattle.std.proofs.Math.Option.{Option, none, some}
 use Rattle.octets.specs.Octets.{four}
 use Rattle.header.specs.Check.{check}
 use Rattle.header.specs.declared.Header as H
@@ -41,20 +40,20 @@ abbrev pub line_for : List Line → D-as-Unit → List ℕ → Option Serving
 line_for lines u c = served lines (number_of u) (header_of u.settings c).vpi (header_of u.settings c).vci
 
 abbrev pub Routes : Option Serving → Type 0
-Routes none = ⊥
-Routes (some by_drop) = ⊥
-Routes (some (by_vp target class outvpi)) = Unit {0}
-Routes (some (by_vc target class outvpi outvci)) = Unit {0}
+Routes None = ⊥
+Routes (Some by_drop) = ⊥
+Routes (Some (by_vp target class outvpi)) = Unit {0}
+Routes (Some (by_vc target class outvpi outvci)) = Unit {0}
 
 -- that line is in the table; or the table has no line for the unit and the VPI, none for the VCI there
 abbrev pub LineIs : List Line → ℕ → ℕ → ℕ → Option Serving → Type 0
-LineIs lines u v w none =
+LineIs lines u v w None =
     ((target : T.Target) (class outvpi : ℕ) → In (Vp u v target class outvpi) lines → ⊥)
     × (In (Drop u v) lines → ⊥)
     × ((target : T.Target) (class outvpi outvci : ℕ) → In (Vc u v w target class outvpi outvci) lines → ⊥)
-LineIs lines u v w (some by_drop) = In (Drop u v) lines
-LineIs lines u v w (some (by_vp target class outvpi)) = In (Vp u v target class outvpi) lines
-LineIs lines u v w (some (by_vc target class outvpi outvci)) = In (Vc u v w target class outvpi outvci) lines
+LineIs lines u v w (Some by_drop) = In (Drop u v) lines
+LineIs lines u v w (Some (by_vp target class outvpi)) = In (Vp u v target class outvpi) lines
+LineIs lines u v w (Some (by_vc target class outvpi outvci)) = In (Vc u v w target class outvpi outvci) lines
 
 abbrev pub LineServes : Type 0
 LineServes = (lines : List Line) (u v w : ℕ) → LineIs lines u v w (served lines u v w)
@@ -62,7 +61,7 @@ LineServes = (lines : List Line) (u v w : ℕ) → LineIs lines u v w (served li
 -- "a routed cell"
 pub record Goes (lines : List Line) (u : D-as-Unit) (c : List ℕ) : Type 0 where
   pub check : RightCheck c
-  pub some : Zeros (header_of u.settings c) → ⊥
+  pub Some : Zeros (header_of u.settings c) → ⊥
   pub top : (header_of u.settings c).vpi ≤ u.settings.top
   pub line : Routes (line_for lines u c)
 
@@ -71,9 +70,9 @@ pub record Goes (lines : List Line) (u : D-as-Unit) (c : List ℕ) : Type 0 wher
 abbrev pub ArrivalIs : List Line → D-as-Unit → List ℕ → A.Arrival → Type 0
 ArrivalIs lines u c arrival.Hec = RightCheck c → ⊥
 ArrivalIs lines u c arrival.Ignored =
-    RightCheck c × (Zeros (header_of u.settings c) ⊎ (((header_of u.settings c).vpi ≤ u.settings.top) × (line_for lines u c ≡ some by_drop)))
+    RightCheck c × (Zeros (header_of u.settings c) ⊎ (((header_of u.settings c).vpi ≤ u.settings.top) × (line_for lines u c ≡ Some by_drop)))
 ArrivalIs lines u c arrival.Misrouted =
-    RightCheck c × (Zeros (header_of u.settings c) → ⊥) × ((u.settings.top < (header_of u.settings c).vpi) ⊎ (line_for lines u c ≡ none))
+    RightCheck c × (Zeros (header_of u.settings c) → ⊥) × ((u.settings.top < (header_of u.settings c).vpi) ⊎ (line_for lines u c ≡ None))
 ArrivalIs lines u c arrival.Inletfull = Goes lines u c × (4 ≤ length u.inlet)
 ArrivalIs lines u c arrival.Queued = Goes lines u c × (length u.inlet < 4)
 

@@ -1,6 +1,5 @@
 -- A cell that is said to be queued is held, that cell and nothing else, and no other cell is. Assumes nothing.
-use Rattle.std.specs.Prelude.{ℕ, ◌<◌, ◌≡◌, ◌↔◌, ◌≢◌, List, [], ◌∷◌, ◌++◌, length, Some}
-use Rattle.std.proofs.Math.Option.{Option, none, some}
+use Rattle.std.specs.Prelude.{ℕ, ◌<◌, ◌≡◌, ◌↔◌, ◌≢◌, List, [], ◌∷◌, ◌++◌, length, Some, None, Option}
 use Rattle.octets.specs.Octets.{part}
 use Rattle.header.specs.declared.Header as H
 use Rattle.bus.specs.Heard as sort
@@ -23,10 +22,10 @@ use Rattle.fates.specs.Loaded.{FromLoad}
 
 -- "route, VCI kept; page, the VCI's record", "PT and CLP are kept": the routed cell that its line makes of a header and a payload
 abbrev pub RoutedBy : Option Serving → H.Header → List ℕ → Routed → Type 0
-RoutedBy none h bytes r = ⊥
-RoutedBy (some by_drop) h bytes r = ⊥
-RoutedBy (some (by_vp target class outvpi)) h bytes r = r ≡ routed target class outvpi h.vci h bytes
-RoutedBy (some (by_vc target class outvpi outvci)) h bytes r = r ≡ routed target class outvpi outvci h bytes
+RoutedBy None h bytes r = ⊥
+RoutedBy (Some by_drop) h bytes r = ⊥
+RoutedBy (Some (by_vp target class outvpi)) h bytes r = r ≡ routed target class outvpi h.vci h bytes
+RoutedBy (Some (by_vc target class outvpi outvci)) h bytes r = r ≡ routed target class outvpi outvci h bytes
 
 -- a cell arrives at a unit, which is then this one: `queued` exactly when exactly the routed cell stands behind the others
 pub record ArrivalHeld (lines : List Line) (before : D-as-Unit) (c : List ℕ) (after : D-as-Unit) : Type 0 where

@@ -1,6 +1,5 @@
 -- An event at a unit leaves everything else alone. Assumes nothing.
 use Rattle.std.specs.Prelude.{ℕ, ◌+◌, ◌%◌, ◌<◌, ◌≤◌, ◌≡◌, ◌≢◌, ◌⊎◌, List, length, get_or, None, Some}
-use Rattle.std.proofs.Math.Option.{some}
 use Rattle.card.specs.declared.Card.{Card}
 use Rattle.store.specs.Places.{part_of}
 use Rattle.shelf.specs.Shelves.{declared, find_in}
@@ -41,6 +40,6 @@ OnlyRings place before after = (k : ℕ) → (Rings k → k % 32 ≡ place → �
 -- whatever the event is handed; "9 Unit: unit not declared", "Refusals 8 to 10 .. change nothing"
 abbrev pub Isolation : Type 0
 Isolation =
-    (card : Card) (l : Lent) (e : Event) (unit : ℕ) → Long l → named e ≡ some unit →
+    (card : Card) (l : Lent) (e : Event) (unit : ℕ) → Long l → named e ≡ Some unit →
     ((place : ℕ) → find_in (declared (seen l).shelf) unit ≡ Some place → OnlyAt place (seen l) (seen (does card l e).lent) × OnlyRings place l.state (does card l e).lent.state)
     × (find_in (declared (seen l).shelf) unit ≡ None → (does card l e).lent ≡ l)

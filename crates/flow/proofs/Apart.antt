@@ -5,7 +5,6 @@ use native.Mathlib.Omega.{arith}
 use mathlib.Core.Path.{◌≡◌, refl, ap, subst, ◌∙◌}
 use mathlib.Core.Bool.{Bool, true, false, cond, ◌&&◌}
 use mathlib.Core.List.{List, [], ◌∷◌, ◌++◌}
-use mathlib.Core.Option.{some}
 use lib.Dec.{eqb, leb}
 use lib.ListN.{length}
 use borrow.Author.Tests.{eqb-true}
@@ -43,7 +42,7 @@ not_named d unit i other (Some place) t right p = go right (eqb i place) refl
 not_named d unit i other None t right p = refl
 
 -- whatever the event
-rests_there : (d : Shelf) (e : Event) (unit i : ℕ) → named e ≡ some unit → (number_of (unit_at d i) ≡ unit → ⊥) → part_of d e i ≡ rests
+rests_there : (d : Shelf) (e : Event) (unit i : ℕ) → named e ≡ Some unit → (number_of (unit_at d i) ≡ unit → ⊥) → part_of d e i ≡ rests
 unfolding named part_of
 rests_there d (arrive u c) unit i n other = let z : u ≡ unit = cc in not_named d u i (λ x. other (x ∙ z)) (find_in d.units u) refl (eqb (length c) 53) (arrives c)
 rests_there d (frame buffer) unit i n other = let z : ◌≡◌ {A = ℕ} 0 1 = cc in absurd (omega arith)

@@ -1,12 +1,11 @@
 -- What leaves is what the lent bytes hold afterwards, and no class leaves before a lower one. Assumes nothing.
-use Rattle.std.specs.Prelude.{None, Some}
+use Rattle.std.specs.Prelude.{None, Some, Option}
 use Prim.Native.Nat.{ℕ, zero, suc, ◌+◌, ◌<◌, ◌≤◌}
 use native.Mathlib.Omega.{arith}
 use mathlib.Core.Path.{◌≡◌, refl, sym, ap, ap₂, ◌∙◌}
 use mathlib.Core.Logic.{◌⊎◌, inl, inr}
 use mathlib.Core.Bool.{Bool, true, false, cond}
 use mathlib.Core.List.{List, [], ◌∷◌}
-use mathlib.Core.Option.{Option, none, some}
 use lib.Dec.{eqb, ltb}
 use lib.ListN.{length}
 use lib.ListN as lists
@@ -178,14 +177,14 @@ collected_handed d unit buffer = by_found d unit buffer (find_in d.units unit) r
 -- C. a frame
 module _ (d : Shelf) (buffer : List ℕ) where
   -- nobody sends
-  idle_frame : (happens_to d (frame buffer)).bytes ≡ buffer → ((i : ℕ) → out_from d (frame buffer) i ≡ none) → Idle d buffer
+  idle_frame : (happens_to d (frame buffer)).bytes ≡ buffer → ((i : ℕ) → out_from d (frame buffer) i ≡ None) → Idle d buffer
   idle_frame e p = record { left = p; bytes = e }
 
   -- a unit sends its oldest cell, if it has one
   from_inlet : (place : ℕ) → place < length d.units → number_of (unit_at d place) ≡ d.granted → (u : Unit) (o : Option From) → (happens_to d (frame buffer)).bytes ≡ (sends_one (as_sending u o) (moved d) place buffer).bytes → ((i : ℕ) → part_of d (frame buffer) i ≡ moves (sending o place i)) → Framed d buffer ⊎ Idle d buffer
   unfolding sends_one as_sending sending out_by
-  from_inlet place inside named u none e p = inr (idle_frame e (λ i. ap out_by (p i)))
-  from_inlet place inside named u (some f) e p =
+  from_inlet place inside named u None e p = inr (idle_frame e (λ i. ap out_by (p i)))
+  from_inlet place inside named u (Some f) e p =
       inl
       (record {
         place = place;
@@ -266,37 +265,37 @@ pub lowest_first : LowestFirst
 lowest_first d e i q p h l = lower_moved (unit_at d i) (part_of d e i) q p h l
 
 -- E. a cell is sent in its turn
-turn_out : (m : Shelf) (i : ℕ) (g : Option ℕ) (f : From) → out_by (sending_by g m i) ≡ some f → chosen_of (unit_at m i) ≡ some f
+turn_out : (m : Shelf) (i : ℕ) (g : Option ℕ) (f : From) → out_by (sending_by g m i) ≡ Some f → chosen_of (unit_at m i) ≡ Some f
 unfolding sending_by sending out_by
 turn_out m i None f e = let z : ◌≡◌ {A = ℕ} 0 1 = cc in absurd (omega arith)
 turn_out m i (Some place) f e = go (chosen_of (unit_at m place)) refl e
   where
-    pick : (h : From) → chosen_of (unit_at m place) ≡ some h → (b : Bool) → eqb i place ≡ b → out_by (cond b (sends h) (hears (cell_of h))) ≡ some f → chosen_of (unit_at m i) ≡ some f
+    pick : (h : From) → chosen_of (unit_at m place) ≡ Some h → (b : Bool) → eqb i place ≡ b → out_by (cond b (sends h) (hears (cell_of h))) ≡ Some f → chosen_of (unit_at m i) ≡ Some f
     pick h t true q e = ap (λ j. chosen_of (unit_at m j)) (eqb-true i place q) ∙ t ∙ e
     pick h t false q e = let z : ◌≡◌ {A = ℕ} 0 1 = cc in absurd (omega arith)
 
-    go : (o : Option From) → chosen_of (unit_at m place) ≡ o → out_by (sending o place i) ≡ some f → chosen_of (unit_at m i) ≡ some f
-    go none t e = let z : ◌≡◌ {A = ℕ} 0 1 = cc in absurd (omega arith)
-    go (some h) t e = pick h t (eqb i place) refl e
+    go : (o : Option From) → chosen_of (unit_at m place) ≡ o → out_by (sending o place i) ≡ Some f → chosen_of (unit_at m i) ≡ Some f
+    go None t e = let z : ◌≡◌ {A = ℕ} 0 1 = cc in absurd (omega arith)
+    go (Some h) t e = pick h t (eqb i place) refl e
 
 -- an event with a unit's number sends nothing
-pub only_out : (f : Option ℕ) (right : Bool) (i : ℕ) (p : Part) → out_by p ≡ none → out_by (only_at f right i p) ≡ none
+pub only_out : (f : Option ℕ) (right : Bool) (i : ℕ) (p : Part) → out_by p ≡ None → out_by (only_at f right i p) ≡ None
 unfolding only_at out_by
 only_out (Some place) true i p e = go (eqb i place)
   where
-    go : (b : Bool) → out_by (cond b p rests) ≡ none
+    go : (b : Bool) → out_by (cond b p rests) ≡ None
     go true = e
     go false = refl
 only_out (Some place) false i p e = refl
 only_out None right i p e = refl
 
 -- what is sent is sent in a frame, by the unit as it has moved
-pub sent_moved : (d : Shelf) (e : Event) (i : ℕ) (f : From) → out_from d e i ≡ some f → chosen_of (moved_unit (unit_at d i)) ≡ some f
+pub sent_moved : (d : Shelf) (e : Event) (i : ℕ) (f : From) → out_from d e i ≡ Some f → chosen_of (moved_unit (unit_at d i)) ≡ Some f
 unfolding part_of out_by
 sent_moved d (arrive unit c) i f e = let n = only_out (find_in d.units unit) (eqb (length c) 53) i (arrives c) refl in let z : ◌≡◌ {A = ℕ} 0 1 = cc in absurd (omega arith)
 sent_moved d (frame buffer) i f e = go (eqb (length buffer) 57) e
   where
-    go : (b : Bool) → out_by (cond b (moves (turn_of (moved d) i)) rests) ≡ some f → chosen_of (moved_unit (unit_at d i)) ≡ some f
+    go : (b : Bool) → out_by (cond b (moves (turn_of (moved d) i)) rests) ≡ Some f → chosen_of (moved_unit (unit_at d i)) ≡ Some f
     go true e = ap chosen_of (sym (moved_unit_lem d.units i)) ∙ turn_out (moved d) i (find_in (moved d).units d.granted) f e
     go false e = let z : ◌≡◌ {A = ℕ} 0 1 = cc in absurd (omega arith)
 sent_moved d (hear unit x) i f e = let n = only_out (find_in d.units unit) (eqb (length x) 57) i (hears (as_handed x)) refl in let z : ◌≡◌ {A = ℕ} 0 1 = cc in absurd (omega arith)

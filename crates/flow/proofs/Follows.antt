@@ -1,4 +1,5 @@
 -- A cell that goes to the bus follows a line of the table. Assumes nothing.
+use Rattle.std.specs.Prelude.{None, Option, Some}
 use Prim.Native.Nat.{ℕ, ◌/◌, ◌^◌, ◌≤◌, ◌<◌}
 use native.Mathlib.Nat.{mod-lt}
 use native.Mathlib.Omega.{arith}
@@ -7,7 +8,6 @@ use mathlib.Core.Logic.{◌⊎◌, inl, inr, ⊎_elim}
 use mathlib.Core.Bool.{Bool, true, false, cond, ◌&&◌}
 use mathlib.Core.List.Memᴰ
 use mathlib.Core.List.{List, [], ◌∷◌, Memᴰ as In}
-use mathlib.Core.Option.{Option, none, some}
 use lib.Dec.{eqb, ltb}
 use lib.ListN.{get_or}
 use borrow.Author.Tests.{eqb-true}
@@ -37,12 +37,12 @@ line_of u v w by_drop = Drop u v
 line_of u v w (by_vc target class outvpi outvci) = Vc u v w target class outvpi outvci
 
 -- one of two, and one that was asked for
-either_some : {A : Type 0} (a b : Option A) (x : A) → either a b ≡ some x → (a ≡ some x) ⊎ (b ≡ some x)
-either_some none b x e = inr e
-either_some (some a) b x e = inl e
+either_some : {A : Type 0} (a b : Option A) (x : A) → either a b ≡ Some x → (a ≡ Some x) ⊎ (b ≡ Some x)
+either_some None b x e = inr e
+either_some (Some a) b x e = inl e
 
 -- one that was asked for, and passed the test
-only_some : {A : Type 0} (b : Bool) (a x : A) → only b a ≡ some x → (b ≡ true) × (a ≡ x)
+only_some : {A : Type 0} (b : Bool) (a x : A) → only b a ≡ Some x → (b ≡ true) × (a ≡ x)
 only_some true a x e = (refl, cc)
 only_some false a x e = let z : ◌≡◌ {A = ℕ} 0 1 = cc in absurd (omega arith)
 
@@ -52,7 +52,7 @@ both true b e = (refl, e)
 both false b e = let z : ◌≡◌ {A = ℕ} 0 1 = cc in absurd (omega arith)
 
 -- a line that serves is that line
-serves_line : (l : Line) (u v w : ℕ) (x : Serving) → serves l u v w ≡ some x → line_of u v w x ≡ l
+serves_line : (l : Line) (u v w : ℕ) (x : Serving) → serves l u v w ≡ Some x → line_of u v w x ≡ l
 unfolding serves
 serves_line (Bus bus) u v w x e = let z : ◌≡◌ {A = ℕ} 0 1 = cc in absurd (omega arith)
 serves_line (L-as-Unit settings limits) u v w x e = let z : ◌≡◌ {A = ℕ} 0 1 = cc in absurd (omega arith)
@@ -73,7 +73,7 @@ serves_line (Vc a b c target class outvpi outvci) u v w x e =
 serves_line (Mc a session) u v w x e = let z : ◌≡◌ {A = ℕ} 0 1 = cc in absurd (omega arith)
 
 -- and it is one of the lines
-served_line : (lines : List Line) (u v w : ℕ) (x : Serving) → served lines u v w ≡ some x → In (line_of u v w x) lines
+served_line : (lines : List Line) (u v w : ℕ) (x : Serving) → served lines u v w ≡ Some x → In (line_of u v w x) lines
 unfolding served
 served_line [] u v w x e = let z : ◌≡◌ {A = ℕ} 0 1 = cc in absurd (omega arith)
 served_line (l ∷ lines) u v w x e =
@@ -117,12 +117,12 @@ module _ (lines : List Line) (s : Settings) (bytes : List ℕ) where
   -- the line that serves the cell
   by_line : AllInRange lines → (r : Routed) (o : Option Serving) → served lines s.number h.vpi h.vci ≡ o → way_by o h (part bytes 5 48) ≡ goes r → Follows lines s bytes r
   unfolding way_by
-  by_line good r none t e = let z : ◌≡◌ {A = ℕ} 0 1 = cc in absurd (omega arith)
-  by_line good r (some by_drop) t e = let z : ◌≡◌ {A = ℕ} 0 1 = cc in absurd (omega arith)
-  by_line good r (some (by_vp target class outvpi)) t e =
+  by_line good r None t e = let z : ◌≡◌ {A = ℕ} 0 1 = cc in absurd (omega arith)
+  by_line good r (Some by_drop) t e = let z : ◌≡◌ {A = ℕ} 0 1 = cc in absurd (omega arith)
+  by_line good r (Some (by_vp target class outvpi)) t e =
       let m = served_line lines s.number h.vpi h.vci (by_vp target class outvpi) t in
       follows target class outvpi h.vci (each_ranged lines good _ m).4 (vci_lt s.link (four bytes 0)) (by_path m refl) r (cc)
-  by_line good r (some (by_vc target class outvpi outvci)) t e =
+  by_line good r (Some (by_vc target class outvpi outvci)) t e =
       let m = served_line lines s.number h.vpi h.vci (by_vc target class outvpi outvci) t in
       let n = each_ranged lines good _ m in
       follows target class outvpi outvci n.5 (omega (arith, n.6)) (by_circuit m) r (cc)
@@ -144,10 +144,10 @@ module _ (lines : List Line) (s : Settings) (bytes : List ℕ) where
   payload_kept r e = go (served lines s.number h.vpi h.vci) (goes_by r e)
     where
       go : (o : Option Serving) → way_by o h (part bytes 5 48) ≡ goes r → r.cell.payload ≡ part bytes 5 48
-      go none e = let z : ◌≡◌ {A = ℕ} 0 1 = cc in absurd (omega arith)
-      go (some by_drop) e = let z : ◌≡◌ {A = ℕ} 0 1 = cc in absurd (omega arith)
-      go (some (by_vp target class outvpi)) e = let same : routed target class outvpi h.vci h (part bytes 5 48) ≡ r = cc in ap (λ x. x.cell.payload) (sym same)
-      go (some (by_vc target class outvpi outvci)) e = let same : routed target class outvpi outvci h (part bytes 5 48) ≡ r = cc in ap (λ x. x.cell.payload) (sym same)
+      go None e = let z : ◌≡◌ {A = ℕ} 0 1 = cc in absurd (omega arith)
+      go (Some by_drop) e = let z : ◌≡◌ {A = ℕ} 0 1 = cc in absurd (omega arith)
+      go (Some (by_vp target class outvpi)) e = let same : routed target class outvpi h.vci h (part bytes 5 48) ≡ r = cc in ap (λ x. x.cell.payload) (sym same)
+      go (Some (by_vc target class outvpi outvci)) e = let same : routed target class outvpi outvci h (part bytes 5 48) ≡ r = cc in ap (λ x. x.cell.payload) (sym same)
 
 pub line_followed : LineFollowed
 line_followed lines good s bytes r e = by_line lines s bytes good r (served lines s.number (header_of s bytes).vpi (header_of s bytes).vci) refl (goes_by lines s bytes r e)

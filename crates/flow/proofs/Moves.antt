@@ -1,11 +1,10 @@
 -- What a unit's part moves: cells into and out of its places, and what is counted of them. Assumes nothing.
-use Rattle.std.specs.Prelude.{None, Some}
+use Rattle.std.specs.Prelude.{None, Some, Option}
 use Prim.Native.Nat.{ℕ, zero, suc, ◌+◌, ◌<◌}
 use native.Mathlib.Omega.{arith}
 use mathlib.Core.Path.{◌≡◌, refl, sym, ap, ap₂, ◌∙◌}
 use mathlib.Core.Bool.{Bool, true, false, cond, ◌&&◌}
 use mathlib.Core.List.{List, [], ◌∷◌, ◌++◌, append-nil, append_assoc, map}
-use mathlib.Core.Option.{Option, none, some}
 use lib.Dec.{eqb, leb, ltb}
 use lib.ListN.{length, get_or, set, take, drop, length-set, length-append, get_or-eq_default}
 use lib.Seq.{get_or-set_same, get_or-set_other}
@@ -419,10 +418,10 @@ way_named lines s c =
     (λ e. let z : ◌≡◌ {A = ℕ} 0 1 = cc in omega arith)
   where
     go : (o : Option Serving) (h : F.Header) → Named (way_by o h (part c 5 48))
-    go none h = λ e. let z : ◌≡◌ {A = ℕ} 0 1 = cc in omega arith
-    go (some by_drop) h = λ e. let z : ◌≡◌ {A = ℕ} 0 1 = cc in omega arith
-    go (some (by_vp target class outvpi)) h = λ x. x
-    go (some (by_vc target class outvpi outvci)) h = λ x. x
+    go None h = λ e. let z : ◌≡◌ {A = ℕ} 0 1 = cc in omega arith
+    go (Some by_drop) h = λ e. let z : ◌≡◌ {A = ℕ} 0 1 = cc in omega arith
+    go (Some (by_vp target class outvpi)) h = λ x. x
+    go (Some (by_vc target class outvpi outvci)) h = λ x. x
 
 -- how often a counter rises when a unit does its part
 abbrev rises : List Counter → Counter → ℕ

@@ -1,10 +1,10 @@
 -- The lines of a good table have no unit number twice, and none above 31. Assumes nothing.
+use Rattle.std.specs.Prelude.{None, Option, Some}
 use Prim.Native.Nat.{ℕ, zero, suc, ◌<◌}
 use native.Mathlib.Omega.{arith}
 use mathlib.Core.Path.{◌≡◌, refl, sym, subst}
 use mathlib.Core.Bool.{Bool, true, false}
 use mathlib.Core.List.{List, [], ◌∷◌, ◌++◌, append-nil}
-use mathlib.Core.Option.{Option, none, some}
 use lib.Dec.{eqb}
 use lib.ListN.{length, get_or}
 use borrow.Author.Tests.{eqb-false}
@@ -38,12 +38,12 @@ one_more (v ∷ us) u new once (suc i) (suc j) h k =
     one_more us u (λ a b. new (suc a) (omega arith)) (λ a b l m. once (suc a) (suc b) (omega arith) (omega arith)) i j (omega arith) (omega arith)
 
 -- a number without a top is no declared unit's
-neither : {A : Type 0} (a b : Option A) → either a b ≡ none → (a ≡ none) × (b ≡ none)
-neither none b e = (refl, e)
-neither (some a) b e = let z : ◌≡◌ {A = ℕ} 0 1 = cc in absurd (omega arith)
+neither : {A : Type 0} (a b : Option A) → either a b ≡ None → (a ≡ None) × (b ≡ None)
+neither None b e = (refl, e)
+neither (Some a) b e = let z : ◌≡◌ {A = ℕ} 0 1 = cc in absurd (omega arith)
 
 -- a test that gave nothing did not hold
-only_none : {A : Type 0} (b : Bool) (a : A) → only b a ≡ none → b ≡ false
+only_none : {A : Type 0} (b : Bool) (a : A) → only b a ≡ None → b ≡ false
 only_none true a e = let z : ◌≡◌ {A = ℕ} 0 1 = cc in absurd (omega arith)
 only_none false a e = refl
 
@@ -55,7 +55,7 @@ plain : (n : ℕ) (us : List Unit) → Nowhere n us → Nowhere n (us ++ [])
 plain n us f = subst (Nowhere n) (sym (append-nil us)) f
 
 -- so of all lines
-nowhere : (told : List Line) (n : ℕ) → top_of told (of_unit n) ≡ none → Nowhere n (units_of told)
+nowhere : (told : List Line) (n : ℕ) → top_of told (of_unit n) ≡ None → Nowhere n (units_of told)
 unfolding top_of units_of opens same
 nowhere [] n e = λ i h. absurd (omega arith)
 nowhere (Bus bus ∷ told) n e = plain n (units_of told) (nowhere told n e)

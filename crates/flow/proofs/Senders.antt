@@ -1,12 +1,11 @@
 -- Over every sequence of events: a unit that asks has a cell besides one already granted, and a unit with an open grant has a cell to send. Assumes nothing.
-use Rattle.std.specs.Prelude.{None, Some}
+use Rattle.std.specs.Prelude.{None, Some, Option}
 use Prim.Native.Nat.{ℕ, zero, suc, ◌+◌, ◌<◌, ◌≤◌}
 use native.Mathlib.Omega.{arith}
 use mathlib.Core.Path.{◌≡◌, refl, sym, ap, subst, ◌∙◌}
 use mathlib.Core.Logic.{◌⊎◌, inl, inr, ⊎_elim}
 use mathlib.Core.Bool.{Bool, true, false, cond}
 use mathlib.Core.List.{List, [], ◌∷◌, ◌++◌, append-nil, map}
-use mathlib.Core.Option.{Option, none, some}
 use lib.Dec.{eqb}
 use lib.ListN.{length, get_or, set, replicate, length-set, length-append, length-map, get_or-eq_default}
 use lib.Seq.{get_or-set_same, get_or-set_other}
@@ -229,10 +228,10 @@ module _ (d : Shelf) (b : Backed d) (buffer : List ℕ) (whole : length buffer �
   framed_backed =
       decide (eqb granted nobody)
       (λ t.
-      let none = eqb-true granted nobody t in
-      let same : (n : ℕ) → get_or (framed d buffer).arbiter.asks n 0 ≡ get_or asks n 0 = λ n. ap (λ x. get_or x.asks n 0) (not_granted m.arbiter.last asks none) in
+      let None = eqb-true granted nobody t in
+      let same : (n : ℕ) → get_or (framed d buffer).arbiter.asks n 0 ≡ get_or asks n 0 = λ n. ap (λ x. get_or x.asks n 0) (not_granted m.arbiter.last asks None) in
       record {
-        grant = λ x. absurd (x none);
+        grant = λ x. absurd (x None);
         low = λ n h. (request m (moved_backed d b) n (λ z. h (same n ∙ z))).0;
         asked = λ n h.
             let low = (request m (moved_backed d b) n (λ z. h (same n ∙ z))).0 in
@@ -240,12 +239,12 @@ module _ (d : Shelf) (b : Backed d) (buffer : List ℕ) (whole : length buffer �
             subst (Waits (framed d buffer) n) (sym apart) (has_one n (λ z. h (same n ∙ z)));
       })
       (λ t.
-      let some = eqb-false granted nobody t in
-      let c = granted_changes m.arbiter.last asks some in
+      let Some = eqb-false granted nobody t in
+      let c = granted_changes m.arbiter.last asks Some in
       let other : (n : ℕ) → (get_or (framed d buffer).arbiter.asks n 0 ≡ 0 → ⊥) → n ≡ granted → ⊥ = λ n h z. h (ap (λ m. get_or (framed d buffer).arbiter.asks m 0) z ∙ c.cleared) in
       let before : (n : ℕ) → (get_or (framed d buffer).arbiter.asks n 0 ≡ 0 → ⊥) → get_or asks n 0 ≡ 0 → ⊥ = λ n h z. h (c.stand n (other n h) ∙ z) in
       record {
-        grant = λ x. has_one granted (λ z. let a = (granted_asks m.arbiter.last asks some).1 in omega arith);
+        grant = λ x. has_one granted (λ z. let a = (granted_asks m.arbiter.last asks Some).1 in omega arith);
         low = λ n h. (request m (moved_backed d b) n (before n h)).0;
         asked = λ n h.
             subst (Waits (framed d buffer) n) (sym (ap (λ x. suc (cond x 1 0)) (ne_eqb n granted (other n h)))) (has_one n (before n h));
@@ -282,7 +281,7 @@ module _ (d : Shelf) where
   collected_from [] place buffer = (refl, refl)
   collected_from (c ∷ rest) place buffer = (refl, refl)
 
-same_backed : (d : Shelf) (e : Event) → Backed d → Leaves d (happens_to d e).shelf → ((i : ℕ) → out_from d e i ≡ none) → Backed (happens_to d e).shelf
+same_backed : (d : Shelf) (e : Event) → Backed d → Leaves d (happens_to d e).shelf → ((i : ℕ) → out_from d e i ≡ None) → Backed (happens_to d e).shelf
 unfolding of_out
 same_backed d e b same quiet =
     let d' = (happens_to d e).shelf in
@@ -367,7 +366,7 @@ pub record Sends (d : Shelf) (buffer : List ℕ) : Type 0 where
   pub bytes : (happens_to d (frame buffer)).bytes ≡ frame_of (cell_of from)
 
 -- who has nothing to send has no cell
-none_waits : (inlet : List Routed) (control loopback : List (List ℕ)) → chosen inlet control loopback ≡ none → length inlet + length control + length loopback ≡ 0
+none_waits : (inlet : List Routed) (control loopback : List (List ℕ)) → chosen inlet control loopback ≡ None → length inlet + length control + length loopback ≡ 0
 unfolding chosen
 none_waits (r ∷ rest) control loopback e = let z : ◌≡◌ {A = ℕ} 0 1 = cc in absurd (omega arith)
 none_waits [] (c ∷ rest) loopback e = let z : ◌≡◌ {A = ℕ} 0 1 = cc in absurd (omega arith)
@@ -391,10 +390,10 @@ sends_oldest d b once granted_one buffer whole = go (chosen_of (unit_at m w.plac
     there = ap (find_in (moved d).units) (sym v.named) ∙ found_here (moved d).units (moved_different d once) v.place v.inside
 
     go : (o : Option From) → chosen_of (unit_at m w.place) ≡ o → Sends d buffer
-    go none e =
+    go None e =
         let u = unit_at (moved d) w.place in
         absurd (omega (arith, v.enough, none_waits u.inlet u.side.controlin u.side.loopbackin e))
-    go (some f) e =
+    go (Some f) e =
         record {
           place = w.place;
           inside = w.inside;
@@ -419,16 +418,16 @@ turn_still u (Some place) m i = go (chosen_of (unit_at m place))
     pick f false = refl
 
     go : (o : Option From) → moved_from u (sending o place i) ≡ []
-    go none = refl
-    go (some f) = pick f (eqb i place)
+    go None = refl
+    go (Some f) = pick f (eqb i place)
 
 -- in a frame in which a unit sends, that moves which can move
-turns_out : (u : Unit) (m : Shelf) (i : ℕ) (f : From) (b : Bool) → out_by (cond b (moves (turn_of m i)) rests) ≡ some f → moved_from u (cond b (moves (turn_of m i)) rests) ≡ moving u
+turns_out : (u : Unit) (m : Shelf) (i : ℕ) (f : From) (b : Bool) → out_by (cond b (moves (turn_of m i)) rests) ≡ Some f → moved_from u (cond b (moves (turn_of m i)) rests) ≡ moving u
 unfolding moved_from out_by
 turns_out u m i f true e = ap (λ x. moving u ++ x) (turn_still (moved_unit u) (find_in m.units m.granted) m i) ∙ append-nil (moving u)
 turns_out u m i f false e = let z : ◌≡◌ {A = ℕ} 0 1 = cc in absurd (omega arith)
 
-pub out_moved : (d : Shelf) (e : Event) (i : ℕ) (f : From) → out_from d e i ≡ some f → moved_at d e i ≡ moving (unit_at d i)
+pub out_moved : (d : Shelf) (e : Event) (i : ℕ) (f : From) → out_from d e i ≡ Some f → moved_at d e i ≡ moving (unit_at d i)
 unfolding part_of out_by
 out_moved d (frame buffer) i f e = turns_out (unit_at d i) (moved d) i f (eqb (length buffer) 57) e
 out_moved d (arrive unit x) i f e = let n = only_out (find_in d.units unit) (eqb (length x) 53) i (arrives x) refl in let z : ◌≡◌ {A = ℕ} 0 1 = cc in absurd (omega arith)
@@ -445,7 +444,7 @@ taken_still [] back h = refl
 taken_still (c ∷ rest) [] h = absurd (omega arith)
 taken_still (c ∷ rest) (b ∷ back) h = refl
 
-sent_granted : (d : Shelf) (buffer : List ℕ) (i : ℕ) (f : From) → out_from d (frame buffer) i ≡ some f → number_of (unit_at d i) ≡ d.granted
+sent_granted : (d : Shelf) (buffer : List ℕ) (i : ℕ) (f : From) → out_from d (frame buffer) i ≡ Some f → number_of (unit_at d i) ≡ d.granted
 sent_granted d buffer i f e =
     ⊎_elim
     (λ s.
@@ -465,7 +464,7 @@ not_both d b once i within number granted_one c rest turn =
     taken_still u.side.loopbackout u.side.loopbackin (omega (arith, enough, a, k))
 
 -- only a frame sends
-granted_sends : (d : Shelf) (e : Event) (i : ℕ) (f : From) → out_from d e i ≡ some f → number_of (unit_at d i) ≡ d.granted
+granted_sends : (d : Shelf) (e : Event) (i : ℕ) (f : From) → out_from d e i ≡ Some f → number_of (unit_at d i) ≡ d.granted
 unfolding part_of out_by
 granted_sends d (frame buffer) i f e = sent_granted d buffer i f e
 granted_sends d (arrive unit x) i f e = let n = only_out (find_in d.units unit) (eqb (length x) 53) i (arrives x) refl in let z : ◌≡◌ {A = ℕ} 0 1 = cc in absurd (omega arith)

@@ -1,10 +1,10 @@
 -- Without control and loopback cells all is as document 01 has it. Assumes nothing.
+use Rattle.std.specs.Prelude.{Some}
 use Prim.Native.Nat.{ℕ, suc, ◌+◌, ◌<◌}
 use native.Mathlib.Omega.{arith}
 use mathlib.Core.Path.{◌≡◌, refl, sym, ap, ap₂, subst, ◌∙◌}
 use mathlib.Core.Logic.{◌⊎◌, ⊎_elim}
 use mathlib.Core.List.{List, [], ◌∷◌, ◌++◌, map, Memᴰ as In}
-use mathlib.Core.Option.{some}
 use lib.Dec.{ltb}
 use lib.ListN.{length, get_or, get_or-eq_default}
 use borrow.Author.Tests.{ltb-true, ltb-false}
@@ -95,7 +95,7 @@ module _ (d : Shelf) (calm : Calm d) (e : Event) (plain : Plain e) (i : ℕ) whe
       subst Data (sym (ap (λ (o : OnBus). o.heard) s.cell_is)) (data_heard s.f t.0 t.1 t.2))
       w
 
-  data_out : (f : From) → out_from d e i ≡ some f → (r : Routed) × (rest : List Routed) × (f ≡ from_inlet r rest)
+  data_out : (f : From) → out_from d e i ≡ Some f → (r : Routed) × (rest : List Routed) × (f ≡ from_inlet r rest)
   data_out f left = data_turn (unit_at d i) (calm i) f (in_turn (moved_unit (unit_at d i)) f (sent_moved d e i f left))
 
   none_handed : (v : Unit) (p : Part) → Because d e i p → handed_by v p ≡ []

@@ -1,4 +1,5 @@
 -- Over every sequence of events: each cell in an outlet is a copy of a cell that arrived, was handed in or has moved, or of a frame handed in, that addresses that unit. Assumes nothing.
+use Rattle.std.specs.Prelude.{Some}
 use Prim.Native.Nat.{ℕ, ◌<◌, ◌≤◌}
 use native.Mathlib.Omega.{arith}
 use mathlib.Core.Path.{◌≡◌, refl, sym, ap, subst, ◌∙◌}
@@ -6,7 +7,6 @@ use mathlib.Core.Logic.{◌⊎◌, inr, ⊎_elim}
 use mathlib.Core.Bool.{Bool, true, false, cond, ◌&&◌, false≢true}
 use mathlib.Core.List.Memᴰ
 use mathlib.Core.List.{List, [], ◌∷◌, ◌++◌, map, Memᴰ as In}
-use mathlib.Core.Option.{some}
 use lib.Dec.{eqb, leb}
 use lib.ListN.{length, get_or, take, drop}
 use lib.Seq.{length-take-le}
@@ -276,7 +276,7 @@ module _ (lines : List Line) (es : List Event) (d : Shelf) (on : On lines es d) 
   sent_handed s inside c rest turn =
       on.handed s inside c (subst (λ cs. In c cs) (sym (sym (moved_by_lem (λ v. v.side.controlin) (unit_at d s) (λ back out. refl)) ∙ turn.1)) (In.head refl))
 
-  sent_turned : (s : ℕ) → s < length d.units → (c : List ℕ) (rest : List (List ℕ)) → InTurn (moved_unit (unit_at d s)) (from_loopback c rest) → out_from d e s ≡ some (from_loopback c rest) → Turning lines es s c
+  sent_turned : (s : ℕ) → s < length d.units → (c : List ℕ) (rest : List (List ℕ)) → InTurn (moved_unit (unit_at d s)) (from_loopback c rest) → out_from d e s ≡ Some (from_loopback c rest) → Turning lines es s c
   sent_turned s inside c rest turn left =
       let v = unit_at d s in
       ⊎_elim (on.turned s inside c)
@@ -292,7 +292,7 @@ module _ (lines : List Line) (es : List Event) (d : Shelf) (on : On lines es d) 
   unfolding cell_of of_out data_in control_in
   from_bus v x q c same k s = go s.f s.turn s.left s.cell_is
     where
-      go : (f : From) → InTurn (moved_unit (unit_at d s.place)) f → out_from d e s.place ≡ some f → x ≡ cell_of f → CameFrom lines es i q c
+      go : (f : From) → InTurn (moved_unit (unit_at d s.place)) f → out_from d e s.place ≡ Some f → x ≡ cell_of f → CameFrom lines es i q c
       go (from_inlet r rest) turn left is =
           let y : frames.Cell r.target r.class r.cell.header ≡ frames.Cell k.target k.class k.header = sym (ap (λ o. o.heard) is) ∙ k.frame_is in
           let t : r.target ≡ k.target = cc in
@@ -326,7 +326,7 @@ module _ (lines : List Line) (es : List Event) (d : Shelf) (on : On lines es d) 
       (k.cell ∙ (λ j. record { header = k.header; payload = (s.cell_is j).payload }))
 
   -- who sends, sends in its turn
-  own : (f : From) → out_from d e i ≡ some f → Sent d e (cell_of f)
+  own : (f : From) → out_from d e i ≡ Some f → Sent d e (cell_of f)
   own f left = record { place = i; inside = within; f = f; turn = in_turn (moved_unit u) f (sent_moved d e i f left); left = left; cell_is = refl }
 
   -- what comes into a queue is one or the other
@@ -363,7 +363,7 @@ module _ (lines : List Line) (es : List Event) (d : Shelf) (on : On lines es d) 
     unfolding cell_of of_out control_in loopback_in
     aside_bus x is s = go s.f s.turn s.left s.cell_is
       where
-        go : (f : From) → InTurn (moved_unit (unit_at d s.place)) f → out_from d e s.place ≡ some f → x ≡ cell_of f → Beside lines es i kind x.bytes
+        go : (f : From) → InTurn (moved_unit (unit_at d s.place)) f → out_from d e s.place ≡ Some f → x ≡ cell_of f → Beside lines es i kind x.bytes
         go (from_inlet r rest) turn left same = absurd (no_data (number_of (declared_at lines i)) r.target r.class r.cell.header (sym is ∙ ap (λ o. o.heard) same))
         go (from_control b rest) turn left same =
             let h = sent_handed s.place s.inside b rest turn in

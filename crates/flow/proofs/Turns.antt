@@ -1,12 +1,11 @@
 -- An event is, for each unit, its part in it: what becomes of the unit, what the history counts there, and why. Assumes nothing.
-use Rattle.std.specs.Prelude.{None, Some}
+use Rattle.std.specs.Prelude.{None, Some, Option}
 use Prim.Native.Nat.{ℕ, zero, suc, ◌+◌, ◌<◌}
 use native.Mathlib.Omega.{arith}
 use mathlib.Core.Path.{◌≡◌, refl, sym, ap, ap₂, subst, ◌∙◌}
 use mathlib.Core.Logic.{◌⊎◌, inl, inr}
 use mathlib.Core.Bool.{Bool, true, false, cond, ◌&&◌, ◌||◌}
 use mathlib.Core.List.{List, [], ◌∷◌, ◌++◌, map}
-use mathlib.Core.Option.{Option, none, some}
 use lib.Dec.{eqb, ltb, leb}
 use lib.ListN.{length, get_or, set, drop, take, length-set, length-map}
 use lib.Seq.{get_or-set_same, get_or-set_other, map-set_same}
@@ -192,7 +191,7 @@ pub record Sent (d : Shelf) (e : Event) (x : OnBus) : Type 0 where
   pub inside : place < length d.units
   pub f : From
   pub turn : InTurn (moved_unit (unit_at d place)) f
-  pub left : out_from d e place ≡ some f
+  pub left : out_from d e place ≡ Some f
   pub cell_is : x ≡ cell_of f
 
 -- why a unit has this part
@@ -349,8 +348,8 @@ module _ (d : Shelf) (i : ℕ) (within : i < length d.units) where
 
 -- what a unit sends, in the document's words
 unfoldable pub as_sending : Unit → Option From → Option Sending
-as_sending u none = none
-as_sending u (some f) = some (record { cell = cell_of f; left = without f u })
+as_sending u None = None
+as_sending u (Some f) = Some (record { cell = cell_of f; left = without f u })
 
 pub as_sending_lem : (u : Unit) → sending_of u ≡ as_sending u (chosen_of u)
 unfolding sending_from chosen as_sending cell_of without
@@ -363,11 +362,11 @@ as_sending_lem u = go u.inlet u.side.controlin u.side.loopbackin
     go [] [] [] = refl
 
 -- and it is that cell's turn
-pub in_turn : (u : Unit) (f : From) → chosen_of u ≡ some f → InTurn u f
+pub in_turn : (u : Unit) (f : From) → chosen_of u ≡ Some f → InTurn u f
 unfolding chosen
 in_turn u f e = go u.inlet refl u.side.controlin refl u.side.loopbackin refl e
   where
-    go : (inlet : List Routed) → u.inlet ≡ inlet → (control : List (List ℕ)) → u.side.controlin ≡ control → (loopback : List (List ℕ)) → u.side.loopbackin ≡ loopback → chosen inlet control loopback ≡ some f → InTurn u f
+    go : (inlet : List Routed) → u.inlet ≡ inlet → (control : List (List ℕ)) → u.side.controlin ≡ control → (loopback : List (List ℕ)) → u.side.loopbackin ≡ loopback → chosen inlet control loopback ≡ Some f → InTurn u f
     go (r ∷ rest) a control b loopback c e = let same : from_inlet r rest ≡ f = cc in subst (InTurn u) same a
     go [] a (x ∷ rest) b loopback c e = let same : from_control x rest ≡ f = cc in subst (InTurn u) same (a, b)
     go [] a [] b (x ∷ rest) c e = let same : from_loopback x rest ≡ f = cc in subst (InTurn u) same (a, b, c)
@@ -474,16 +473,16 @@ module _ (W : Part → Type 0) (us : List Unit) (d d' : Shelf) (i : ℕ) (within
       }
 
   -- by the cells that wait
-  sent_from : (place : ℕ) → place < length d.units → (buffer : List ℕ) → W rests → ((f : From) → InTurn (unit_at d place) f → chosen_of (unit_at d place) ≡ some f → W (sends f) × W (hears (cell_of f))) → (o : Option From) → chosen_of (unit_at d place) ≡ o → d'.units ≡ (sends_one (as_sending (unit_at d place) o) d place buffer).units → d'.history ≡ (sends_one (as_sending (unit_at d place) o) d place buffer).happened ++ d.history → Does W us d d' i (sending o place i)
+  sent_from : (place : ℕ) → place < length d.units → (buffer : List ℕ) → W rests → ((f : From) → InTurn (unit_at d place) f → chosen_of (unit_at d place) ≡ Some f → W (sends f) × W (hears (cell_of f))) → (o : Option From) → chosen_of (unit_at d place) ≡ o → d'.units ≡ (sends_one (as_sending (unit_at d place) o) d place buffer).units → d'.history ≡ (sends_one (as_sending (unit_at d place) o) d place buffer).happened ++ d.history → Does W us d d' i (sending o place i)
   unfolding sends_one as_sending sending
-  sent_from place inside buffer w v none oldest units told = idle_does w units told
-  sent_from place inside buffer w v (some f) oldest units told =
+  sent_from place inside buffer w v None oldest units told = idle_does w units told
+  sent_from place inside buffer w v (Some f) oldest units told =
       let turn = in_turn (unit_at d place) f oldest in
       let why = v f turn oldest in
       all_do place inside f turn units told why.0 why.1
 
   -- by the unit granted
-  sent_does : (g : Option ℕ) → find_in d.units d.granted ≡ g → (buffer : List ℕ) → W rests → ((place : ℕ) → place < length d.units → g ≡ Some place → (f : From) → InTurn (unit_at d place) f → chosen_of (unit_at d place) ≡ some f → W (sends f) × W (hears (cell_of f))) → d'.units ≡ (sends·out g d buffer).units → d'.history ≡ (sends·out g d buffer).happened ++ d.history → Does W us d d' i (sending_by g d i)
+  sent_does : (g : Option ℕ) → find_in d.units d.granted ≡ g → (buffer : List ℕ) → W rests → ((place : ℕ) → place < length d.units → g ≡ Some place → (f : From) → InTurn (unit_at d place) f → chosen_of (unit_at d place) ≡ Some f → W (sends f) × W (hears (cell_of f))) → d'.units ≡ (sends·out g d buffer).units → d'.history ≡ (sends·out g d buffer).happened ++ d.history → Does W us d d' i (sending_by g d i)
   unfolding sends·out sending_by
   sent_does (Some place) t buffer w v units told =
       let inside = (found d.units d.granted place t).0 in
@@ -530,7 +529,7 @@ module _ (W : Part → Type 0) (d d' : Shelf) (i : ℕ) (within : i < length d.u
       }
 
 -- who sends in a frame
-out_of : (d : Shelf) (e : Event) (place : ℕ) (f : From) → part_of d e place ≡ moves (sends f) → out_from d e place ≡ some f
+out_of : (d : Shelf) (e : Event) (place : ℕ) (f : From) → part_of d e place ≡ moves (sends f) → out_from d e place ≡ Some f
 unfolding out_by
 out_of d e place f h = ap out_by h
 
@@ -545,7 +544,7 @@ does d (frame buffer) i within = go (eqb (length buffer) 57) refl
     go true t =
         let m = moved d in
         let l = length-map d.units moved_unit in
-        let sent : (place : ℕ) → place < length m.units → find_in m.units m.granted ≡ Some place → (f : From) → InTurn (unit_at m place) f → chosen_of (unit_at m place) ≡ some f → (⊥ → ⊥) × (Handed d (frame buffer) i (cell_of f) ⊎ Sent d (frame buffer) (cell_of f))
+        let sent : (place : ℕ) → place < length m.units → find_in m.units m.granted ≡ Some place → (f : From) → InTurn (unit_at m place) f → chosen_of (unit_at m place) ≡ Some f → (⊥ → ⊥) × (Handed d (frame buffer) i (cell_of f) ⊎ Sent d (frame buffer) (cell_of f))
         = λ place inside g f turn has. (
           λ x. x,
           inr

@@ -1,6 +1,5 @@
 -- Promise: what is one unit's is no other's, and no cell goes out twice. Assumes nothing.
-use Rattle.std.specs.Prelude.{ℕ, ◌<◌, ◌≤◌, ◌≡◌, Bool, List, length}
-use Rattle.std.proofs.Math.Option.{some}
+use Rattle.std.specs.Prelude.{ℕ, ◌<◌, ◌≤◌, ◌≡◌, Bool, List, length, Some}
 use Rattle.line.specs.declared.Line.{Line}
 use Rattle.paper.specs.Counters.{Counter}
 use Rattle.document.specs.Events.{Event, named}
@@ -17,7 +16,7 @@ pub record Untouched (d d' : Shelf) (i : ℕ) : Type 0 where
 
 -- "one handed in by the unit named with it": an event that names a unit touches no other
 abbrev pub Isolation : Type 0
-Isolation = (d : Shelf) → Different d.units → (e : Event) (unit i : ℕ) → named e ≡ some unit → i < length d.units → (number_of (unit_at d i) ≡ unit → ⊥) → Untouched d (happens_to d e).shelf i
+Isolation = (d : Shelf) → Different d.units → (e : Event) (unit i : ℕ) → named e ≡ Some unit → i < length d.units → (number_of (unit_at d i) ≡ unit → ⊥) → Untouched d (happens_to d e).shelf i
 
 -- of the cells that meet a test, whatever it is, no more are sent than arrived and were routed, and no more leave a queue than came to it in frames that address the unit; no more
 -- control cells are sent than were handed in, and no more are collected, or move, than came to that outlet

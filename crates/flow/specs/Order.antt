@@ -1,6 +1,5 @@
 -- Promise: cells leave in the order in which they came. Assumes nothing.
-use Rattle.std.specs.Prelude.{ℕ, ◌<◌, ◌≡◌, ◌⊎◌, List, [], ◌∷◌, ◌++◌, map, length}
-use Rattle.std.proofs.Math.Option.{Option, none, some}
+use Rattle.std.specs.Prelude.{ℕ, ◌<◌, ◌≡◌, ◌⊎◌, List, [], ◌∷◌, ◌++◌, map, length, None, Option, Some}
 use Rattle.bus.specs.Frame.{returned}
 use Rattle.line.specs.declared.Line.{Line}
 use Rattle.answer.specs.declared.Answer.TheVariants.{Taken}
@@ -117,13 +116,13 @@ pub record Framed (d : Shelf) (buffer : List ℕ) : Type 0 where
   pub from : From
   pub inside : place < length d.units
   pub named : number_of (unit_at d place) ≡ d.granted
-  pub left : out_from d (frame buffer) place ≡ some from
-  pub others : (i : ℕ) → (i ≡ place → ⊥) → out_from d (frame buffer) i ≡ none
+  pub left : out_from d (frame buffer) place ≡ Some from
+  pub others : (i : ℕ) → (i ≡ place → ⊥) → out_from d (frame buffer) i ≡ None
   pub bytes : (happens_to d (frame buffer)).bytes ≡ frame_of (cell_of from)
 
 -- "An idle frame has no bytes and leaves the frame buffer unchanged."
 pub record Idle (d : Shelf) (buffer : List ℕ) : Type 0 where
-  pub left : (i : ℕ) → out_from d (frame buffer) i ≡ none
+  pub left : (i : ℕ) → out_from d (frame buffer) i ≡ None
   pub bytes : (happens_to d (frame buffer)).bytes ≡ buffer
 
 abbrev pub SentFramed : Type 0
@@ -141,4 +140,4 @@ InTurn u (from_control c rest) = (u.inlet ≡ []) × (u.side.controlin ≡ c ∷
 InTurn u (from_loopback c rest) = (u.inlet ≡ []) × (u.side.controlin ≡ []) × (u.side.loopbackin ≡ c ∷ rest)
 
 abbrev pub SendingOrder : Type 0
-SendingOrder = (d : Shelf) (e : Event) (i : ℕ) → i < length d.units → (f : From) → out_from d e i ≡ some f → InTurn (moved_unit (unit_at d i)) f
+SendingOrder = (d : Shelf) (e : Event) (i : ℕ) → i < length d.units → (f : From) → out_from d e i ≡ Some f → InTurn (moved_unit (unit_at d i)) f

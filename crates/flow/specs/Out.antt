@@ -1,6 +1,5 @@
 -- Promise: what the lent bytes hold after a take or a frame came down the right street. Assumes nothing.
-use Rattle.std.specs.Prelude.{ℕ, ◌≤◌, ◌<◌, ◌≡◌, ◌↔◌, ◌⊎◌, Bool, true, false, List, [], ◌∷◌, length, get_or, drop}
-use Rattle.std.proofs.Math.Option.{some}
+use Rattle.std.specs.Prelude.{ℕ, ◌≤◌, ◌<◌, ◌≡◌, ◌↔◌, ◌⊎◌, Bool, true, false, List, [], ◌∷◌, length, get_or, drop, Some}
 use Rattle.octets.specs.Octets.{four, part}
 use Rattle.header.specs.Fields.{fields}
 use Rattle.header.specs.Check.{check}
@@ -127,7 +126,7 @@ SentRight =
 
 -- a cell that moves is not sent in the frame in which it does: nothing comes into the loopback inlet in place i in a frame in which a cell leaves it
 abbrev pub NoneMoves : List Line → List Event → Event → ℕ → Type 0
-NoneMoves lines es e i = (c : List ℕ) (rest : List (List ℕ)) → out_from (reached lines es) e i ≡ some (from_loopback c rest) → moved_at (reached lines es) e i ≡ []
+NoneMoves lines es e i = (c : List ℕ) (rest : List (List ℕ)) → out_from (reached lines es) e i ≡ Some (from_loopback c rest) → moved_at (reached lines es) e i ≡ []
 
 -- on a shelf that events have made; `nobody` is no unit's number
 abbrev pub MovedNotSent : Type 0

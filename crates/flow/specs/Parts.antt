@@ -1,6 +1,5 @@
 -- One unit's part in an event: what the unit in a place does when something happens to the shelf. Assumes nothing.
-use Rattle.std.specs.Prelude.{ℕ, Bool, false, cond, ◌&&◌, List, [], ◌∷◌, ◌++◌, map, eqb, leb, length, take, None, Some}
-use Rattle.std.proofs.Math.Option.{Option, none, some}
+use Rattle.std.specs.Prelude.{ℕ, Bool, false, cond, ◌&&◌, List, [], ◌∷◌, ◌++◌, map, eqb, leb, length, take, None, Some, Option}
 use Rattle.bus.specs.Heard as frames
 use Rattle.outlet.specs.Hearing.{queue_of}
 use Rattle.line.specs.declared.Line.{Line}
@@ -20,10 +19,10 @@ pub data From : Type 0 where
   from_loopback : List ℕ → List (List ℕ) → From
 
 unfoldable pub chosen : List Routed → List (List ℕ) → List (List ℕ) → Option From
-chosen (r ∷ rest) control loopback = some (from_inlet r rest)
-chosen [] (c ∷ rest) loopback = some (from_control c rest)
-chosen [] [] (c ∷ rest) = some (from_loopback c rest)
-chosen [] [] [] = none
+chosen (r ∷ rest) control loopback = Some (from_inlet r rest)
+chosen [] (c ∷ rest) loopback = Some (from_control c rest)
+chosen [] [] (c ∷ rest) = Some (from_loopback c rest)
+chosen [] [] [] = None
 
 abbrev pub chosen_of : Unit → Option From
 chosen_of u = chosen u.inlet u.side.controlin u.side.loopbackin
@@ -58,8 +57,8 @@ only_at None right i p = rests
 
 -- "the unit granted in the frame before sends its oldest cell"; "a sent frame is heard by every declared unit"
 unfoldable pub sending : Option From → ℕ → ℕ → Part
-sending none place i = rests
-sending (some f) place i = cond (eqb i place) (sends f) (hears (cell_of f))
+sending None place i = rests
+sending (Some f) place i = cond (eqb i place) (sends f) (hears (cell_of f))
 
 unfoldable pub sending_by : Option ℕ → Shelf → ℕ → Part
 sending_by (Some place) d i = sending (chosen_of (unit_at d place)) place i
@@ -164,18 +163,18 @@ loopback_in (from_loopback c rest) = c ∷ []
 
 -- what leaves it for the bus, if anything
 unfoldable pub out_by : Part → Option From
-out_by rests = none
-out_by (arrives c) = none
-out_by (hears x) = none
-out_by takes = none
-out_by (hands c) = none
-out_by collects = none
-out_by (sends f) = some f
+out_by rests = None
+out_by (arrives c) = None
+out_by (hears x) = None
+out_by takes = None
+out_by (hands c) = None
+out_by collects = None
+out_by (sends f) = Some f
 out_by (moves p) = out_by p
 
 unfoldable pub of_out : {A : Type 0} → (From → List A) → Option From → List A
-of_out f none = []
-of_out f (some x) = f x
+of_out f None = []
+of_out f (Some x) = f x
 
 abbrev pub sent_by : Part → List Routed
 sent_by p = of_out data_in (out_by p)

@@ -1,7 +1,6 @@
 -- Promise: without control and loopback cells all is as document 01 has it. Assumes nothing.
-use Rattle.std.specs.Prelude.{ℕ, ◌+◌, ◌<◌, ◌≡◌, length}
+use Rattle.std.specs.Prelude.{ℕ, ◌+◌, ◌<◌, ◌≡◌, length, Some}
 use mathlib.Core.List.{List, Memᴰ as In}
-use Rattle.std.proofs.Math.Option.{some}
 use Rattle.bus.specs.Frame.{heard}
 use Rattle.bus.specs.Heard as frames
 use Rattle.line.specs.declared.Line.{Line}
@@ -28,7 +27,7 @@ Plain (collect unit buffer) = Prim.Unit {0}
 pub record QuietShelf (lines : List Line) (es : List Event) : Type 0 where
   pub beside : (i : ℕ) → (unit_at (becomes (opened lines) es) i).side ≡ empty_side
   pub unmoved : moved (becomes (opened lines) es) ≡ becomes (opened lines) es
-  pub data_only : (e : Event) (i : ℕ) (f : From) → out_from (becomes (opened lines) es) e i ≡ some f → (r : Routed) × (rest : List Routed) × (f ≡ from_inlet r rest)
+  pub data_only : (e : Event) (i : ℕ) (f : From) → out_from (becomes (opened lines) es) e i ≡ Some f → (r : Routed) × (rest : List Routed) × (f ≡ from_inlet r rest)
 
 -- and each arriving cell was lost and counted so, was sent, or waits; each copy queued at an outlet was taken or is in a queue
 pub record AsBefore (lines : List Line) (es : List Event) (i : ℕ) : Type 0 where

@@ -1,5 +1,5 @@
 -- The declared unit that a line names, and the place of its record. Assumes nothing.
-use Rattle.std.specs.Prelude.{ℕ, ◌+◌, ◌*◌, true, false, cond, List, get_or, None, Option, Some}
+use Rattle.std.specs.Prelude.{ℕ, ◌+◌, ◌*◌, true, false, cond, List, get_or, None, Option, Some, Err}
 use Rattle.arbiter.specs.Arbitration.{nobody}
 use Rattle.lookup.specs.Record.{size}
 use Rattle.shelf.specs.Shelves.{blank, declared, find_in}
@@ -8,8 +8,8 @@ use Rattle.shelf.specs.Shelf.{Shelf}
 use Rattle.line.specs.declared.Line.{Line}
 use Rattle.line.specs.declared.Line.TheVariants.{Bus, Unit as L-as-Unit, Vp, Drop, Page, Vc, Mc}
 use Rattle.judge.specs.declared.Owner.{Owner}
-use Rattle.judge.specs.declared.Verdict.{Verdict}
-use Rattle.judge.specs.declared.Verdict.TheVariants.{Order}
+use Rattle.judge.specs.declared.Fault.TheVariants.{Order}
+use Rattle.judge.specs.Verdicts.{Verdict}
 
 -- the number of the unit that a line names; a `bus` line names nobody
 abbrev pub unit_of : Line → ℕ
@@ -23,18 +23,19 @@ unit_of (Mc u session) = u
 
 -- the declared unit with this number, where there is one
 abbrev pub owner_is : ℕ → U.Unit → Owner
-owner_is i unit = record { known = true; top = unit.settings.top; place = unit.place; at = i }
+owner_is i unit = record { top = unit.settings.top; place = unit.place; at = i }
 
-abbrev pub owner_at : Shelf → Option ℕ → Owner
-owner_at shelf (Some i) = owner_is i (get_or shelf.units i blank)
-owner_at shelf None = record { known = false; top = 0; place = 0; at = 0 }
+abbrev pub owner_at : Shelf → Option ℕ → Option Owner
+owner_at shelf (Some i) = Some (owner_is i (get_or shelf.units i blank))
+owner_at shelf None = None
 
-unfoldable pub owner_of : Shelf → ℕ → Owner
+unfoldable pub owner_of : Shelf → ℕ → Option Owner
 owner_of shelf u = owner_at shelf (find_in (declared shelf) u)
 
 -- "unit not declared before use"
-unfoldable pub owned_by : Owner → (Owner → Verdict) → Verdict
-owned_by o rest = cond o.known (rest o) (Order 2)
+unfoldable pub owned_by : Option Owner → (Owner → Verdict) → Verdict
+owned_by (Some o) rest = rest o
+owned_by None rest = Err (Order 2)
 
 -- the sessions that it hears
 abbrev pub sessions_at : Shelf → Owner → List ℕ

@@ -1,10 +1,9 @@
 -- A line judged by what stands in the shelf and the memory of good lines is judged by those lines; and what it does there is the shelf and the
 -- memory of one line more. Assumes nothing.
-use Rattle.std.specs.Prelude.{None, Some}
+use Rattle.std.specs.Prelude.{is_some, None, Some, Err, Ok, Option}
 use mathlib.Core.Path.{◌≡◌, refl, ap, ◌∙◌}
 use mathlib.Core.Bool.{Bool, true, false, cond}
 use mathlib.Core.List.{List, [], ◌∷◌}
-use mathlib.Core.Option.{Option, none, some}
 use Prim.Native.Nat.{ℕ, ◌+◌, ◌*◌, ◌≤◌}
 use lib.Dec.{ltb}
 use lib.ListN.{get_or}
@@ -20,9 +19,8 @@ use Rattle.shelf.specs.declared.Unit as U
 use Rattle.line.specs.declared.Line.{Line}
 use Rattle.line.specs.declared.Line.TheVariants.{Bus, Unit as L-as-Unit, Vp, Drop, Page, Vc, Mc}
 use Rattle.judge.specs.declared.Owner.{Owner}
-use Rattle.judge.specs.declared.Verdict.{Verdict}
-use Rattle.judge.specs.declared.Verdict.TheVariants.{Fine, Order, Twice}
-use Rattle.judge.specs.Verdicts.{asked, room_for, off_bus, taken, page_in}
+use Rattle.judge.specs.declared.Fault.TheVariants.{Order, Twice}
+use Rattle.judge.specs.Verdicts.{fine, Verdict, asked, room_for, off_bus, taken, page_in}
 use Rattle.judge.specs.Judge.{in_page, judge_unit, judge_vp, judge_drop, judge_page, judge_vc, judge_mc}
 use Rattle.meaning.specs.Told.{Whose, of_unit, of_page, opens, gives, top_of, total, record_of, shelf_of, memory_of}
 use Rattle.meaning.specs.Lines.{started, is_first, owned, is_declared, judge}
@@ -36,7 +34,7 @@ use Rattle.meaning.proofs.Memory.{Ranged, stands_at, memory_gift, memory_still, 
 use Rattle.meaning.proofs.Shelved.{Shelved}
 
 -- past the first line
-first_or : (told : List Line) (x y : Verdict) → x ≡ y → cond (is_first told) (Order 1) x ≡ started told y
+first_or : (told : List Line) (x y : Verdict) → x ≡ y → cond (is_first told) (Err (Order 1)) x ≡ started told y
 first_or [] x y e = refl
 first_or (l ∷ told) x y e = e
 
@@ -49,18 +47,18 @@ module _ (card : Card) (memory : List ℕ) (told : List Line) (w : Grown told) (
   abbrev stands : ℕ → Option R.Record
   stands = record_at card (memory_of card memory told)
 
-  abbrev at : (u top : ℕ) → top_of told (of_unit u) ≡ some top → U.Unit
+  abbrev at : (u top : ℕ) → top_of told (of_unit u) ≡ Some top → U.Unit
   at u top e = get_or (shelf_of told).units (s.here u top e).i blank
 
-  abbrev owner : (u top : ℕ) → top_of told (of_unit u) ≡ some top → Owner
+  abbrev owner : (u top : ℕ) → top_of told (of_unit u) ≡ Some top → Owner
   owner u top e = owner_is (s.here u top e).i (at u top e)
 
-  owner_is_lem : (u top : ℕ) (e : top_of told (of_unit u) ≡ some top) → owner_of (shelf_of told) u ≡ owner u top e
+  owner_is_lem : (u top : ℕ) (e : top_of told (of_unit u) ≡ Some top) → owner_of (shelf_of told) u ≡ Some (owner u top e)
   unfolding owner_of
   owner_is_lem u top e = ap (owner_at (shelf_of told)) (s.here u top e).found
 
   -- a declared unit's record
-  stands_path : (u top : ℕ) (e : top_of told (of_unit u) ≡ some top) (v : ℕ) → v ≤ top → stands (spot (owner u top e) v) ≡ Some (record_of told (of_unit u) v)
+  stands_path : (u top : ℕ) (e : top_of told (of_unit u) ≡ Some top) (v : ℕ) → v ≤ top → stands (spot (owner u top e) v) ≡ Some (record_of told (of_unit u) v)
   stands_path u top e v h = ap (λ p. stands (p + size * v)) (s.here u top e).starts ∙ stands_at card memory told hold (of_unit u) top v e h
 
   -- the VCI's record in the page that stands there
@@ -70,30 +68,30 @@ module _ (card : Card) (memory : List ℕ) (told : List Line) (w : Grown told) (
       ap (λ q. stands (q + size * c)) o.1 ∙ stands_at card memory told hold (of_page u v) t c o.0 h
 
   -- by the owner
-  nobody : (u : ℕ) → top_of told (of_unit u) ≡ none → owner_of (shelf_of told) u ≡ owner_at (shelf_of told) None
+  nobody : (u : ℕ) → top_of told (of_unit u) ≡ None → owner_of (shelf_of told) u ≡ owner_at (shelf_of told) None
   unfolding owner_of
   nobody u e = ap (owner_at (shelf_of told)) (s.gone u e)
 
-  owned_agree : (u : ℕ) (f : Owner → Verdict) (g : ℕ → Verdict) → ((top : ℕ) (e : top_of told (of_unit u) ≡ some top) → f (owner u top e) ≡ g top) → owned_by (owner_of (shelf_of told) u) f ≡ owned (top_of told (of_unit u)) g
+  owned_agree : (u : ℕ) (f : Owner → Verdict) (g : ℕ → Verdict) → ((top : ℕ) (e : top_of told (of_unit u) ≡ Some top) → f (owner u top e) ≡ g top) → owned_by (owner_of (shelf_of told) u) f ≡ owned (top_of told (of_unit u)) g
   unfolding owned_by
   owned_agree u f g h = go (top_of told (of_unit u)) refl
     where
       go : (o : Option ℕ) → top_of told (of_unit u) ≡ o → owned_by (owner_of (shelf_of told) u) f ≡ owned o g
-      go none e = ap (λ o. owned_by o f) (nobody u e)
-      go (some top) e = ap (λ o. owned_by o f) (owner_is_lem u top e) ∙ h top e
+      go None e = ap (λ o. owned_by o f) (nobody u e)
+      go (Some top) e = ap (λ o. owned_by o f) (owner_is_lem u top e) ∙ h top e
 
-  declared_agree : (u : ℕ) → (owner_of (shelf_of told) u).known ≡ is_declared (top_of told (of_unit u))
+  declared_agree : (u : ℕ) → is_some (owner_of (shelf_of told) u) ≡ is_declared (top_of told (of_unit u))
   declared_agree u = go (top_of told (of_unit u)) refl
     where
-      go : (o : Option ℕ) → top_of told (of_unit u) ≡ o → (owner_of (shelf_of told) u).known ≡ is_declared o
-      go none e = ap (λ o. o.known) (nobody u e)
-      go (some top) e = ap (λ o. o.known) (owner_is_lem u top e)
+      go : (o : Option ℕ) → top_of told (of_unit u) ≡ o → is_some (owner_of (shelf_of told) u) ≡ is_declared o
+      go None e = ap is_some (nobody u e)
+      go (Some top) e = ap is_some (owner_is_lem u top e)
 
   -- a test of the top, then of what stands there
-  below : (u top : ℕ) (e : top_of told (of_unit u) ≡ some top) (v : ℕ) (f : Option R.Record → Verdict) → cond (ltb (owner u top e).top v) (Order 3) (f (stands (spot (owner u top e) v))) ≡ cond (ltb top v) (Order 3) (f (Some (record_of told (of_unit u) v)))
+  below : (u top : ℕ) (e : top_of told (of_unit u) ≡ Some top) (v : ℕ) (f : Option R.Record → Verdict) → cond (ltb (owner u top e).top v) (Err (Order 3)) (f (stands (spot (owner u top e) v))) ≡ cond (ltb top v) (Err (Order 3)) (f (Some (record_of told (of_unit u) v)))
   below u top e v f =
-      ap (λ t. cond (ltb t v) (Order 3) (f (stands (spot (owner u top e) v)))) (s.here u top e).tops
-      ∙ under (ltb top v) (Order 3) (f (stands (spot (owner u top e) v))) (f (Some (record_of told (of_unit u) v))) (λ n. ap f (stands_path u top e v (ltb-false top v n)))
+      ap (λ t. cond (ltb t v) (Err (Order 3)) (f (stands (spot (owner u top e) v)))) (s.here u top e).tops
+      ∙ under (ltb top v) (Err (Order 3)) (f (stands (spot (owner u top e) v))) (f (Some (record_of told (of_unit u) v))) (λ n. ap f (stands_path u top e v (ltb-false top v n)))
 
   -- the page, and its VCI
   page_agree : (u v c : ℕ) (r : R.Record) → record_of told (of_unit u) v ≡ r → (f : Option R.Record → Verdict) → in_page (page_in (Some r)) c (f (second stands (page_in (Some r)) c)) ≡ in_page (page_in (Some r)) c (f (Some (record_of told (of_page u v) c)))
@@ -101,7 +99,7 @@ module _ (card : Card) (memory : List ℕ) (told : List Line) (w : Grown told) (
   page_agree u v c R-as-Drop e f = refl
   page_agree u v c (Route h o x) e f = refl
   page_agree u v c (R-as-Page t p) e f =
-      under (ltb t c) (Order 4) (f (stands (p + size * c))) (f (Some (record_of told (of_page u v) c))) (λ n. ap f (stands_circuit u v t p e c (ltb-false t c n)))
+      under (ltb t c) (Err (Order 4)) (f (stands (p + size * c))) (f (Some (record_of told (of_page u v) c))) (λ n. ap f (stands_circuit u v t p e c (ltb-false t c n)))
 
   pub judge_agree : (room : ℕ) (l : Line) → Ranged l → judge_at card room (is_first told) stands (shelf_of told) (size * total told) l ≡ judge card room told l
   unfolding judge_by judge judge_vp judge_drop judge_page judge_vc judge_mc
@@ -111,28 +109,28 @@ module _ (card : Card) (memory : List ℕ) (told : List Line) (w : Grown told) (
       (ap (λ d. judge_unit card (shelf_of told).bus d room (size * total told) settings.number settings.link settings.top) (declared_agree settings.number))
   judge_agree room (Vp u v target class outvpi) r =
       first_or told _ _
-      (owned_agree u _ _ (λ top e. below u top e v (λ g. cond (off_bus (shelf_of told).bus target) (Order 4) (cond (taken g) (Twice 3) (asked card (Out outvpi) Fine)))))
-  judge_agree room (Drop u v) r = first_or told _ _ (owned_agree u _ _ (λ top e. below u top e v (λ g. cond (taken g) (Twice 3) Fine)))
+      (owned_agree u _ _ (λ top e. below u top e v (λ g. cond (off_bus (shelf_of told).bus target) (Err (Order 4)) (cond (taken g) (Err (Twice 3)) (asked card (Out outvpi) fine)))))
+  judge_agree room (Drop u v) r = first_or told _ _ (owned_agree u _ _ (λ top e. below u top e v (λ g. cond (taken g) (Err (Twice 3)) fine)))
   judge_agree room (Page u v topvci) r =
-      first_or told _ _ (owned_agree u _ _ (λ top e. below u top e v (λ g. cond (taken g) (Twice 3) (room_for room (size * total told) (topvci + 1)))))
+      first_or told _ _ (owned_agree u _ _ (λ top e. below u top e v (λ g. cond (taken g) (Err (Twice 3)) (room_for room (size * total told) (topvci + 1)))))
   judge_agree room (Vc u v c target class outvpi outvci) r =
-      let f : Option R.Record → Verdict = λ g. cond (off_bus (shelf_of told).bus target) (Order 5) (cond (taken g) (Twice 4) (asked card (Out outvpi) Fine)) in
+      let f : Option R.Record → Verdict = λ g. cond (off_bus (shelf_of told).bus target) (Err (Order 5)) (cond (taken g) (Err (Twice 4)) (asked card (Out outvpi) fine)) in
       first_or told _ _
       (owned_agree u _ _
       (λ top e.
       below u top e v (λ g. in_page (page_in g) c (f (second stands (page_in g) c)))
-      ∙ ap (cond (ltb top v) (Order 3)) (page_agree u v c (record_of told (of_unit u) v) refl f)))
+      ∙ ap (cond (ltb top v) (Err (Order 3))) (page_agree u v c (record_of told (of_unit u) v) refl f)))
   judge_agree room (Mc u session) r =
-      first_or told _ _ (owned_agree u _ _ (λ top e. ap (λ b. cond b (Twice 3) Fine) ((s.here u top e).hearing session r)))
+      first_or told _ _ (owned_agree u _ _ (λ top e. ap (λ b. cond b (Err (Twice 3)) fine) ((s.here u top e).hearing session r)))
 
   -- what it writes
-  put_path : (u top : ℕ) (e : top_of told (of_unit u) ≡ some top) (v : ℕ) (r : R.Record) → put_by card (memory_of card memory told) (owner_of (shelf_of told) u) v r ≡ written card (memory_of card memory told) (size * start told (of_unit u) + size * v) r
+  put_path : (u top : ℕ) (e : top_of told (of_unit u) ≡ Some top) (v : ℕ) (r : R.Record) → put_by card (memory_of card memory told) (owner_of (shelf_of told) u) v r ≡ written card (memory_of card memory told) (size * start told (of_unit u) + size * v) r
   unfolding put_by
   put_path u top e v r =
       ap (λ o. put_by card (memory_of card memory told) o v r) (owner_is_lem u top e)
       ∙ ap (λ p. written card (memory_of card memory told) (p + size * v) r) (s.here u top e).starts
 
-  pub memory_agree : (l : Line) → judge card (usable memory) told l ≡ Fine → memory_by card (memory_of card memory told) (size * total told) (owner_of (shelf_of told) (unit_of l)) l ≡ memory_of card memory (l ∷ told)
+  pub memory_agree : (l : Line) → judge card (usable memory) told l ≡ fine → memory_by card (memory_of card memory told) (size * total told) (owner_of (shelf_of told) (unit_of l)) l ≡ memory_of card memory (l ∷ told)
   unfolding memory_by opens gives put_vc put_in
   memory_agree (Bus bus) e = memory_still card memory told w (Bus bus) refl refl
   memory_agree (L-as-Unit settings limits) e =

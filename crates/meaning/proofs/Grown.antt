@@ -1,8 +1,8 @@
 -- What holds of good lines: nothing is opened twice, a page record and its page go together, what is not opened has nothing. Assumes nothing.
+use Rattle.std.specs.Prelude.{Ok, None, Option, Some}
 use mathlib.Core.Path.{◌≡◌, refl, sym, ap, ap₂, ◌∙◌}
 use mathlib.Core.Bool.{true, ◌&&◌}
 use mathlib.Core.List.{List, [], ◌∷◌}
-use mathlib.Core.Option.{Option, none, some}
 use Prim.Native.Nat.{ℕ, ◌*◌}
 use native.Mathlib.Omega.{arith}
 use lib.Dec.{eqb}
@@ -16,22 +16,22 @@ use Rattle.outlet.specs.declared.Limits.{Limits}
 use Rattle.shelf.specs.declared.Settings.{Settings}
 use Rattle.line.specs.declared.Line.{Line}
 use Rattle.line.specs.declared.Line.TheVariants.{Bus, Unit as L-as-Unit, Vp, Drop, Page, Vc, Mc}
-use Rattle.judge.specs.declared.Verdict.TheVariants.{Fine}
 pub use Rattle.outlet.proofs.Truth.{decide}
 use Rattle.meaning.specs.Told.{Whose, of_unit, of_page, same, Opening, opens, Giving, gives, only, else, top_by, top_of, total, record_of}
 use Rattle.meaning.specs.Lines.{judge, Good}
 use Rattle.meaning.proofs.Tabulate.{some_inj, none_some, only_true, either_right}
 use Rattle.meaning.proofs.Regions.{same_is, both_left, both_right, start, Once}
 use Rattle.meaning.proofs.Fits.{AtPath, fine_unit, fine_vp, fine_drop, fine_page, fine_vc}
+use Rattle.judge.specs.Verdicts.{fine}
 
 pub eqb_sym : (a b : ℕ) → eqb a b ≡ eqb b a
 eqb_sym a b = decide (eqb a b) (λ t. t ∙ sym (eq-eqb b a (sym (eqb-true a b t)))) (λ n. n ∙ sym (ne_eqb b a (λ e. eqb-false a b n (sym e))))
 
 pub record Grown (told : List Line) : Type 0 where
   pub once : Once told
-  pub opened : (u v t p : ℕ) → record_of told (of_unit u) v ≡ R-as-Page t p → (top_of told (of_page u v) ≡ some t) × (p ≡ size * start told (of_page u v))
-  pub given : (u v t : ℕ) → top_of told (of_page u v) ≡ some t → record_of told (of_unit u) v ≡ R-as-Page t (size * start told (of_page u v))
-  pub vacant : (k : Whose) (i : ℕ) → top_of told k ≡ none → record_of told k i ≡ Empty
+  pub opened : (u v t p : ℕ) → record_of told (of_unit u) v ≡ R-as-Page t p → (top_of told (of_page u v) ≡ Some t) × (p ≡ size * start told (of_page u v))
+  pub given : (u v t : ℕ) → top_of told (of_page u v) ≡ Some t → record_of told (of_unit u) v ≡ R-as-Page t (size * start told (of_page u v))
+  pub vacant : (k : Whose) (i : ℕ) → top_of told k ≡ None → record_of told k i ≡ Empty
 
 -- records told apart
 pub page_empty : {t p : ℕ} → Empty ≡ R-as-Page t p → ⊥
@@ -54,14 +54,14 @@ abbrev after : Giving → Whose → ℕ → R.Record → R.Record
 after g k i before = else (only (same k g.whose && eqb i g.at) g.gift) before
 
 -- a gift to an opened place that had nothing, and is no page
-module _ (told : List Line) (g : Giving) (top : ℕ) (declared : top_of told g.whose ≡ some top) (empty : record_of told g.whose g.at ≡ Empty) (w : Grown told) where
+module _ (told : List Line) (g : Giving) (top : ℕ) (declared : top_of told g.whose ≡ Some top) (empty : record_of told g.whose g.at ≡ Empty) (w : Grown told) where
   here : (k : Whose) (i : ℕ) → (same k g.whose && eqb i g.at) ≡ true → record_of told k i ≡ Empty
   here k i t =
       let a = same_is k g.whose (both_left (same k g.whose) (eqb i g.at) t) in
       let b = eqb-true i g.at (both_right (same k g.whose) (eqb i g.at) t) in
       ap₂ (record_of told) a b ∙ empty
 
-  gift_vacant : (k : Whose) (i : ℕ) → top_of told k ≡ none → after g k i (record_of told k i) ≡ Empty
+  gift_vacant : (k : Whose) (i : ℕ) → top_of told k ≡ None → after g k i (record_of told k i) ≡ Empty
   gift_vacant k i e =
       decide (same k g.whose && eqb i g.at)
       (λ t.
@@ -69,15 +69,15 @@ module _ (told : List Line) (g : Giving) (top : ℕ) (declared : top_of told g.w
       (none_some (sym e ∙ ap (top_of told) (same_is k g.whose (both_left (same k g.whose) (eqb i g.at) t)) ∙ declared)))
       (λ n. rw n (w.vacant k i e))
 
-  gift_given : (u v t : ℕ) → top_of told (of_page u v) ≡ some t → after g (of_unit u) v (record_of told (of_unit u) v) ≡ R-as-Page t (size * start told (of_page u v))
+  gift_given : (u v t : ℕ) → top_of told (of_page u v) ≡ Some t → after g (of_unit u) v (record_of told (of_unit u) v) ≡ R-as-Page t (size * start told (of_page u v))
   gift_given u v t e =
       decide (same (of_unit u) g.whose && eqb v g.at) (λ y. absurd (page_empty (sym (here (of_unit u) v y) ∙ w.given u v t e))) (λ n. rw n (w.given u v t e))
 
-  gift_opened : ((t p : ℕ) → g.gift ≡ R-as-Page t p → ⊥) → (u v t p : ℕ) → after g (of_unit u) v (record_of told (of_unit u) v) ≡ R-as-Page t p → (top_of told (of_page u v) ≡ some t) × (p ≡ size * start told (of_page u v))
+  gift_opened : ((t p : ℕ) → g.gift ≡ R-as-Page t p → ⊥) → (u v t p : ℕ) → after g (of_unit u) v (record_of told (of_unit u) v) ≡ R-as-Page t p → (top_of told (of_page u v) ≡ Some t) × (p ≡ size * start told (of_page u v))
   gift_opened nopage u v t p e =
       decide (same (of_unit u) g.whose && eqb v g.at) (λ y. absurd (nopage t p (rw y at e))) (λ n. w.opened u v t p (rw n at e))
 
-  pub grown_gift : (l : Line) → opens l ≡ none → gives l (size * total told) ≡ some g → ((t p : ℕ) → g.gift ≡ R-as-Page t p → ⊥) → Grown (l ∷ told)
+  pub grown_gift : (l : Line) → opens l ≡ None → gives l (size * total told) ≡ Some g → ((t p : ℕ) → g.gift ≡ R-as-Page t p → ⊥) → Grown (l ∷ told)
   unfolding record_of top_of start
   grown_gift l o e nopage =
       record {
@@ -88,7 +88,7 @@ module _ (told : List Line) (g : Giving) (top : ℕ) (declared : top_of told g.w
       }
 
 -- a line that neither opens nor gives
-grown_still : (told : List Line) (l : Line) → opens l ≡ none → gives l (size * total told) ≡ none → Grown told → Grown (l ∷ told)
+grown_still : (told : List Line) (l : Line) → opens l ≡ None → gives l (size * total told) ≡ None → Grown told → Grown (l ∷ told)
 unfolding record_of top_of start
 grown_still told l o e w =
     record {
@@ -99,15 +99,15 @@ grown_still told l o e w =
     }
 
 -- what is opened was not
-not_opened : (o : Option ℕ) → ((t : ℕ) → o ≡ some t → ⊥) → o ≡ none
-not_opened none h = refl
-not_opened (some t) h = absurd (h t refl)
+not_opened : (o : Option ℕ) → ((t : ℕ) → o ≡ Some t → ⊥) → o ≡ None
+not_opened None h = refl
+not_opened (Some t) h = absurd (h t refl)
 
-opens_once : (told : List Line) (o : Opening) → top_of told o.whose ≡ none → (k : Whose) (t : ℕ) → top_by (some o) k ≡ some t → top_of told k ≡ none
+opens_once : (told : List Line) (o : Opening) → top_of told o.whose ≡ None → (k : Whose) (t : ℕ) → top_by (Some o) k ≡ Some t → top_of told k ≡ None
 opens_once told o e k t x = ap (top_of told) (sym (same_is o.whose k (only_true (same o.whose k) o.top t x))) ∙ e
 
 -- a unit
-grown_unit : (told : List Line) (settings : Settings) (limits : Limits) → top_of told (of_unit settings.number) ≡ none → Grown told → Grown (L-as-Unit settings limits ∷ told)
+grown_unit : (told : List Line) (settings : Settings) (limits : Limits) → top_of told (of_unit settings.number) ≡ None → Grown told → Grown (L-as-Unit settings limits ∷ told)
 unfolding record_of top_of start opens gives same
 grown_unit told settings limits new w =
     record {
@@ -119,18 +119,18 @@ grown_unit told settings limits new w =
 
 -- a page
 module _ (told : List Line) (a b top : ℕ) (p : AtPath told a b) (w : Grown told) where
-  pub page_new : top_of told (of_page a b) ≡ none
+  pub page_new : top_of told (of_page a b) ≡ None
   page_new = not_opened (top_of told (of_page a b)) (λ t e. page_empty (sym p.vacant ∙ w.given a b t e))
 
-  page_opened : (u v t q : ℕ) → record_of (Page a b top ∷ told) (of_unit u) v ≡ R-as-Page t q → (top_of (Page a b top ∷ told) (of_page u v) ≡ some t) × (q ≡ size * start (Page a b top ∷ told) (of_page u v))
+  page_opened : (u v t q : ℕ) → record_of (Page a b top ∷ told) (of_unit u) v ≡ R-as-Page t q → (top_of (Page a b top ∷ told) (of_page u v) ≡ Some t) × (q ≡ size * start (Page a b top ∷ told) (of_page u v))
   unfolding record_of top_of start opens gives same
   page_opened u v t q e =
       rw (eqb_sym a u, eqb_sym b v)
       (decide (eqb u a && eqb v b)
-      (λ y. let f = rw y at e in rw y (ap some (page_top f), sym (page_place f)))
+      (λ y. let f = rw y at e in rw y (ap Some (page_top f), sym (page_place f)))
       (λ n. rw n (w.opened u v t q (rw n at e))))
 
-  page_given : (u v t : ℕ) → top_of (Page a b top ∷ told) (of_page u v) ≡ some t → record_of (Page a b top ∷ told) (of_unit u) v ≡ R-as-Page t (size * start (Page a b top ∷ told) (of_page u v))
+  page_given : (u v t : ℕ) → top_of (Page a b top ∷ told) (of_page u v) ≡ Some t → record_of (Page a b top ∷ told) (of_unit u) v ≡ R-as-Page t (size * start (Page a b top ∷ told) (of_page u v))
   unfolding record_of top_of start opens gives same
   page_given u v t e =
       let f = rw (eqb_sym a u, eqb_sym b v) at e in
@@ -139,7 +139,7 @@ module _ (told : List Line) (a b top : ℕ) (p : AtPath told a b) (w : Grown tol
       (λ y. rw y (ap (λ x. R-as-Page x (size * total told)) (some_inj (rw y at f))))
       (λ n. rw n (w.given u v t (rw n at f))))
 
-  page_vacant : (k : Whose) (i : ℕ) → top_of (Page a b top ∷ told) k ≡ none → record_of (Page a b top ∷ told) k i ≡ Empty
+  page_vacant : (k : Whose) (i : ℕ) → top_of (Page a b top ∷ told) k ≡ None → record_of (Page a b top ∷ told) k i ≡ Empty
   unfolding record_of top_of gives
   page_vacant k i e =
       gift_vacant told (record { whose = of_unit a; at = b; gift = R-as-Page top (size * total told) }) p.top p.declared p.vacant w k i
@@ -156,7 +156,7 @@ module _ (told : List Line) (a b top : ℕ) (p : AtPath told a b) (w : Grown tol
       }
 
 -- good lines have grown so
-pub grown_from : (card : Card) (room : ℕ) (told : List Line) (l : Line) → judge card room told l ≡ Fine → Grown told → Grown (l ∷ told)
+pub grown_from : (card : Card) (room : ℕ) (told : List Line) (l : Line) → judge card room told l ≡ fine → Grown told → Grown (l ∷ told)
 unfolding opens gives
 grown_from card room told (Bus bus) e w = grown_still told (Bus bus) refl refl w
 grown_from card room told (L-as-Unit settings limits) e w = grown_unit told settings limits (fine_unit card room told settings limits e).new w

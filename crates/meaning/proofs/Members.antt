@@ -1,11 +1,10 @@
 -- What the lines so far say, as facts about the lines among them: what is opened, given, heard, and the bus. Assumes nothing.
-use Rattle.std.specs.Prelude.{None, Some}
+use Rattle.std.specs.Prelude.{None, Some, Option}
 use mathlib.Core.Path.{◌≡◌, refl, sym, ap, ap₂, subst, ◌∙◌}
 use mathlib.Core.Bool.{Bool, true, false, ◌&&◌, ◌||◌, false≢true}
 use mathlib.Core.List.Memᴰ
 use mathlib.Core.List.{List, [], ◌∷◌, Memᴰ as In}
 use mathlib.Core.Logic.{◌⊎◌, inl, inr, ⊎_elim}
-use mathlib.Core.Option.{Option, none, some}
 use Prim.Native.Nat.{ℕ, ◌*◌, ◌<◌}
 use native.Mathlib.Omega.{arith}
 use lib.Dec.{eqb}
@@ -25,25 +24,25 @@ use Rattle.meaning.proofs.Regions.{both_left, both_right, Once}
 use Rattle.meaning.proofs.Fits.{begun, fine_bus, fine_unit}
 
 -- A. a top is that of a line which opens, and of no other
-either_is : {A : Type 0} (x y : Option A) (a : A) → either x y ≡ some a → (x ≡ some a) ⊎ (y ≡ some a)
-either_is (some b) y a e = inl e
-either_is none y a e = inr e
+either_is : {A : Type 0} (x y : Option A) (a : A) → either x y ≡ Some a → (x ≡ Some a) ⊎ (y ≡ Some a)
+either_is (Some b) y a e = inl e
+either_is None y a e = inr e
 
-pub top_in : (told : List Line) (k : Whose) (t : ℕ) → top_of told k ≡ some t → (l : Line) × In l told × (top_by (opens l) k ≡ some t)
+pub top_in : (told : List Line) (k : Whose) (t : ℕ) → top_of told k ≡ Some t → (l : Line) × In l told × (top_by (opens l) k ≡ Some t)
 unfolding top_of
 top_in [] k t e = absurd (none_some e)
 top_in (l ∷ told) k t e =
     ⊎_elim (λ h. (l, In.head refl, h)) (λ h. let m = top_in told k t h in (m.0, In.tail m.1, m.2))
     (either_is (top_by (opens l) k) (top_of told k) t e)
 
-either_first : {A : Type 0} (x y : Option A) (a : A) → x ≡ some a → either x y ≡ some a
+either_first : {A : Type 0} (x y : Option A) (a : A) → x ≡ Some a → either x y ≡ Some a
 either_first x y a e = ap (λ z. either z y) e
 
-either_second : {A : Type 0} (x y : Option A) (a : A) → ((b : A) → x ≡ some b → ⊥) → y ≡ some a → either x y ≡ some a
-either_second (some b) y a h e = absurd (h b refl)
-either_second none y a h e = e
+either_second : {A : Type 0} (x y : Option A) (a : A) → ((b : A) → x ≡ Some b → ⊥) → y ≡ Some a → either x y ≡ Some a
+either_second (Some b) y a h e = absurd (h b refl)
+either_second None y a h e = e
 
-pub in_top : (told : List Line) → Once told → (l : Line) → In l told → (k : Whose) (t : ℕ) → top_by (opens l) k ≡ some t → top_of told k ≡ some t
+pub in_top : (told : List Line) → Once told → (l : Line) → In l told → (k : Whose) (t : ℕ) → top_by (opens l) k ≡ Some t → top_of told k ≡ Some t
 unfolding top_of
 in_top [] once l m k t e = absurd (Memᴰ.not-nil m)
 in_top (x ∷ told) once l m k t e =
@@ -55,7 +54,7 @@ in_top (x ∷ told) once l m k t e =
 
 -- B. a record that is not empty was given by a line
 abbrev pub GivenIn : List Line → Whose → ℕ → Type 0
-GivenIn told k i = (l : Line) × In l told × ((place : ℕ) × (given_by (gives l place) k i ≡ none → ⊥))
+GivenIn told k i = (l : Line) × In l told × ((place : ℕ) × (given_by (gives l place) k i ≡ None → ⊥))
 
 pub given_in : (told : List Line) (k : Whose) (i : ℕ) → (record_of told k i ≡ Empty → ⊥) → GivenIn told k i
 unfolding record_of
@@ -63,11 +62,11 @@ given_in [] k i h = absurd (h refl)
 given_in (l ∷ told) k i h = go (given_in told k i) (given_by (gives l (size * total told)) k i) refl
   where
     go : ((record_of told k i ≡ Empty → ⊥) → GivenIn told k i) → (o : Option R.Record) → given_by (gives l (size * total told)) k i ≡ o → GivenIn (l ∷ told) k i
-    go before none e = let m = before (λ z. h (ap (λ o. else o (record_of told k i)) e ∙ z)) in (m.0, In.tail m.1, m.2)
-    go before (some r) e = (l, In.head refl, (size * total told, λ z. none_some (sym z ∙ e)))
+    go before None e = let m = before (λ z. h (ap (λ o. else o (record_of told k i)) e ∙ z)) in (m.0, In.tail m.1, m.2)
+    go before (Some r) e = (l, In.head refl, (size * total told, λ z. none_some (sym z ∙ e)))
 
 -- what a line gives is not an empty record
-gift_full : (l : Line) (place : ℕ) (g : Giving) → gives l place ≡ some g → g.gift ≡ Empty → ⊥
+gift_full : (l : Line) (place : ℕ) (g : Giving) → gives l place ≡ Some g → g.gift ≡ Empty → ⊥
 unfolding gives
 gift_full (Bus bus) place g e z = none_some e
 gift_full (L-as-Unit settings limits) place g e z = none_some e
@@ -77,21 +76,21 @@ gift_full (Page u v top) place g e z = let y = some_inj e in let x : ◌≡◌ {
 gift_full (Vc u v w target class outvpi outvci) place g e z = let y = some_inj e in let x : ◌≡◌ {A = ℕ} 0 1 = cc in omega arith
 gift_full (Mc u session) place g e z = none_some e
 
-given_full : (l : Line) (place : ℕ) (k : Whose) (i : ℕ) (r : R.Record) → given_by (gives l place) k i ≡ some r → r ≡ Empty → ⊥
+given_full : (l : Line) (place : ℕ) (k : Whose) (i : ℕ) (r : R.Record) → given_by (gives l place) k i ≡ Some r → r ≡ Empty → ⊥
 given_full l place k i r e z = go (gives l place) refl e
   where
-    go : (o : Option Giving) → gives l place ≡ o → given_by o k i ≡ some r → ⊥
-    go none f h = none_some h
-    go (some g) f h = gift_full l place g f (only_is (same k g.whose && eqb i g.at) g.gift r h ∙ z)
+    go : (o : Option Giving) → gives l place ≡ o → given_by o k i ≡ Some r → ⊥
+    go None f h = none_some h
+    go (Some g) f h = gift_full l place g f (only_is (same k g.whose && eqb i g.at) g.gift r h ∙ z)
 
-pub in_given : (told : List Line) (l : Line) → In l told → (k : Whose) (i : ℕ) → ((place : ℕ) → given_by (gives l place) k i ≡ none → ⊥) → record_of told k i ≡ Empty → ⊥
+pub in_given : (told : List Line) (l : Line) → In l told → (k : Whose) (i : ℕ) → ((place : ℕ) → given_by (gives l place) k i ≡ None → ⊥) → record_of told k i ≡ Empty → ⊥
 unfolding record_of
 in_given [] l m k i h e = Memᴰ.not-nil m
 in_given (x ∷ told) l m k i h e = go (λ n. in_given told l n k i h) (given_by (gives x (size * total told)) k i) refl
   where
     go : (In l told → record_of told k i ≡ Empty → ⊥) → (o : Option R.Record) → given_by (gives x (size * total told)) k i ≡ o → ⊥
-    go before (some r) f = given_full x (size * total told) k i r f (ap (λ o. else o (record_of told k i)) (sym f) ∙ e)
-    go before none f =
+    go before (Some r) f = given_full x (size * total told) k i r f (ap (λ o. else o (record_of told k i)) (sym f) ∙ e)
+    go before None f =
         ⊎_elim (λ n. h (size * total told) (ap (λ y. given_by (gives y (size * total told)) k i) n ∙ f))
         (λ n. before n (ap (λ o. else o (record_of told k i)) (sym f) ∙ e)) (Memᴰ.cases_cons m)
 
@@ -178,7 +177,7 @@ in_bus card room (Mc u session ∷ told) g n m =
     joined_bus (shelf_of told) (find_in (declared (shelf_of told)) u) session
     ∙ in_bus card room told g.1 n (other_line n (Mc u session) told (λ e. let z : ◌≡◌ {A = ℕ} 0 1 = cc in omega arith) m)
 
-pub below_bus : (card : Card) (room : ℕ) (told : List Line) → Good card room told → (u t : ℕ) → top_of told (of_unit u) ≡ some t → u < (shelf_of told).bus
+pub below_bus : (card : Card) (room : ℕ) (told : List Line) → Good card room told → (u t : ℕ) → top_of told (of_unit u) ≡ Some t → u < (shelf_of told).bus
 unfolding top_of opens same shelf_of shelf_by declare
 below_bus card room [] g u t e = absurd (none_some e)
 below_bus card room (Bus bus ∷ told) g u t e = absurd (none_some (ap (λ x. top_of x (of_unit u)) (sym (first_is told (fine_bus card room told bus g.0).0)) ∙ e))

@@ -1,10 +1,9 @@
 -- The memory of good lines: what stands at each place is what the lines gave it, and what a line does to it is the memory of one line more.
 -- Assumes nothing.
-use Rattle.std.specs.Prelude.{Some}
+use Rattle.std.specs.Prelude.{Some, None}
 use mathlib.Core.Path.{◌≡◌, refl, sym, ap, ap₂, subst, ◌∙◌}
 use mathlib.Core.Bool.{Bool, true, false, ◌&&◌}
 use mathlib.Core.List.{List, [], ◌∷◌, ◌++◌, append_assoc, append-nil}
-use mathlib.Core.Option.{none, some}
 use Prim.Native.Nat.{ℕ, zero, suc, ◌+◌, ◌-◌, ◌*◌, ◌^◌, ◌<◌, ◌≤◌}
 use native.Mathlib.Nat.{add-zero, sub-zero}
 use native.Mathlib.Numerals.{add-one}
@@ -98,15 +97,15 @@ records_hold card room (Mc u session ∷ told) m g r k i = records_hold card roo
 rest : List ℕ → List Line → List ℕ
 rest memory told = replicate (usable memory - size * total told) 0 ++ drop (usable memory) memory
 
-record_at_lem : (told : List Line) (k : Whose) (top i : ℕ) → top_of told k ≡ some top → i ≤ top → get_or (records told) (start told k + i) Empty ≡ record_of told k i
+record_at_lem : (told : List Line) (k : Whose) (top i : ℕ) → top_of told k ≡ Some top → i ≤ top → get_or (records told) (start told k + i) Empty ≡ record_of told k i
 unfolding records
 record_at_lem told k top i e h = regions_at (record_of told) told k top i Empty e h
 
-index : (told : List Line) (k : Whose) (top i : ℕ) → top_of told k ≡ some top → i ≤ top → start told k + i < length (records told)
+index : (told : List Line) (k : Whose) (top i : ℕ) → top_of told k ≡ Some top → i ≤ top → start told k + i < length (records told)
 unfolding records
 index told k top i e h = let s = start_lt told k top e in let n = regions_length (record_of told) told in omega arith
 
-pub stands_at : (card : Card) (memory : List ℕ) (told : List Line) → ((k : Whose) (i : ℕ) → Holds card (record_of told k i)) → (k : Whose) (top i : ℕ) → top_of told k ≡ some top → i ≤ top → record_at card (memory_of card memory told) (size * start told k + size * i) ≡ Some (record_of told k i)
+pub stands_at : (card : Card) (memory : List ℕ) (told : List Line) → ((k : Whose) (i : ℕ) → Holds card (record_of told k i)) → (k : Whose) (top i : ℕ) → top_of told k ≡ Some top → i ≤ top → record_at card (memory_of card memory told) (size * start told k + size * i) ≡ Some (record_of told k i)
 unfolding memory_of rest
 stands_at card memory told hold k top i e h =
     let place : size * start told k + size * i ≡ size * (start told k + i) = omega arith in
@@ -116,7 +115,7 @@ stands_at card memory told hold k top i e h =
     ∙ ap Some r
 
 -- what one more gift makes of the records
-module _ (told : List Line) (l : Line) (g : Giving) (e : gives l (size * total told) ≡ some g) (once : Once told) (top : ℕ) (declared : top_of told g.whose ≡ some top) (within : g.at ≤ top) where
+module _ (told : List Line) (l : Line) (g : Giving) (e : gives l (size * total told) ≡ Some g) (once : Once told) (top : ℕ) (declared : top_of told g.whose ≡ Some top) (within : g.at ≤ top) where
   gift_other : (j : Whose) (n : ℕ) → (same j g.whose && eqb n g.at) ≡ false → record_of (l ∷ told) j n ≡ record_of told j n
   unfolding record_of
   gift_other j n z = rw (e, z)
@@ -164,7 +163,7 @@ total_more : (l : Line) (told : List Line) → total (l ∷ told) ≡ total told
 unfolding total
 total_more l told = refl
 
-put_with : (card : Card) (memory : List ℕ) (told : List Line) (k : Whose) (top i : ℕ) (r : R.Record) → top_of told k ≡ some top → i ≤ top → written card (memory_of card memory told) (size * start told k + size * i) r ≡ memory_with card memory (set (records told) (start told k + i) r) (total told)
+put_with : (card : Card) (memory : List ℕ) (told : List Line) (k : Whose) (top i : ℕ) (r : R.Record) → top_of told k ≡ Some top → i ≤ top → written card (memory_of card memory told) (size * start told k + size * i) r ≡ memory_with card memory (set (records told) (start told k + i) r) (total told)
 put_with card memory told k top i r e h =
     let place : size * start told k + size * i ≡ size * (start told k + i) = omega arith in
     ap₂ (λ m p. written card m p r) (is_with card memory told) place
@@ -172,7 +171,7 @@ put_with card memory told k top i r e h =
 
 module _ (card : Card) (memory : List ℕ) (told : List Line) (w : Grown told) where
   -- a line that only gives: what it writes is the memory of one line more
-  pub memory_gift : (l : Line) (g : Giving) → opens l ≡ none → gives l (size * total told) ≡ some g → (top : ℕ) → top_of told g.whose ≡ some top → g.at ≤ top → written card (memory_of card memory told) (size * start told g.whose + size * g.at) g.gift ≡ memory_of card memory (l ∷ told)
+  pub memory_gift : (l : Line) (g : Giving) → opens l ≡ None → gives l (size * total told) ≡ Some g → (top : ℕ) → top_of told g.whose ≡ Some top → g.at ≤ top → written card (memory_of card memory told) (size * start told g.whose + size * g.at) g.gift ≡ memory_of card memory (l ∷ told)
   memory_gift l g o e top declared within =
       let rs : records (l ∷ told) ≡ set (records told) (start told g.whose + g.at) g.gift =
       records_more l told ∙ ap₂ ◌++◌ (gifted told l g e w.once top declared within) (ap (region_by (record_of (l ∷ told))) o) ∙ append-nil _ in
@@ -180,18 +179,18 @@ module _ (card : Card) (memory : List ℕ) (told : List Line) (w : Grown told) w
       put_with card memory told g.whose top g.at g.gift declared within ∙ sym (is_with card memory (l ∷ told) ∙ ap₂ (memory_with card memory) rs t)
 
   -- one that does neither
-  still : (l : Line) → gives l (size * total told) ≡ none → regions (record_of (l ∷ told)) told ≡ records told
+  still : (l : Line) → gives l (size * total told) ≡ None → regions (record_of (l ∷ told)) told ≡ records told
   unfolding record_of records
   still l e = ap (λ x. regions (λ k i. else (given_by x k i) (record_of told k i)) told) e
 
-  pub memory_still : (l : Line) → opens l ≡ none → gives l (size * total told) ≡ none → memory_of card memory told ≡ memory_of card memory (l ∷ told)
+  pub memory_still : (l : Line) → opens l ≡ None → gives l (size * total told) ≡ None → memory_of card memory told ≡ memory_of card memory (l ∷ told)
   memory_still l o e =
       let rs : records (l ∷ told) ≡ records told = records_more l told ∙ ap₂ ◌++◌ (still l e) (ap (region_by (record_of (l ∷ told))) o) ∙ append-nil _ in
       let t : total (l ∷ told) ≡ total told = total_more l told ∙ ap (λ x. total told + takes x) o ∙ add-zero (total told) in
       is_with card memory told ∙ sym (is_with card memory (l ∷ told) ∙ ap₂ (memory_with card memory) rs t)
 
   -- one that opens: its records are empty, and stand there already
-  opened : (l : Line) (o : Opening) (rs : List R.Record) → opens l ≡ some o → top_of told o.whose ≡ none → ((i : ℕ) → record_of (l ∷ told) o.whose i ≡ record_of told o.whose i) → regions (record_of (l ∷ told)) told ≡ rs → size * total told + size * (o.top + 1) ≤ usable memory → memory_with card memory rs (total told) ≡ memory_of card memory (l ∷ told)
+  opened : (l : Line) (o : Opening) (rs : List R.Record) → opens l ≡ Some o → top_of told o.whose ≡ None → ((i : ℕ) → record_of (l ∷ told) o.whose i ≡ record_of told o.whose i) → regions (record_of (l ∷ told)) told ≡ rs → size * total told + size * (o.top + 1) ≤ usable memory → memory_with card memory rs (total told) ≡ memory_of card memory (l ∷ told)
   opened l o rs e new same regions_are room =
       let more : region_by (record_of (l ∷ told)) (opens l) ≡ replicate (o.top + 1) Empty =
       ap (region_by (record_of (l ∷ told))) e ∙ all_empty (record_of (l ∷ told) o.whose) (o.top + 1) (λ i. same i ∙ w.vacant o.whose i new) in
@@ -200,13 +199,13 @@ module _ (card : Card) (memory : List ℕ) (told : List Line) (w : Grown told) w
       (is_with card memory (l ∷ told) ∙ ap₂ (memory_with card memory) (records_more l told ∙ ap₂ ◌++◌ regions_are more) t
       ∙ unwritten card memory rs (total told) (o.top + 1) room)
 
-  pub memory_unit : (settings : Settings) (limits : Limits) → top_of told (of_unit settings.number) ≡ none → size * total told + size * (settings.top + 1) ≤ usable memory → memory_of card memory told ≡ memory_of card memory (L-as-Unit settings limits ∷ told)
+  pub memory_unit : (settings : Settings) (limits : Limits) → top_of told (of_unit settings.number) ≡ None → size * total told + size * (settings.top + 1) ≤ usable memory → memory_of card memory told ≡ memory_of card memory (L-as-Unit settings limits ∷ told)
   unfolding opens gives record_of
   memory_unit settings limits new room =
       is_with card memory told
       ∙ opened (L-as-Unit settings limits) (record { whose = of_unit settings.number; top = settings.top }) (records told) refl new (λ i. refl) (still (L-as-Unit settings limits) refl) room
 
-  pub memory_page : (u v top : ℕ) → (p : AtPath told u v) → top_of told (of_page u v) ≡ none → size * total told + size * (top + 1) ≤ usable memory → written card (memory_of card memory told) (size * start told (of_unit u) + size * v) (R-as-Page top (size * total told)) ≡ memory_of card memory (Page u v top ∷ told)
+  pub memory_page : (u v top : ℕ) → (p : AtPath told u v) → top_of told (of_page u v) ≡ None → size * total told + size * (top + 1) ≤ usable memory → written card (memory_of card memory told) (size * start told (of_unit u) + size * v) (R-as-Page top (size * total told)) ≡ memory_of card memory (Page u v top ∷ told)
   unfolding opens gives record_of same
   memory_page u v top p new room =
       put_with card memory told (of_unit u) p.top v (R-as-Page top (size * total told)) p.declared p.within

@@ -1,10 +1,9 @@
 -- The shelf of good lines: each declared unit is found, with its top VPI, the place of its records and the sessions that it hears; no other is
 -- found; and there is a place for one more. Assumes nothing.
-use Rattle.std.specs.Prelude.{None, Some}
+use Rattle.std.specs.Prelude.{None, Some, Ok, Option}
 use mathlib.Core.Path.{◌≡◌, refl, sym, ap, ap₂, ◌∙◌}
 use mathlib.Core.Bool.{Bool, true, false, cond, ◌||◌, false≢true}
 use mathlib.Core.List.{List, [], ◌∷◌, ◌++◌}
-use mathlib.Core.Option.{Option, none, some}
 use Prim.Native.Nat.{ℕ, zero, suc, ◌+◌, ◌*◌, ◌<◌, ◌≤◌}
 use native.Mathlib.Nat.{not-suc-le-zero}
 use native.Mathlib.Numerals.{add-one}
@@ -25,7 +24,6 @@ use Rattle.shelf.proofs.Finding.{or_else, find_declared, find_kept}
 use Rattle.shelf.proofs.Hearing.{hears_with, hears_none}
 use Rattle.line.specs.declared.Line.{Line}
 use Rattle.line.specs.declared.Line.TheVariants.{Bus, Unit as L-as-Unit, Vp, Drop, Page, Vc, Mc}
-use Rattle.judge.specs.declared.Verdict.TheVariants.{Fine}
 use Rattle.meaning.specs.Told.{of_unit, same, opens, top_of, total, hears_by, hears_in, declare, hearing, join_at, shelf_by, shelf_of}
 use Rattle.meaning.specs.Lines.{is_first, judge, Good}
 use Rattle.meaning.proofs.Tabulate.{some_inj, none_some}
@@ -33,17 +31,18 @@ use Rattle.meaning.proofs.Regions.{start}
 use Rattle.meaning.proofs.Fits.{fine_bus, fine_unit, fine_mc}
 use Rattle.meaning.proofs.Grown.{decide}
 use Rattle.meaning.proofs.Memory.{Ranged, AllRanged}
+use Rattle.judge.specs.Verdicts.{fine}
 
 -- how many of the numbers below n are not declared
 vacancy : Option ℕ → ℕ
-vacancy none = 1
-vacancy (some top) = 0
+vacancy None = 1
+vacancy (Some top) = 0
 
 pub vacancies : (ℕ → Option ℕ) → ℕ → ℕ
 vacancies f zero = 0
 vacancies f (suc n) = vacancies f n + vacancy (f n)
 
-module _ (f g : ℕ → Option ℕ) (u top : ℕ) (new : f u ≡ none) (now : g u ≡ some top) (others : (n : ℕ) → (n ≡ u → ⊥) → g n ≡ f n) where
+module _ (f g : ℕ → Option ℕ) (u top : ℕ) (new : f u ≡ None) (now : g u ≡ Some top) (others : (n : ℕ) → (n ≡ u → ⊥) → g n ≡ f n) where
   vacant_below : (n : ℕ) → n ≤ u → vacancies g n ≡ vacancies f n
   unfolding vacancies
   vacant_below zero h = refl
@@ -80,9 +79,9 @@ pub record Stands (shelf : Shelf) (u top first : ℕ) (heard : ℕ → Bool) : T
 pub record Shelved (told : List Line) : Type 0 where
   pub long : length (shelf_of told).units ≡ 32
   pub counted : (shelf_of told).count + vacancies (λ u. top_of told (of_unit u)) 32 ≡ 32
-  pub here : (u top : ℕ) → top_of told (of_unit u) ≡ some top → Stands (shelf_of told) u top (start told (of_unit u)) (hears_in told u)
-  pub gone : (u : ℕ) → top_of told (of_unit u) ≡ none → find_in (declared (shelf_of told)) u ≡ None
-  pub deaf : (u s : ℕ) → top_of told (of_unit u) ≡ none → hears_in told u s ≡ false
+  pub here : (u top : ℕ) → top_of told (of_unit u) ≡ Some top → Stands (shelf_of told) u top (start told (of_unit u)) (hears_in told u)
+  pub gone : (u : ℕ) → top_of told (of_unit u) ≡ None → find_in (declared (shelf_of told)) u ≡ None
+  pub deaf : (u s : ℕ) → top_of told (of_unit u) ≡ None → hears_in told u s ≡ false
 
 -- a unit more
 module _ (shelf : Shelf) (n : U.Unit) (room : shelf.count < length shelf.units) where
@@ -181,7 +180,7 @@ with_session_length : (sessions : List ℕ) (session : ℕ) → length (with_ses
 unfolding with_session
 with_session_length sessions session = simp length-set
 
-module _ (told : List Line) (a session top : ℕ) (hs : session < 256) (w : Shelved told) (known : top_of told (of_unit a) ≡ some top) where
+module _ (told : List Line) (a session top : ℕ) (hs : session < 256) (w : Shelved told) (known : top_of told (of_unit a) ≡ Some top) where
   at_a : Stands (shelf_of told) a top (start told (of_unit a)) (hears_in told a)
   at_a = w.here a top known
 
@@ -239,7 +238,7 @@ module _ (told : List Line) (a session top : ℕ) (hs : session < 256) (w : Shel
   unfolding joined join_at
   joined_long = length-set (shelf_of told).units at_a.i (grew (shelf_of told) at_a.i session at_a.inside w.long fits) ∙ w.long
 
-  mc_deaf : (u s : ℕ) → top_of (Mc a session ∷ told) (of_unit u) ≡ none → hears_in (Mc a session ∷ told) u s ≡ false
+  mc_deaf : (u s : ℕ) → top_of (Mc a session ∷ told) (of_unit u) ≡ None → hears_in (Mc a session ∷ told) u s ≡ false
   unfolding top_of opens hears_in hears_by
   mc_deaf u s e = rw (ne_eqb a u (λ x. none_some (sym e ∙ ap (λ z. top_of told (of_unit z)) (sym x) ∙ known))) (w.deaf u s e)
 
@@ -257,7 +256,7 @@ module _ (told : List Line) (a session top : ℕ) (hs : session < 256) (w : Shel
       }
 
 -- a unit more
-module _ (told : List Line) (settings : Settings) (limits : Limits) (small : settings.number < 32) (lost : top_of told (of_unit settings.number) ≡ none) (w : Shelved told) where
+module _ (told : List Line) (settings : Settings) (limits : Limits) (small : settings.number < 32) (lost : top_of told (of_unit settings.number) ≡ None) (w : Shelved told) where
   abbrev n : U.Unit
   n = unit settings limits (size * total told)
 
@@ -267,7 +266,7 @@ module _ (told : List Line) (settings : Settings) (limits : Limits) (small : set
   abbrev g : ℕ → Option ℕ
   g u = top_of (L-as-Unit settings limits ∷ told) (of_unit u)
 
-  now : g settings.number ≡ some settings.top
+  now : g settings.number ≡ Some settings.top
   unfolding top_of opens same
   now = rw (eq-eqb settings.number settings.number refl)
 
@@ -284,7 +283,7 @@ module _ (told : List Line) (settings : Settings) (limits : Limits) (small : set
   abbrev next : Shelf
   next = declare (shelf_of told) n
 
-  unit_here : (u top : ℕ) → g u ≡ some top → Stands next u top (start (L-as-Unit settings limits ∷ told) (of_unit u)) (hears_in (L-as-Unit settings limits ∷ told) u)
+  unit_here : (u top : ℕ) → g u ≡ Some top → Stands next u top (start (L-as-Unit settings limits ∷ told) (of_unit u)) (hears_in (L-as-Unit settings limits ∷ told) u)
   unfolding start top_of opens same hears_in hears_by
   unit_here u top e =
       decide (eqb settings.number u)
@@ -296,12 +295,12 @@ module _ (told : List Line) (settings : Settings) (limits : Limits) (small : set
       (λ s h. hears_none s ∙ sym (w.deaf settings.number s lost))))
       (λ t. rw t (stood (shelf_of told) n room_for_one u top (start told (of_unit u)) (hears_in told u) (w.here u top (rw t at e))))
 
-  unit_gone : (u : ℕ) → g u ≡ none → find_in (declared next) u ≡ None
+  unit_gone : (u : ℕ) → g u ≡ None → find_in (declared next) u ≡ None
   unfolding top_of opens same
   unit_gone u e =
       lost_still (shelf_of told) n room_for_one u (λ x. none_some (sym e ∙ ap g x ∙ now)) (w.gone u (sym (others u (λ x. none_some (sym e ∙ ap g x ∙ now))) ∙ e))
 
-  unit_deaf : (u s : ℕ) → g u ≡ none → hears_in (L-as-Unit settings limits ∷ told) u s ≡ false
+  unit_deaf : (u s : ℕ) → g u ≡ None → hears_in (L-as-Unit settings limits ∷ told) u s ≡ false
   unfolding hears_in hears_by
   unit_deaf u s e = w.deaf u s (sym (others u (λ x. none_some (sym e ∙ ap g x ∙ now))) ∙ e)
 
@@ -322,7 +321,7 @@ unfolding shelf_of shelf_by top_of opens hears_in hears_by vacancies vacancy fin
 bus_first [] bus e = record { long = refl; counted = refl; here = λ u top k. absurd (none_some k); gone = λ u k. refl; deaf = λ u s k. refl }
 bus_first (l ∷ told) bus e = absurd (false≢true e)
 
-pub shelved_from : (card : Card) (room : ℕ) (told : List Line) (l : Line) → judge card room told l ≡ Fine → Ranged l → Shelved told → Shelved (l ∷ told)
+pub shelved_from : (card : Card) (room : ℕ) (told : List Line) (l : Line) → judge card room told l ≡ fine → Ranged l → Shelved told → Shelved (l ∷ told)
 unfolding shelf_of shelf_by top_of opens same start hears_in hears_by
 shelved_from card room told (Bus bus) e r w = bus_first told bus (fine_bus card room told bus e).0
 shelved_from card room told (L-as-Unit settings limits) e r w = shelved_unit told settings limits r (fine_unit card room told settings limits e).new w
@@ -338,7 +337,7 @@ unfolding shelf_of top_of hears_in vacancies vacancy find_in place_from
 shelved card room [] g r = record { long = refl; counted = refl; here = λ u top k. absurd (none_some k); gone = λ u k. refl; deaf = λ u s k. refl }
 shelved card room (l ∷ told) g r = shelved_from card room told l g.0 r.0 (shelved card room told g.1 r.1)
 
-pub place_left : (card : Card) (room : ℕ) (told : List Line) (settings : Settings) (limits : Limits) → judge card room told (L-as-Unit settings limits) ≡ Fine → settings.number < 32 → Shelved told → (shelf_of told).count < 32
+pub place_left : (card : Card) (room : ℕ) (told : List Line) (settings : Settings) (limits : Limits) → judge card room told (L-as-Unit settings limits) ≡ fine → settings.number < 32 → Shelved told → (shelf_of told).count < 32
 place_left card room told settings limits e small w =
     let h = room_for_one told settings limits small (fine_unit card room told settings limits e).new w in
     omega (arith, h, w.long)

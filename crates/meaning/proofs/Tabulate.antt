@@ -1,8 +1,8 @@
 -- A list made of a function, and options. Assumes nothing.
+use Rattle.std.specs.Prelude.{None, Option, Some}
 use mathlib.Core.Path.{◌≡◌, refl, sym, ap, ap₂, ◌∙◌}
 use mathlib.Core.Bool.{Bool, true, false}
 use mathlib.Core.List.{List, [], ◌∷◌, ◌++◌}
-use mathlib.Core.Option.{Option, none, some}
 use Prim.Native.Nat.{ℕ, zero, suc, ◌+◌, ◌<◌}
 use native.Mathlib.Nat.{not-suc-le-zero, zero-add, suc-add}
 use native.Mathlib.Omega.{arith}
@@ -13,31 +13,31 @@ use borrow.Author.Tests.{eqb-true, eqb-false, ne_eqb}
 use Rattle.meaning.specs.Told.{tabulate, only, either}
 
 -- options
-pub some_inj : {A : Type 0} {a b : A} → some a ≡ some b → a ≡ b
+pub some_inj : {A : Type 0} {a b : A} → Some a ≡ Some b → a ≡ b
 some_inj e = cc
 
-pub none_some : {A : Type 0} {a : A} → none ≡ some a → ⊥
+pub none_some : {A : Type 0} {a : A} → None ≡ Some a → ⊥
 none_some e = let z : ◌≡◌ {A = ℕ} 0 1 = cc in omega arith
 
-pub only_true : {A : Type 0} (b : Bool) (a c : A) → only b a ≡ some c → b ≡ true
+pub only_true : {A : Type 0} (b : Bool) (a c : A) → only b a ≡ Some c → b ≡ true
 only_true true a c e = refl
 only_true false a c e = absurd (none_some e)
 
-pub only_is : {A : Type 0} (b : Bool) (a c : A) → only b a ≡ some c → a ≡ c
+pub only_is : {A : Type 0} (b : Bool) (a c : A) → only b a ≡ Some c → a ≡ c
 only_is true a c e = some_inj e
 only_is false a c e = absurd (none_some e)
 
-pub only_false : {A : Type 0} (b : Bool) (a : A) → only b a ≡ none → b ≡ false
+pub only_false : {A : Type 0} (b : Bool) (a : A) → only b a ≡ None → b ≡ false
 only_false true a e = absurd (none_some (sym e))
 only_false false a e = refl
 
-pub either_left : {A : Type 0} (x y : Option A) → either x y ≡ none → x ≡ none
-either_left none y e = refl
-either_left (some a) y e = e
+pub either_left : {A : Type 0} (x y : Option A) → either x y ≡ None → x ≡ None
+either_left None y e = refl
+either_left (Some a) y e = e
 
-pub either_right : {A : Type 0} (x y : Option A) → either x y ≡ none → y ≡ none
-either_right none y e = e
-either_right (some a) y e = absurd (none_some (sym e))
+pub either_right : {A : Type 0} (x y : Option A) → either x y ≡ None → y ≡ None
+either_right None y e = e
+either_right (Some a) y e = absurd (none_some (sym e))
 
 -- writing behind a part
 pub set_behind : {A : Type 0} (xs ys : List A) (i : ℕ) (a : A) → set (xs ++ ys) (length xs + i) a ≡ xs ++ set ys i a

@@ -1,5 +1,5 @@
 -- What a line does to a memory and a shelf as they stand. Assumes nothing.
-use Rattle.std.specs.Prelude.{ℕ, ◌+◌, ◌*◌, ◌<◌, Bool, cond, List, Option}
+use Rattle.std.specs.Prelude.{ℕ, ◌+◌, ◌*◌, ◌<◌, Bool, cond, List, Option, Some, None, Err}
 use Rattle.bus.specs.Routing.{routing}
 use Rattle.card.specs.declared.Card.{Card}
 use Rattle.lookup.specs.Record.{size, record_at, written}
@@ -13,24 +13,26 @@ use Rattle.line.specs.declared.Line.{Line}
 use Rattle.line.specs.declared.Line.TheVariants.{Bus, Unit as L-as-Unit, Vp, Drop, Page, Vc, Mc}
 use Rattle.judge.specs.declared.Owner.{Owner}
 use Rattle.judge.specs.declared.Paged.{Paged}
-use Rattle.judge.specs.declared.Verdict.{Verdict}
-use Rattle.judge.specs.declared.Verdict.TheVariants.{Form}
-use Rattle.judge.specs.Verdicts.{page_in}
+use Rattle.judge.specs.declared.Fault.TheVariants.{Form}
+use Rattle.judge.specs.Verdicts.{Verdict, page_in}
 use Rattle.judge.specs.Owners.{unit_of, owner_of, spot}
 use Rattle.judge.specs.Standing.{judge_at}
 use Rattle.meaning.specs.Told.{opens, takes, shelf_by}
 
 -- the memory after it, where it names this unit
-unfoldable pub put_by : Card → List ℕ → Owner → ℕ → R.Record → List ℕ
-put_by card memory o vpi r = cond o.known (written card memory (spot o vpi) r) memory
+unfoldable pub put_by : Card → List ℕ → Option Owner → ℕ → R.Record → List ℕ
+put_by card memory (Some o) vpi r = written card memory (spot o vpi) r
+put_by card memory None vpi r = memory
 
-unfoldable pub put_in : Card → List ℕ → Paged → ℕ → R.Record → List ℕ
-put_in card memory page vci r = cond page.known (written card memory (page.place + size * vci) r) memory
+unfoldable pub put_in : Card → List ℕ → Option Paged → ℕ → R.Record → List ℕ
+put_in card memory (Some page) vci r = written card memory (page.place + size * vci) r
+put_in card memory None vci r = memory
 
-unfoldable pub put_vc : Card → List ℕ → Owner → ℕ → ℕ → R.Record → List ℕ
-put_vc card memory o vpi vci r = cond o.known (put_in card memory (page_in (record_at card memory (spot o vpi))) vci r) memory
+unfoldable pub put_vc : Card → List ℕ → Option Owner → ℕ → ℕ → R.Record → List ℕ
+put_vc card memory (Some o) vpi vci r = put_in card memory (page_in (record_at card memory (spot o vpi))) vci r
+put_vc card memory None vpi vci r = memory
 
-unfoldable pub memory_by : Card → List ℕ → ℕ → Owner → Line → List ℕ
+unfoldable pub memory_by : Card → List ℕ → ℕ → Option Owner → Line → List ℕ
 memory_by card memory used o (Bus bus) = memory
 memory_by card memory used o (L-as-Unit settings limits) = memory
 memory_by card memory used o (Vp u v target class outvpi) = put_by card memory o v (Route (routing target class) outvpi 0)
@@ -42,7 +44,7 @@ memory_by card memory used o (Mc u session) = memory
 -- a line that is read
 abbrev pub verdict_at : Card → ℕ → Bool → (ℕ → Option R.Record) → Shelf → ℕ → Reading → Verdict
 verdict_at card room first stands shelf used (Good l) = judge_at card room first stands shelf used l
-verdict_at card room first stands shelf used (Bad wrong) = Form wrong
+verdict_at card room first stands shelf used (Bad wrong) = Err (Form wrong)
 
 abbrev pub shelf_in : Reading → ℕ → Shelf → Shelf
 shelf_in (Good l) used shelf = shelf_by l used shelf

@@ -1,21 +1,19 @@
 -- The lines of a table, each judged against the lines before it; the first faulty one ends it. Assumes nothing.
-use Rattle.std.specs.Prelude.{ℕ, ◌+◌, ◌*◌, ◌≡◌, Bool, true, false, cond, List, [], ◌∷◌, Some}
-use Rattle.std.proofs.Math.Option.{Option, none, some}
+use Rattle.std.specs.Prelude.{ℕ, ◌+◌, ◌*◌, ◌≡◌, Bool, true, false, cond, List, [], ◌∷◌, Some, Err, Ok, None, Option}
 use Rattle.card.specs.declared.Card.{Card}
 use Rattle.lookup.specs.Record.{size}
 use Rattle.line.specs.declared.Line.{Line}
 use Rattle.line.specs.declared.Line.TheVariants.{Bus, Unit as L-as-Unit, Vp, Drop, Page, Vc, Mc}
 use Rattle.line.specs.declared.Reading.{Reading}
 use Rattle.line.specs.declared.Reading.TheVariants.{Good as Read, Bad}
-use Rattle.judge.specs.declared.Verdict.{Verdict}
-use Rattle.judge.specs.declared.Verdict.TheVariants.{Fine, Form, Order}
-use Rattle.judge.specs.Verdicts.{is_fine}
+use Rattle.judge.specs.declared.Fault.TheVariants.{Form, Order}
+use Rattle.judge.specs.Verdicts.{fine, Verdict, is_fine}
 use Rattle.judge.specs.Judge.{judge_bus, judge_unit, judge_vp, judge_drop, judge_page, judge_vc, judge_mc}
 use Rattle.meaning.specs.Told.{of_unit, of_page, top_of, hears_in, total, record_of, shelf_of}
 
 -- "first line is not `bus`"
 abbrev pub started : List Line → Verdict → Verdict
-started [] rest = Order 1
+started [] rest = Err (Order 1)
 started (l ∷ told) rest = rest
 
 abbrev pub is_first : List Line → Bool
@@ -24,12 +22,12 @@ is_first (l ∷ told) = false
 
 -- "unit not declared before use": a declared unit has a top VPI
 abbrev pub owned : Option ℕ → (ℕ → Verdict) → Verdict
-owned none rest = Order 2
-owned (some top) rest = rest top
+owned None rest = Err (Order 2)
+owned (Some top) rest = rest top
 
 abbrev pub is_declared : Option ℕ → Bool
-is_declared none = false
-is_declared (some top) = true
+is_declared None = false
+is_declared (Some top) = true
 
 -- Order, Twice, Wide or Room against the lines so far, in a memory with room for so many bytes
 unfoldable pub judge : Card → ℕ → List Line → Line → Verdict
@@ -52,7 +50,7 @@ judge card room told (Mc u session) = started told (owned (top_of told (of_unit 
 -- the lines so far are good: each was fine after those before it
 abbrev pub Good : Card → ℕ → List Line → Type 0
 Good card room [] = Unit {0}
-Good card room (l ∷ told) = (judge card room told l ≡ Fine) × Good card room told
+Good card room (l ∷ told) = (judge card room told l ≡ fine) × Good card room told
 
 -- what reading lines comes to: all are good; or those before the first that is not, which line that is, counted from 1, and why
 pub data Ran : Type 0 where
@@ -62,7 +60,7 @@ pub data Ran : Type 0 where
 -- a line that cannot be read is Form; one that can is judged
 abbrev pub verdict_on : Card → ℕ → List Line → Reading → Verdict
 verdict_on card room told (Read l) = judge card room told l
-verdict_on card room told (Bad wrong) = Form wrong
+verdict_on card room told (Bad wrong) = Err (Form wrong)
 
 abbrev pub with : Reading → List Line → List Line
 with (Read l) told = l ∷ told

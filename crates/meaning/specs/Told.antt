@@ -1,6 +1,5 @@
 -- What the good lines of a table say. A list of lines has the latest first. Assumes nothing.
-use Rattle.std.specs.Prelude.{ℕ, zero, suc, ◌+◌, ◌-◌, ◌*◌, Bool, true, false, ◌&&◌, ◌||◌, List, [], ◌∷◌, ◌++◌, eqb, get_or, set, drop, replicate, None, Some}
-use Rattle.std.proofs.Math.Option.{Option, none, some}
+use Rattle.std.specs.Prelude.{ℕ, zero, suc, ◌+◌, ◌-◌, ◌*◌, Bool, true, false, ◌&&◌, ◌||◌, List, [], ◌∷◌, ◌++◌, eqb, get_or, set, drop, replicate, None, Some, Option}
 use Rattle.bus.specs.Routing.{routing}
 use Rattle.card.specs.declared.Card.{Card}
 use Rattle.lookup.specs.Record.{size, usable, image}
@@ -31,13 +30,13 @@ pub record Opening : Type 0 where
   pub top : ℕ
 
 unfoldable pub opens : Line → Option Opening
-opens (Bus bus) = none
-opens (L-as-Unit settings limits) = some (record { whose = of_unit settings.number; top = settings.top })
-opens (Vp u v target class outvpi) = none
-opens (Drop u v) = none
-opens (Page u v top) = some (record { whose = of_page u v; top = top })
-opens (Vc u v w target class outvpi outvci) = none
-opens (Mc u session) = none
+opens (Bus bus) = None
+opens (L-as-Unit settings limits) = Some (record { whose = of_unit settings.number; top = settings.top })
+opens (Vp u v target class outvpi) = None
+opens (Drop u v) = None
+opens (Page u v top) = Some (record { whose = of_page u v; top = top })
+opens (Vc u v w target class outvpi outvci) = None
+opens (Mc u session) = None
 
 -- the record that a line gives to a VPI of a unit or to a VCI of a page; a page's own records start at this place
 pub record Giving : Type 0 where
@@ -46,14 +45,14 @@ pub record Giving : Type 0 where
   pub gift : R.Record
 
 unfoldable pub gives : Line → ℕ → Option Giving
-gives (Bus bus) place = none
-gives (L-as-Unit settings limits) place = none
-gives (Vp u v target class outvpi) place = some (record { whose = of_unit u; at = v; gift = Route (routing target class) outvpi 0 })
-gives (Drop u v) place = some (record { whose = of_unit u; at = v; gift = R-as-Drop })
-gives (Page u v top) place = some (record { whose = of_unit u; at = v; gift = R-as-Page top place })
+gives (Bus bus) place = None
+gives (L-as-Unit settings limits) place = None
+gives (Vp u v target class outvpi) place = Some (record { whose = of_unit u; at = v; gift = Route (routing target class) outvpi 0 })
+gives (Drop u v) place = Some (record { whose = of_unit u; at = v; gift = R-as-Drop })
+gives (Page u v top) place = Some (record { whose = of_unit u; at = v; gift = R-as-Page top place })
 gives (Vc u v w target class outvpi outvci) place =
-    some (record { whose = of_page u v; at = w; gift = Route (routing target class) outvpi outvci })
-gives (Mc u session) place = none
+    Some (record { whose = of_page u v; at = w; gift = Route (routing target class) outvpi outvci })
+gives (Mc u session) place = None
 
 -- "`mc` unit, session: the unit hears that session"
 unfoldable pub hears_by : Line → ℕ → ℕ → Bool
@@ -67,30 +66,30 @@ hears_by (Mc a session) u s = eqb a u && eqb session s
 
 -- B. what the lines so far say
 abbrev pub only : {A : Type 0} → Bool → A → Option A
-only true a = some a
-only false a = none
+only true a = Some a
+only false a = None
 
 abbrev pub either : {A : Type 0} → Option A → Option A → Option A
-either (some a) b = some a
-either none b = b
+either (Some a) b = Some a
+either None b = b
 
 abbrev pub else : {A : Type 0} → Option A → A → A
-else (some a) b = a
-else none b = b
+else (Some a) b = a
+else None b = b
 
 -- the top of a declared unit, or of a page
 abbrev pub top_by : Option Opening → Whose → Option ℕ
-top_by none k = none
-top_by (some o) k = only (same o.whose k) o.top
+top_by None k = None
+top_by (Some o) k = only (same o.whose k) o.top
 
 unfoldable pub top_of : List Line → Whose → Option ℕ
-top_of [] k = none
+top_of [] k = None
 top_of (l ∷ told) k = either (top_by (opens l) k) (top_of told k)
 
 -- how many records there are
 abbrev pub takes : Option Opening → ℕ
-takes none = 0
-takes (some o) = o.top + 1
+takes None = 0
+takes (Some o) = o.top + 1
 
 unfoldable pub total : List Line → ℕ
 total [] = 0
@@ -98,8 +97,8 @@ total (l ∷ told) = total told + takes (opens l)
 
 -- the record of a VPI of a unit, or of a VCI of a page
 abbrev pub given_by : Option Giving → Whose → ℕ → Option R.Record
-given_by none k i = none
-given_by (some g) k i = only (same k g.whose && eqb i g.at) g.gift
+given_by None k i = None
+given_by (Some g) k i = only (same k g.whose && eqb i g.at) g.gift
 
 unfoldable pub record_of : List Line → Whose → ℕ → R.Record
 record_of [] k i = Empty
@@ -115,8 +114,8 @@ tabulate f zero = []
 tabulate f (suc n) = tabulate f n ++ (f n ∷ [])
 
 abbrev pub region_by : (Whose → ℕ → R.Record) → Option Opening → List R.Record
-region_by f none = []
-region_by f (some o) = tabulate (f o.whose) (o.top + 1)
+region_by f None = []
+region_by f (Some o) = tabulate (f o.whose) (o.top + 1)
 
 unfoldable pub regions : (Whose → ℕ → R.Record) → List Line → List R.Record
 regions f [] = []

@@ -1,5 +1,5 @@
 -- What `outlet` says of a cell that leaves is what the paper says. Assumes nothing.
-use Rattle.std.specs.Prelude.{None, Some}
+use Rattle.std.specs.Prelude.{None, Some, Option}
 use Prim.Native.Nat.{ℕ, ◌+◌, ◌*◌, ◌/◌, ◌%◌, ◌<◌}
 use native.Mathlib.Nat.{mod-lt, mod-eq_of_lt}
 use native.Mathlib.Omega.{arith}
@@ -7,7 +7,6 @@ use mathlib.Core.Path.{◌≡◌, refl, sym, ap, subst, ◌∙◌}
 use mathlib.Core.Logic.{◌↔◌}
 use mathlib.Core.Bool.{Bool, true, false}
 use mathlib.Core.List.{List, ◌∷◌, ◌++◌}
-use mathlib.Core.Option.{Option, none, some}
 use lib.ListN.{length}
 use Rattle.octets.specs.Octets as octets
 use Rattle.header.specs.Fields.{fields, top_of, word}
@@ -37,29 +36,29 @@ many outlet = many_queues outlet.limits.mode outlet.limits.cbrlength outlet.limi
 
 -- the queue as an option, and back
 abbrev pub leaving_as : Option ℕ → Option ℕ
-leaving_as none = None
-leaving_as (some q) = Some q
+leaving_as None = None
+leaving_as (Some q) = Some q
 
 pub leaves_from : (outlet : Outlet) (o : Option ℕ) → Leaves outlet o → queueing.leaving outlet ≡ leaving_as o
-leaves_from outlet none h = (leaving_iff outlet None).1 (λ p k. h p (subst (λ n. p < n) (many outlet) k))
-leaves_from outlet (some q) h = (leaving_iff outlet (Some q)).1 (subst (λ n. q < n) (sym (many outlet)) h.0, h.1, h.2)
+leaves_from outlet None h = (leaving_iff outlet None).1 (λ p k. h p (subst (λ n. p < n) (many outlet) k))
+leaves_from outlet (Some q) h = (leaving_iff outlet (Some q)).1 (subst (λ n. q < n) (sym (many outlet)) h.0, h.1, h.2)
 
 pub leaves_some : (outlet : Outlet) → (o : Option ℕ) × Leaves outlet o
 leaves_some outlet = by (queueing.leaving outlet) refl
   where
     by : (l : Option ℕ) → queueing.leaving outlet ≡ l → (o : Option ℕ) × Leaves outlet o
-    by None e = (none, λ q h. (leaving_iff outlet None).0 e q (subst (λ n. q < n) (sym (many outlet)) h))
-    by (Some q) e = let x = (leaving_iff outlet (Some q)).0 e in (some q, (subst (λ n. q < n) (many outlet) x.0, x.1, x.2))
+    by None e = (None, λ q h. (leaving_iff outlet None).0 e q (subst (λ n. q < n) (sym (many outlet)) h))
+    by (Some q) e = let x = (leaving_iff outlet (Some q)).0 e in (Some q, (subst (λ n. q < n) (many outlet) x.0, x.1, x.2))
 
 -- one at most
 as_option : Option ℕ → Option ℕ
-as_option None = none
-as_option (Some q) = some q
+as_option None = None
+as_option (Some q) = Some q
 
 back : (o : Option ℕ) → as_option (leaving_as o) ≡ o
 unfolding as_option
-back none = refl
-back (some q) = refl
+back None = refl
+back (Some q) = refl
 
 pub leaves_one : (outlet : Outlet) (a b : Option ℕ) → Leaves outlet a → Leaves outlet b → a ≡ b
 leaves_one outlet a b p q = sym (back a) ∙ ap as_option (sym (leaves_from outlet a p) ∙ leaves_from outlet b q) ∙ back b

@@ -1,6 +1,5 @@
 -- The queues of an outlet, the places of cells in the store, in 01's own numbers. Assumes nothing.
-use Rattle.std.specs.Prelude.{ℕ, ◌+◌, ◌-◌, ◌*◌, ◌/◌, ◌≤◌, ◌≡◌, ◌⊎◌, cond, true, List, [], ◌∷◌, ltb, get_or, take, drop}
-use Rattle.std.proofs.Math.Option.{Option, none, some}
+use Rattle.std.specs.Prelude.{ℕ, ◌+◌, ◌-◌, ◌*◌, ◌/◌, ◌≤◌, ◌≡◌, ◌⊎◌, cond, true, List, [], ◌∷◌, ltb, get_or, take, drop, None, Option, Some}
 use Rattle.outlet.specs.declared.Mode.{Mode}
 use Rattle.outlet.specs.declared.Mode.TheVariants.{One, Four}
 use Rattle.outlet.specs.declared.Limits.{Limits}
@@ -18,9 +17,9 @@ queue capacity limit first = record { capacity = capacity; limit = limit; first 
 
 -- "Capacities: mode `one`, 123 with the VBR limit. Mode `four`: class 0 holds 2, CBR its length, VBR 89 less the CBR length, ABR 32; classes 0 and 3 have no limit."
 abbrev pub queues_in : Mode → ℕ → ℕ → ℕ → List Queue
-queues_in One cbrlength cbrlimit vbrlimit = queue 123 (some vbrlimit) 0 ∷ []
+queues_in One cbrlength cbrlimit vbrlimit = queue 123 (Some vbrlimit) 0 ∷ []
 queues_in Four cbrlength cbrlimit vbrlimit =
-    queue 2 none 0 ∷ queue cbrlength (some cbrlimit) 2 ∷ queue (89 - cbrlength) (some vbrlimit) (2 + cbrlength) ∷ queue 32 none 91 ∷ []
+    queue 2 None 0 ∷ queue cbrlength (Some cbrlimit) 2 ∷ queue (89 - cbrlength) (Some vbrlimit) (2 + cbrlength) ∷ queue 32 None 91 ∷ []
 
 abbrev pub queues : Limits → List Queue
 queues limits = queues_in limits.mode limits.cbrlength limits.cbrlimit limits.vbrlimit
@@ -41,7 +40,7 @@ Given limits = GivenIn limits.mode limits.cbrlength limits.cbrlimit limits.vbrli
 
 -- no queue: nothing goes there
 abbrev pub nowhere : Queue
-nowhere = queue 0 none 0
+nowhere = queue 0 None 0
 
 abbrev pub queue_at : Outlet → ℕ → Queue
 queue_at outlet q = get_or (queues outlet.limits) q nowhere
@@ -55,8 +54,8 @@ held outlet q = (ring_at outlet q).count
 
 -- "the queue at its limit or above"
 abbrev pub AtLimit : Option ℕ → ℕ → Type 0
-AtLimit none held = ⊥
-AtLimit (some limit) held = limit ≤ held
+AtLimit None held = ⊥
+AtLimit (Some limit) held = limit ≤ held
 
 -- "CBR or VBR is at its limit or above (mode `one`: the queue at the VBR limit or above)"
 abbrev pub Crowded : Mode → Limits → (ℕ → ℕ) → Type 0

@@ -1,6 +1,5 @@
 -- Which cell leaves an outlet, and its bytes: 01's Take, in its own numbers. Assumes nothing.
-use Rattle.std.specs.Prelude.{ℕ, ◌+◌, ◌*◌, ◌/◌, ◌%◌, ◌<◌, ◌≡◌, List, ◌∷◌, ◌++◌, length, take, drop}
-use Rattle.std.proofs.Math.Option.{Option, none, some}
+use Rattle.std.specs.Prelude.{ℕ, ◌+◌, ◌*◌, ◌/◌, ◌%◌, ◌<◌, ◌≡◌, List, ◌∷◌, ◌++◌, length, take, drop, None, Option, Some}
 use Rattle.header.specs.declared.Link.{Link}
 use Rattle.header.specs.declared.Link.TheVariants.{Uni, Nni}
 use Rattle.outlet.specs.declared.Outlet.{Outlet}
@@ -10,8 +9,8 @@ use Rattle.paper.specs.Outlets.{queues, held, MarksCell}
 
 -- "Take gives the oldest cell (mode `one`) or the oldest cell of the lowest class held (mode `four`), or `empty`": of the queues that this mode has, the one that it leaves
 abbrev pub Leaves : Outlet → Option ℕ → Type 0
-Leaves outlet none = (q : ℕ) → q < length (queues outlet.limits) → held outlet q ≡ 0
-Leaves outlet (some q) = (q < length (queues outlet.limits)) × (0 < held outlet q) × ((p : ℕ) → p < q → held outlet p ≡ 0)
+Leaves outlet None = (q : ℕ) → q < length (queues outlet.limits) → held outlet q ≡ 0
+Leaves outlet (Some q) = (q < length (queues outlet.limits)) × (0 < held outlet q) × ((p : ℕ) → p < q → held outlet p ≡ 0)
 
 -- "the middle PT bit is set": the upper and the lowest stay
 abbrev pub marked : ℕ → ℕ

@@ -3,7 +3,6 @@ use Rattle.std.specs.Prelude.{Option, Some}
 use mathlib.Core.Path.{◌≡◌, refl, sym, ap, ap₂, ◌∙◌}
 use mathlib.Core.Bool.{Bool, true, false, cond, ◌&&◌}
 use mathlib.Core.List.{List, [], ◌∷◌}
-use mathlib.Core.Option.{some}
 use Prim.Native.Nat.{ℕ, ◌+◌, ◌*◌, ◌≤◌}
 use native.Mathlib.Omega.{arith}
 use lib.Dec.{eqb, ltb}
@@ -111,7 +110,7 @@ module _ (card : Card) (memory : List ℕ) (told : List Line) (g : Good card (us
   by_stands u h (R-as-Page t p) e =
       decide (ltb t h.vci) (λ y. rw y) (λ n. rw n (ap (λ x. by_vci x h) (stands_circuit u h.vpi t p e h.vci (ltb-false t h.vci n))))
 
-  pub lookup_lines : (link : Link) (u top header : ℕ) → top_of told (of_unit u) ≡ some top → translated stands link top (size * start told (of_unit u)) header ≡ looked_up told link u top header
+  pub lookup_lines : (link : Link) (u top header : ℕ) → top_of told (of_unit u) ≡ Some top → translated stands link top (size * start told (of_unit u)) header ≡ looked_up told link u top header
   unfolding translated looked_up by_got
   lookup_lines link u top header e =
       let h = fields link header in

@@ -1,10 +1,9 @@
 -- Demand 3, first half: a table that the wide card accepts is refused by the narrow card as Wide at its first line that is too wide, exactly when
 -- there is one; else it is accepted, with the same shelf, and every lookup agrees. Assumes nothing.
-use Rattle.std.specs.Prelude.{None, Some}
+use Rattle.std.specs.Prelude.{None, Some, Err, Ok, Option}
 use mathlib.Core.Path.{◌≡◌, refl, sym, ap, ap₂, subst, ◌∙◌}
 use mathlib.Core.Bool.{Bool, true, false, cond, not, false≢true}
 use mathlib.Core.List.{List, [], ◌∷◌, ◌++◌}
-use mathlib.Core.Option.{Option, none, some}
 use mathlib.Core.Logic.{◌⊎◌, inl, inr, ⊎_elim}
 use Prim.Native.Nat.{ℕ, ◌+◌, ◌*◌}
 use native.Mathlib.Omega.{arith}
@@ -24,9 +23,8 @@ use Rattle.line.specs.declared.Line.{Line}
 use Rattle.line.specs.declared.Line.TheVariants.{Bus, Unit as L-as-Unit, Vp, Drop, Page, Vc, Mc}
 use Rattle.line.specs.declared.Reading.{Reading}
 use Rattle.line.specs.declared.Reading.TheVariants.{Good as Read}
-use Rattle.judge.specs.declared.Verdict.{Verdict}
-use Rattle.judge.specs.declared.Verdict.TheVariants.{Fine, Order, Twice, Wide}
-use Rattle.judge.specs.Verdicts.{asked, room_for, off_bus, taken, page_in}
+use Rattle.judge.specs.declared.Fault.TheVariants.{Order, Twice, Wide}
+use Rattle.judge.specs.Verdicts.{fine, Verdict, asked, room_for, off_bus, taken, page_in}
 use Rattle.judge.specs.Judge.{in_page, judge_bus, judge_unit, judge_vp, judge_vc}
 use Rattle.meaning.specs.Told.{of_unit, of_page, top_of, total, record_of, shelf_of, memory_of}
 use Rattle.meaning.specs.Lines.{started, is_first, owned, is_declared, judge, Good}
@@ -48,52 +46,52 @@ use Rattle.promise.proofs.Refusals.{all_fine, accepts_good, accepts_ranged, at_l
 
 -- A. one line: what is fine on the wide card is Wide on the narrow one, or fine there too
 abbrev judged : Bool → Verdict
-judged wide = cond wide Wide Fine
+judged wide = cond wide (Err Wide) fine
 
 -- past a test that would have ended otherwise
-past : (b : Bool) (x y z w : Verdict) → (x ≡ Fine → ⊥) → (y ≡ Fine → z ≡ w) → cond b x y ≡ Fine → cond b x z ≡ w
+past : (b : Bool) (x y z w : Verdict) → (x ≡ fine → ⊥) → (y ≡ fine → z ≡ w) → cond b x y ≡ fine → cond b x z ≡ w
 past true x y z w bad h e = absurd (bad e)
 past false x y z w bad h e = h e
 
-narrow_asked : (ask : Ask) (rest : Verdict) → asked W ask rest ≡ Fine → asked Narrow ask rest ≡ judged (not (narrow_holds ask))
+narrow_asked : (ask : Ask) (rest : Verdict) → asked W ask rest ≡ fine → asked Narrow ask rest ≡ judged (not (narrow_holds ask))
 unfolding holds
 narrow_asked ask rest e = decide (narrow_holds ask) (λ t. rw t e) (λ t. rw t)
 
-begun : (told : List Line) (y z w : Verdict) → (y ≡ Fine → z ≡ w) → started told y ≡ Fine → started told z ≡ w
+begun : (told : List Line) (y z w : Verdict) → (y ≡ fine → z ≡ w) → started told y ≡ fine → started told z ≡ w
 begun [] y z w h e = absurd (order_fine e)
 begun (l ∷ told) y z w h e = h e
 
-by_owner : (o : Option ℕ) (f g : ℕ → Verdict) (w : Verdict) → ((top : ℕ) → f top ≡ Fine → g top ≡ w) → owned o f ≡ Fine → owned o g ≡ w
-by_owner none f g w h e = absurd (order_fine e)
-by_owner (some top) f g w h e = h top e
+by_owner : (o : Option ℕ) (f g : ℕ → Verdict) (w : Verdict) → ((top : ℕ) → f top ≡ fine → g top ≡ w) → owned o f ≡ fine → owned o g ≡ w
+by_owner None f g w h e = absurd (order_fine e)
+by_owner (Some top) f g w h e = h top e
 
-by_page : (r : R.Record) (vci : ℕ) (y z w : Verdict) → (y ≡ Fine → z ≡ w) → in_page (page_in (Some r)) vci y ≡ Fine → in_page (page_in (Some r)) vci z ≡ w
+by_page : (r : R.Record) (vci : ℕ) (y z w : Verdict) → (y ≡ fine → z ≡ w) → in_page (page_in (Some r)) vci y ≡ fine → in_page (page_in (Some r)) vci z ≡ w
 by_page Empty vci y z w h e = absurd (order_fine e)
 by_page R-as-Drop vci y z w h e = absurd (order_fine e)
 by_page (Route a b c) vci y z w h e = absurd (order_fine e)
-by_page (R-as-Page top place) vci y z w h e = past (ltb top vci) (Order 4) y z w order_fine h e
+by_page (R-as-Page top place) vci y z w h e = past (ltb top vci) (Err (Order 4)) y z w order_fine h e
 
-narrow_bus : (first : Bool) (bus : ℕ) → judge_bus W first bus ≡ Fine → judge_bus Narrow first bus ≡ judged (not (narrow_holds (A-as-Bus bus)))
+narrow_bus : (first : Bool) (bus : ℕ) → judge_bus W first bus ≡ fine → judge_bus Narrow first bus ≡ judged (not (narrow_holds (A-as-Bus bus)))
 unfolding judge_bus
-narrow_bus true bus e = narrow_asked (A-as-Bus bus) Fine e
+narrow_bus true bus e = narrow_asked (A-as-Bus bus) fine e
 narrow_bus false bus e = absurd (order_fine e)
 
-pub narrow_judge : (room : ℕ) (told : List Line) (l : Line) → judge W room told l ≡ Fine → judge Narrow room told l ≡ judged (too_wide l)
+pub narrow_judge : (room : ℕ) (told : List Line) (l : Line) → judge W room told l ≡ fine → judge Narrow room told l ≡ judged (too_wide l)
 unfolding judge too_wide judge_bus judge_unit judge_vp judge_vc
 narrow_judge room told (Bus bus) e = narrow_bus (is_first told) bus e
 narrow_judge room told (L-as-Unit settings limits) e =
     begun told _ _ _
-    (past (leb (shelf_of told).bus settings.number) (Order 2) _ _ _ order_fine
-    (past (is_declared (top_of told (of_unit settings.number))) (Twice 2) _ _ _ twice_fine
+    (past (leb (shelf_of told).bus settings.number) (Err (Order 2)) _ _ _ order_fine
+    (past (is_declared (top_of told (of_unit settings.number))) (Err (Twice 2)) _ _ _ twice_fine
     (narrow_asked (On settings.link) (room_for room (size * total told) (settings.top + 1)))))
     e
 narrow_judge room told (Vp u v target class outvpi) e =
     begun told _ _ _
     (by_owner (top_of told (of_unit u)) _ _ _
     (λ top.
-    past (ltb top v) (Order 3) _ _ _ order_fine
-    (past (off_bus (shelf_of told).bus target) (Order 4) _ _ _ order_fine
-    (past (taken (Some (record_of told (of_unit u) v))) (Twice 3) _ _ _ twice_fine (narrow_asked (Out outvpi) Fine)))))
+    past (ltb top v) (Err (Order 3)) _ _ _ order_fine
+    (past (off_bus (shelf_of told).bus target) (Err (Order 4)) _ _ _ order_fine
+    (past (taken (Some (record_of told (of_unit u) v))) (Err (Twice 3)) _ _ _ twice_fine (narrow_asked (Out outvpi) fine)))))
     e
 narrow_judge room told (Drop u v) e = e
 narrow_judge room told (Page u v topvci) e = e
@@ -101,10 +99,10 @@ narrow_judge room told (Vc u v w target class outvpi outvci) e =
     begun told _ _ _
     (by_owner (top_of told (of_unit u)) _ _ _
     (λ top.
-    past (ltb top v) (Order 3) _ _ _ order_fine
+    past (ltb top v) (Err (Order 3)) _ _ _ order_fine
     (by_page (record_of told (of_unit u) v) w _ _ _
-    (past (off_bus (shelf_of told).bus target) (Order 5) _ _ _ order_fine
-    (past (taken (Some (record_of told (of_page u v) w))) (Twice 4) _ _ _ twice_fine (narrow_asked (Out outvpi) Fine))))))
+    (past (off_bus (shelf_of told).bus target) (Err (Order 5)) _ _ _ order_fine
+    (past (taken (Some (record_of told (of_page u v) w))) (Err (Twice 4)) _ _ _ twice_fine (narrow_asked (Out outvpi) fine))))))
     e
 narrow_judge room told (Mc u session) e = e
 
@@ -150,7 +148,7 @@ unfolding read_then
 then_append [] told rest = refl
 then_append (l ∷ after) told rest = then_append after told (Read l ∷ rest)
 
-first_wide_faults : (room : ℕ) (lines : List Reading) (told : List Line) (line : ℕ) → AllFine W room lines told → FirstWide told line → FirstFault Narrow room lines line Wide
+first_wide_faults : (room : ℕ) (lines : List Reading) (told : List Line) (line : ℕ) → AllFine W room lines told → FirstWide told line → FirstFault Narrow room lines line (Err Wide)
 unfolding read_then
 first_wide_faults room lines told line g w =
     let good = good_before W room w.after (w.it ∷ w.before) (subst (Good W room) w.all g.good) in
@@ -169,14 +167,14 @@ first_wide_faults room lines told line g w =
 module _ (text memory : List ℕ) (store rows : ℕ) (told : List Line) (a : Accepts W text memory store rows told) where
   narrow_refuses : (line : ℕ) → FirstWide told line → Refuses Narrow text memory store rows 5 line
   narrow_refuses line w =
-      inr (inl (at_line Narrow text memory line a.short Wide (first_wide_faults (usable memory) (lines_of text) told line (all_fine W text memory told a.fine) w)))
+      inr (inl (at_line Narrow text memory line a.short (Err Wide) (first_wide_faults (usable memory) (lines_of text) told line (all_fine W text memory told a.fine) w)))
 
   pub narrow_accepts : NoneWide told → Accepts Narrow text memory store rows told
   narrow_accepts n =
       record {
         short = a.short;
         fine = record {
-          some = a.fine.some;
+          Some = a.fine.some;
           all = a.fine.all;
           ranged = a.fine.ranged;
           faultless = (good_iff Narrow memory told).0 (good_narrow (usable memory) told (accepts_good W text memory store rows told a) n);
@@ -216,12 +214,12 @@ module _ (card : Card) (text memory : List ℕ) (store rows : ℕ) (told : List 
   ranges = accepts_ranged card text memory store rows told a
 
   -- a unit that is found was declared
-  was_declared : (u i : ℕ) → find_in (declared (shelf_of told)) u ≡ Some i → (top : ℕ) × (top_of told (of_unit u) ≡ some top)
+  was_declared : (u i : ℕ) → find_in (declared (shelf_of told)) u ≡ Some i → (top : ℕ) × (top_of told (of_unit u) ≡ Some top)
   was_declared u i f = go (top_of told (of_unit u)) refl
     where
-      go : (o : Option ℕ) → top_of told (of_unit u) ≡ o → (top : ℕ) × (top_of told (of_unit u) ≡ some top)
-      go none e = absurd (nothing_at (sym ((shelved card (usable memory) told good ranges).gone u e) ∙ f))
-      go (some top) e = (top, e)
+      go : (o : Option ℕ) → top_of told (of_unit u) ≡ o → (top : ℕ) × (top_of told (of_unit u) ≡ Some top)
+      go None e = absurd (nothing_at (sym ((shelved card (usable memory) told good ranges).gone u e) ∙ f))
+      go (Some top) e = (top, e)
 
   unit_by_lines : (u i : ℕ) → find_in (declared (shelf_of told)) u ≡ Some i → (header : ℕ) → lookup_at card (memory_of card memory told) (get_or (shelf_of told).units i blank) header ≡ said_by told u (get_or (shelf_of told).units i blank) header
   unit_by_lines u i f header =

@@ -1,11 +1,10 @@
 -- A line gets a number exactly when 01's condition for it holds and none before it does. Assumes nothing.
-use Rattle.std.specs.Prelude.{Some}
+use Rattle.std.specs.Prelude.{Some, Err, Ok, None, Option}
 use mathlib.Core.Path.{◌≡◌, refl, sym, ap, ap₂, subst, ◌∙◌}
 use mathlib.Core.Bool.{Bool, true, false, cond, not, false≢true}
 use mathlib.Core.List.Memᴰ
 use mathlib.Core.List.{List, [], ◌∷◌, Memᴰ as In}
 use mathlib.Core.Logic.{◌⊎◌, ◌↔◌, inl, inr, ⊎_elim}
-use mathlib.Core.Option.{Option, none, some}
 use Prim.Native.Nat.{ℕ, ◌+◌, ◌*◌, ◌<◌, ◌≤◌}
 use native.Mathlib.Omega.{arith}
 use lib.Dec.{eqb, leb, ltb}
@@ -30,9 +29,8 @@ use Rattle.line.specs.declared.Wrong.{Wrong}
 use Rattle.line.specs.Lines.{reading_of}
 use Rattle.line.specs.declared.Reading.{Reading}
 use Rattle.line.specs.declared.Reading.TheVariants.{Good as Read, Bad}
-use Rattle.judge.specs.declared.Verdict.{Verdict}
-use Rattle.judge.specs.declared.Verdict.TheVariants.{Fine, Form, Order, Twice, Wide, Room}
-use Rattle.judge.specs.Verdicts.{number_of, asked, room_for, off_bus, taken, page_in}
+use Rattle.judge.specs.declared.Fault.TheVariants.{Form, Order, Twice, Wide, Room}
+use Rattle.judge.specs.Verdicts.{fine, Verdict, number_of, asked, room_for, off_bus, taken, page_in}
 use Rattle.judge.specs.Judge.{in_page, judge_bus, judge_unit, judge_vp, judge_drop, judge_page, judge_vc, judge_mc}
 use Rattle.meaning.specs.Told.{of_unit, of_page, top_of, total, record_of, hears_in, shelf_of}
 use Rattle.meaning.specs.Lines.{started, is_first, owned, is_declared, judge, Good, verdict_on}
@@ -49,27 +47,27 @@ use Rattle.promise.proofs.Said.{records_total, declared, page_in_lem, given_befo
 
 -- A. what a verdict means, where Order, Twice, Wide and Room are these facts
 abbrev Means : (O A W M : Type 0) → Verdict → Type 0
-Means O A W M Fine = (O → ⊥) × (A → ⊥) × (W → ⊥) × (M → ⊥)
-Means O A W M (Form wrong) = ⊥
-Means O A W M (Order field) = O
-Means O A W M (Twice field) = (O → ⊥) × A
-Means O A W M Wide = (O → ⊥) × (A → ⊥) × W
-Means O A W M Room = (O → ⊥) × (A → ⊥) × (W → ⊥) × M
+Means O A W M (Ok x) = (O → ⊥) × (A → ⊥) × (W → ⊥) × (M → ⊥)
+Means O A W M (Err (Form wrong)) = ⊥
+Means O A W M (Err (Order field)) = O
+Means O A W M (Err (Twice field)) = (O → ⊥) × A
+Means O A W M (Err Wide) = (O → ⊥) × (A → ⊥) × W
+Means O A W M (Err Room) = (O → ⊥) × (A → ⊥) × (W → ⊥) × M
 
 module _ (O A W M : Type 0) where
-  order_test : (b : Bool) (field : ℕ) (v : Verdict) → (b ≡ true → O) → (b ≡ false → Means O A W M v) → Means O A W M (cond b (Order field) v)
+  order_test : (b : Bool) (field : ℕ) (v : Verdict) → (b ≡ true → O) → (b ≡ false → Means O A W M v) → Means O A W M (cond b (Err (Order field)) v)
   order_test true field v y n = y refl
   order_test false field v y n = n refl
 
-  twice_test : (b : Bool) (field : ℕ) (v : Verdict) → (O → ⊥) → (b ≡ true → A) → (b ≡ false → Means O A W M v) → Means O A W M (cond b (Twice field) v)
+  twice_test : (b : Bool) (field : ℕ) (v : Verdict) → (O → ⊥) → (b ≡ true → A) → (b ≡ false → Means O A W M v) → Means O A W M (cond b (Err (Twice field)) v)
   twice_test true field v o y n = (o, y refl)
   twice_test false field v o y n = n refl
 
-  wide_test : (b : Bool) (v : Verdict) → (O → ⊥) → (A → ⊥) → (b ≡ false → W) → (b ≡ true → Means O A W M v) → Means O A W M (cond b v Wide)
+  wide_test : (b : Bool) (v : Verdict) → (O → ⊥) → (A → ⊥) → (b ≡ false → W) → (b ≡ true → Means O A W M v) → Means O A W M (cond b v (Err Wide))
   wide_test true v o a n y = y refl
   wide_test false v o a n y = (o, a, n refl)
 
-  room_test : (b : Bool) → (O → ⊥) → (A → ⊥) → (W → ⊥) → (b ≡ false → M) → (b ≡ true → M → ⊥) → Means O A W M (cond b Fine Room)
+  room_test : (b : Bool) → (O → ⊥) → (A → ⊥) → (W → ⊥) → (b ≡ false → M) → (b ≡ true → M → ⊥) → Means O A W M (cond b fine (Err Room))
   room_test true o a w n y = (o, a, w, y refl)
   room_test false o a w n y = (o, a, w, n refl)
 
@@ -77,13 +75,13 @@ module _ (O A W M : Type 0) where
   started_test [] v y n = y refl
   started_test (l ∷ told) v y n = n refl
 
-  owned_test : (o : Option ℕ) (f : ℕ → Verdict) → (o ≡ none → O) → ((top : ℕ) → o ≡ some top → Means O A W M (f top)) → Means O A W M (owned o f)
-  owned_test none f n y = n refl
-  owned_test (some top) f n y = y top refl
+  owned_test : (o : Option ℕ) (f : ℕ → Verdict) → (o ≡ None → O) → ((top : ℕ) → o ≡ Some top → Means O A W M (f top)) → Means O A W M (owned o f)
+  owned_test None f n y = n refl
+  owned_test (Some top) f n y = y top refl
 
-  declared_test : (o : Option ℕ) (v : Verdict) → (O → ⊥) → ((top : ℕ) → o ≡ some top → A) → (o ≡ none → Means O A W M v) → Means O A W M (cond (is_declared o) (Twice 2) v)
-  declared_test none v o y n = n refl
-  declared_test (some top) v o y n = (o, y top refl)
+  declared_test : (o : Option ℕ) (v : Verdict) → (O → ⊥) → ((top : ℕ) → o ≡ Some top → A) → (o ≡ None → Means O A W M v) → Means O A W M (cond (is_declared o) (Err (Twice 2)) v)
+  declared_test None v o y n = n refl
+  declared_test (Some top) v o y n = (o, y top refl)
 
   page_test : (r : R.Record) (vci : ℕ) (v : Verdict) → (((t p : ℕ) → r ≡ R-as-Page t p → ⊥) → O) → ((t p : ℕ) → r ≡ R-as-Page t p → t < vci → O) → ((t p : ℕ) → r ≡ R-as-Page t p → vci ≤ t → Means O A W M v) → Means O A W M (in_page (page_in (Some r)) vci v)
   page_test Empty vci v n h y = n (λ t p e. let z : ◌≡◌ {A = ℕ} 0 1 = cc in omega arith)
@@ -186,7 +184,7 @@ module _ (card : Card) (memory : List ℕ) (told : List Line) (good : Good card 
   grew = grown card (usable memory) told good
 
   -- a line that uses a declared unit is in order if its target is below the bus number, its VPI is not above the top, and its VCI is in its page
-  in_order : (l : Line) (a v top : ℕ) → v ≤ top → is_first told ≡ false → top_of told (of_unit a) ≡ some top → Uses a l → ((u : ℕ) → HasUnit u l → a ≡ u) → ((u : ℕ) → HasTarget u l → u < bus) → ((u vpi : ℕ) → HasVpi u vpi l → (a ≡ u) × (v ≡ vpi)) → ((u vpi vci : ℕ) → IsVc u vpi vci l → (t : ℕ) × In (Page u vpi t) told × (vci ≤ t)) → OutOfOrder told l → ⊥
+  in_order : (l : Line) (a v top : ℕ) → v ≤ top → is_first told ≡ false → top_of told (of_unit a) ≡ Some top → Uses a l → ((u : ℕ) → HasUnit u l → a ≡ u) → ((u : ℕ) → HasTarget u l → u < bus) → ((u vpi : ℕ) → HasVpi u vpi l → (a ≡ u) × (v ≡ vpi)) → ((u vpi vci : ℕ) → IsVc u vpi vci l → (t : ℕ) × In (Page u vpi t) told × (vci ≤ t)) → OutOfOrder told l → ⊥
   in_order l a v₀ top below f e used unit target vpi vc (first_not_bus z h) = false≢true (sym f ∙ ap is_first z)
   in_order l a v₀ top below f e used unit target vpi vc (bus_again b n m z) = no_bus l a used n z
   in_order l a v₀ top below f e used unit target vpi vc (unit_off b u m h k) =
@@ -212,7 +210,7 @@ module _ (card : Card) (memory : List ℕ) (told : List Line) (good : Good card 
       omega arith
 
   -- a line says nothing again if what it gives has not been given
-  anew : (l : Line) → ((u top : ℕ) → Declares u top l → top_of told (of_unit u) ≡ none) → ((u vpi : ℕ) → Gives u vpi l → taken (Some (record_of told (of_unit u) vpi)) ≡ false) → ((u vpi vci : ℕ) → IsVc u vpi vci l → taken (Some (record_of told (of_page u vpi) vci)) ≡ false) → ((u session : ℕ) → l ≡ Mc u session → hears_in told u session ≡ false) → Again told l → ⊥
+  anew : (l : Line) → ((u top : ℕ) → Declares u top l → top_of told (of_unit u) ≡ None) → ((u vpi : ℕ) → Gives u vpi l → taken (Some (record_of told (of_unit u) vpi)) ≡ false) → ((u vpi vci : ℕ) → IsVc u vpi vci l → taken (Some (record_of told (of_page u vpi) vci)) ≡ false) → ((u session : ℕ) → l ≡ Mc u session → hears_in told u session ≡ false) → Again told l → ⊥
   anew l unit vpi vc mc (unit_again u top top₁ d b) = none_some (sym (unit u top d) ∙ top_is told grew u top₁ b)
   anew l unit vpi vc mc (vpi_again u v h b) = before_given told u v (vpi u v h) b
   anew l unit vpi vc mc (vc_again u v w h b) = before_vc told u v w (vc u v w h) b
@@ -228,28 +226,28 @@ module _ (card : Card) (memory : List ℕ) (told : List Line) (good : Good card 
   still l o = not_over memory (8 * records_of (l ∷ told)) (let h = fits_room card (usable memory) told good in let k = records_total told in omega arith)
 
   -- a line that uses a unit
-  uses : (l : Line) (u : ℕ) (f : ℕ → Verdict) → Uses u l → (is_first told ≡ false → (top : ℕ) → top_of told (of_unit u) ≡ some top → Says l (f top)) → Says l (started told (owned (top_of told (of_unit u)) f))
+  uses : (l : Line) (u : ℕ) (f : ℕ → Verdict) → Uses u l → (is_first told ≡ false → (top : ℕ) → top_of told (of_unit u) ≡ Some top → Says l (f top)) → Says l (started told (owned (top_of told (of_unit u)) f))
   uses l u f h rest =
       started_test _ _ _ _ told _ (λ e. first_not_bus e (no_bus l u h))
       (λ b. owned_test _ _ _ _ (top_of told (of_unit u)) f (λ e. not_declared u h (λ top d. none_some (sym e ∙ top_is told grew u top d))) (rest b))
 
   -- with a VPI
-  has_vpi : (l : Line) (u v : ℕ) (f : ℕ → Verdict) → Uses u l → HasVpi u v l → (is_first told ≡ false → (top : ℕ) → top_of told (of_unit u) ≡ some top → v ≤ top → Says l (f top)) → Says l (started told (owned (top_of told (of_unit u)) λ top. cond (ltb top v) (Order 3) (f top)))
+  has_vpi : (l : Line) (u v : ℕ) (f : ℕ → Verdict) → Uses u l → HasVpi u v l → (is_first told ≡ false → (top : ℕ) → top_of told (of_unit u) ≡ Some top → v ≤ top → Says l (f top)) → Says l (started told (owned (top_of told (of_unit u)) λ top. cond (ltb top v) (Err (Order 3)) (f top)))
   has_vpi l u v f h k rest =
       uses l u _ h
       (λ b top e.
       order_test _ _ _ _ (ltb top v) 3 (f top) (λ t. vpi_above u v top k (declared told u top e) (ltb-true top v t)) (λ t. rest b top e (ltb-false top v t)))
 
   -- with a target
-  has_target : (l : Line) (target : Target) (field : ℕ) (x : Verdict) → ((u : ℕ) → IsUnit u target → HasTarget u l) → is_first told ≡ false → (off_bus bus target ≡ false → Says l x) → Says l (cond (off_bus bus target) (Order field) x)
+  has_target : (l : Line) (target : Target) (field : ℕ) (x : Verdict) → ((u : ℕ) → IsUnit u target → HasTarget u l) → is_first told ≡ false → (off_bus bus target ≡ false → Says l x) → Says l (cond (off_bus bus target) (Err (Order field)) x)
   has_target l target field x h b rest =
       order_test _ _ _ _ (off_bus bus target) field x
       (λ o. let k = off_bus_lem bus target o in target_off bus k.0 (bus_in card (usable memory) told good b) (h k.0 k.1) k.2) rest
 
   -- with an outgoing VPI
-  goes_out : (l : Line) (outvpi : ℕ) → (255 < outvpi → IsWide l) → (IsWide l → 255 < outvpi) → records_by l ≡ 0 → (OutOfOrder told l → ⊥) → (Again told l → ⊥) → Says l (asked card (Out outvpi) Fine)
+  goes_out : (l : Line) (outvpi : ℕ) → (255 < outvpi → IsWide l) → (IsWide l → 255 < outvpi) → records_by l ≡ 0 → (OutOfOrder told l → ⊥) → (Again told l → ⊥) → Says l (asked card (Out outvpi) fine)
   goes_out l outvpi to from o ok new =
-      wide_test _ _ _ _ (holds card (Out outvpi)) Fine ok new (λ t. let w = too_wide_lem card (Out outvpi) t in (w.0, to w.1))
+      wide_test _ _ _ _ (holds card (Out outvpi)) fine ok new (λ t. let w = too_wide_lem card (Out outvpi) t in (w.0, to w.1))
       (λ t. (ok, new, λ w. not_wide card (Out outvpi) t (w.0, from w.1), still l o))
 
   -- with records of its own
@@ -265,7 +263,7 @@ module _ (card : Card) (memory : List ℕ) (told : List Line) (good : Good card 
   free_path : (u v : ℕ) → taken (Some (record_of told (of_unit u) v)) ≡ false → (a b : ℕ) → (u ≡ a) × (v ≡ b) → taken (Some (record_of told (of_unit a) b)) ≡ false
   free_path u v t a b h = ap₂ (λ x y. taken (Some (record_of told (of_unit x) y))) (sym h.0) (sym h.1) ∙ t
 
-  gives_path : (l : Line) (u v : ℕ) (x : Verdict) → Gives u v l → ((a b : ℕ) → Gives a b l → (u ≡ a) × (v ≡ b)) → ((a t : ℕ) → Declares a t l → ⊥) → ((a b c : ℕ) → IsVc a b c l → ⊥) → (OutOfOrder told l → ⊥) → ((Again told l → ⊥) → Says l x) → Says l (cond (taken (Some (record_of told (of_unit u) v))) (Twice 3) x)
+  gives_path : (l : Line) (u v : ℕ) (x : Verdict) → Gives u v l → ((a b : ℕ) → Gives a b l → (u ≡ a) × (v ≡ b)) → ((a t : ℕ) → Declares a t l → ⊥) → ((a b c : ℕ) → IsVc a b c l → ⊥) → (OutOfOrder told l → ⊥) → ((Again told l → ⊥) → Says l x) → Says l (cond (taken (Some (record_of told (of_unit u) v))) (Err (Twice 3)) x)
   gives_path l u v x g its nounit novc ok rest =
       twice_test _ _ _ _ (taken (Some (record_of told (of_unit u) v))) 3 x ok (λ y. vpi_again u v g (given_before told u v y))
       (λ y.
@@ -292,13 +290,13 @@ module _ (card : Card) (memory : List ℕ) (told : List Line) (good : Good card 
   bus_order n empty (no_page u v w h k) = h
   bus_order n empty (vci_above u v w t h m k) = h
 
-  first_bus : (n : ℕ) → is_first told ≡ true → Says (Bus n) (asked card (A-as-Bus n) Fine)
+  first_bus : (n : ℕ) → is_first told ≡ true → Says (Bus n) (asked card (A-as-Bus n) fine)
   first_bus n f =
       let empty = first_is told f in
       let none_in : (l : Line) → In l told → ⊥ = λ l m. Memᴰ.not-nil (subst (In l) empty m) in
       let ok : OutOfOrder told (Bus n) → ⊥ = bus_order n none_in in
       let new = anew (Bus n) (λ a t z. absurd z) (λ a w z. absurd z) (λ a w c z. absurd z) (λ a t z. let q : ◌≡◌ {A = ℕ} 0 1 = cc in absurd (omega arith)) in
-      wide_test _ _ _ _ (holds card (A-as-Bus n)) Fine ok new (too_wide_lem card (A-as-Bus n)) (λ t. (ok, new, not_wide card (A-as-Bus n) t, still (Bus n) refl))
+      wide_test _ _ _ _ (holds card (A-as-Bus n)) fine ok new (too_wide_lem card (A-as-Bus n)) (λ t. (ok, new, not_wide card (A-as-Bus n) t, still (Bus n) refl))
 
   -- a `unit` line
   declares : (settings : Settings) (limits : Limits) → is_first told ≡ false → settings.number < bus → OutOfOrder told (L-as-Unit settings limits) → ⊥
@@ -400,41 +398,41 @@ module _ (card : Card) (memory : List ℕ) (told : List Line) where
   Meant l = Means (OutOfOrder told l) (Again told l) ((card ≡ Narrow) × IsWide l) (Exceeds memory (l ∷ told))
 
   number_first : (l : Line) (n : ℕ) (v : Verdict) → Meant l v → (n ≡ 0 → ⊥) → number_of v ≡ n → First l n
-  number_first l n Fine h least e = absurd (least (sym e))
-  number_first l n (Form wrong) h least e = absurd h
-  number_first l n (Order field) h least e =
+  number_first l n (Ok x) h least e = absurd (least (sym e))
+  number_first l n (Err (Form wrong)) h least e = absurd h
+  number_first l n (Err (Order field)) h least e =
       (order h (sym e), λ m k. by_fault ⊥ l m (λ q z. omega arith) (λ q z. omega arith) (λ q z. omega arith) (λ q z. omega arith))
-  number_first l n (Twice field) h least e =
+  number_first l n (Err (Twice field)) h least e =
       (twice h.1 (sym e), λ m k. by_fault ⊥ l m (λ q. h.0) (λ q z. omega arith) (λ q z. omega arith) (λ q z. omega arith))
-  number_first l n Wide h least e =
+  number_first l n (Err Wide) h least e =
       (wide h.2.0 h.2.1 (sym e), λ m k. by_fault ⊥ l m (λ q. h.0) (λ q. h.1) (λ q z. omega arith) (λ q z. omega arith))
-  number_first l n Room h least e = (room h.3 (sym e), λ m k. by_fault ⊥ l m (λ q. h.0) (λ q. h.1) (λ q. h.2) (λ q z. omega arith))
+  number_first l n (Err Room) h least e = (room h.3 (sym e), λ m k. by_fault ⊥ l m (λ q. h.0) (λ q. h.1) (λ q. h.2) (λ q z. omega arith))
 
   first_number : (l : Line) (n : ℕ) (v : Verdict) → Meant l v → First l n → number_of v ≡ n
-  first_number l n Fine h f = absurd (by_fault ⊥ l n (λ q. h.0) (λ q. h.1) (λ q. h.2) (λ q. h.3) f.0)
-  first_number l n (Form wrong) h f = absurd h
-  first_number l n (Order field) h f =
+  first_number l n (Ok x) h f = absurd (by_fault ⊥ l n (λ q. h.0) (λ q. h.1) (λ q. h.2) (λ q. h.3) f.0)
+  first_number l n (Err (Form wrong)) h f = absurd h
+  first_number l n (Err (Order field)) h f =
       let no : 3 < n → ⊥ = λ k. f.1 3 k (order h refl) in
       by_fault (3 ≡ n) l n (λ q z. sym q) (λ q z. absurd (no (omega arith))) (λ q z. absurd (no (omega arith))) (λ q z. absurd (no (omega arith))) f.0
-  first_number l n (Twice field) h f =
+  first_number l n (Err (Twice field)) h f =
       let no : 4 < n → ⊥ = λ k. f.1 4 k (twice h.1 refl) in
       by_fault (4 ≡ n) l n (λ q z. absurd (h.0 z)) (λ q z. sym q) (λ q z. absurd (no (omega arith))) (λ q z. absurd (no (omega arith))) f.0
-  first_number l n Wide h f =
+  first_number l n (Err Wide) h f =
       let no : 5 < n → ⊥ = λ k. f.1 5 k (wide h.2.0 h.2.1 refl) in
       by_fault (5 ≡ n) l n (λ q z. absurd (h.0 z)) (λ q z. absurd (h.1 z)) (λ q z. sym q) (λ q z. absurd (no (omega arith))) f.0
-  first_number l n Room h f =
+  first_number l n (Err Room) h f =
       by_fault (6 ≡ n) l n (λ q z. absurd (h.0 z)) (λ q z. absurd (h.1 z)) (λ q z. absurd (h.2 z)) (λ q z. sym q) f.0
 
   -- a line with no condition is fine
-  none_fine : (l : Line) (v : Verdict) → Meant l v → ((n : ℕ) → Fault card memory told l n → ⊥) → v ≡ Fine
-  none_fine l Fine h none_holds = refl
-  none_fine l (Form wrong) h none_holds = absurd h
-  none_fine l (Order field) h none_holds = absurd (none_holds 3 (order h refl))
-  none_fine l (Twice field) h none_holds = absurd (none_holds 4 (twice h.1 refl))
-  none_fine l Wide h none_holds = absurd (none_holds 5 (wide h.2.0 h.2.1 refl))
-  none_fine l Room h none_holds = absurd (none_holds 6 (room h.3 refl))
+  none_fine : (l : Line) (v : Verdict) → Meant l v → ((n : ℕ) → Fault card memory told l n → ⊥) → v ≡ fine
+  none_fine l (Ok x) h none_holds = refl
+  none_fine l (Err (Form wrong)) h none_holds = absurd h
+  none_fine l (Err (Order field)) h none_holds = absurd (none_holds 3 (order h refl))
+  none_fine l (Err (Twice field)) h none_holds = absurd (none_holds 4 (twice h.1 refl))
+  none_fine l (Err Wide) h none_holds = absurd (none_holds 5 (wide h.2.0 h.2.1 refl))
+  none_fine l (Err Room) h none_holds = absurd (none_holds 6 (room h.3 refl))
 
-  fine_none : (l : Line) → Meant l Fine → (n : ℕ) → Fault card memory told l n → ⊥
+  fine_none : (l : Line) → Meant l fine → (n : ℕ) → Fault card memory told l n → ⊥
   fine_none l h n = by_fault ⊥ l n (λ q. h.0) (λ q. h.1) (λ q. h.2) (λ q. h.3)
 
 faultless : (card : Card) (memory : List ℕ) (told : List Line) → Good card (usable memory) told → Faultless card memory told

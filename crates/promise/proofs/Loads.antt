@@ -1,5 +1,5 @@
 -- A loaded shelf is sound: a `bus` line gives a fresh one, and every good line after it keeps it sound. Assumes nothing.
-use Rattle.std.specs.Prelude.{None, Option, Some}
+use Rattle.std.specs.Prelude.{None, Option, Some, Ok}
 use mathlib.Core.Path.{◌≡◌, refl, sym, ap, subst, ◌∙◌}
 use mathlib.Core.Bool.{true}
 use mathlib.Core.List.{List, [], ◌∷◌, ◌++◌}
@@ -27,7 +27,6 @@ use Rattle.soundness.proofs.Facts.{link_iff, sound_iff, fresh_sound}
 use Rattle.line.specs.Ranges.{Given as LineGiven, InRange as LineIn}
 use Rattle.line.specs.declared.Line.{Line}
 use Rattle.line.specs.declared.Line.TheVariants.{Bus, Unit as L-as-Unit, Vp, Drop, Page, Vc, Mc}
-use Rattle.judge.specs.declared.Verdict.TheVariants.{Fine}
 use Rattle.meaning.specs.Told.{total, declare, hearing, join_at, shelf_by, shelf_of}
 use Rattle.meaning.specs.Lines.{judge, Good}
 use Rattle.meaning.proofs.Fits.{fine_unit}
@@ -38,6 +37,7 @@ use Rattle.promise.specs.Refusals.{Accepts, Refuses}
 use Rattle.promise.specs.Loads.{LoadSound}
 use Rattle.promise.proofs.Runs.{AllInRange, all_ranged}
 use Rattle.promise.proofs.Refusals.{accepts_good, accepts_in_range, accepts_units, accepted, refused, either_way}
+use Rattle.judge.specs.Verdicts.{fine}
 
 -- A. what a `unit` line gives is what State asks for: a freshly declared unit, where nobody is granted and nobody asks
 fresh_unit : (card : Card) (bus place : ℕ) (settings : Settings) (limits : Limits) → bus ≤ 32 → settings.number < bus → holds card (On settings.link) ≡ true → LineGiven settings limits → UnitSound card bus nobody [] (unit settings limits place)
@@ -228,7 +228,7 @@ ready_join card shelf a session (Some i) e s = ready_heard card shelf s i sessio
 ready_join card shelf a session None e s = s
 
 -- D. the lines, one after the other
-ready_line : (card : Card) (room : ℕ) (told : List Line) (l : Line) → judge card room told l ≡ Fine → LineIn l → Shelved told → Ready card (shelf_of told) → Ready card (shelf_of (l ∷ told))
+ready_line : (card : Card) (room : ℕ) (told : List Line) (l : Line) → judge card room told l ≡ fine → LineIn l → Shelved told → Ready card (shelf_of told) → Ready card (shelf_of (l ∷ told))
 unfolding shelf_of shelf_by
 ready_line card room told (Bus bus) e r w s = ready_fresh card bus r
 ready_line card room told (L-as-Unit settings limits) e r w s =

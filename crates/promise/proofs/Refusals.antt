@@ -1,4 +1,5 @@
 -- When a table is refused, and with what; when it is accepted, and with what. Assumes nothing.
+use Rattle.std.specs.Prelude.{Err, Ok}
 use mathlib.Core.Path.{◌≡◌, refl, sym, ap, ap₂, subst, ◌∙◌}
 use mathlib.Core.Bool.{Bool, true, false, ◌||◌, false≢true}
 use mathlib.Core.List.{List}
@@ -14,9 +15,8 @@ use Rattle.line.specs.Lines.{reading_of}
 use Rattle.line.specs.declared.Line.{Line}
 use Rattle.line.specs.declared.Reading.{Reading}
 use Rattle.shelf.specs.Shelf.{Shelf}
-use Rattle.judge.specs.declared.Verdict.{Verdict}
-use Rattle.judge.specs.declared.Verdict.TheVariants.{Fine, Form, Order, Twice, Wide, Room}
-use Rattle.judge.specs.Verdicts.{number_of}
+use Rattle.judge.specs.declared.Fault.TheVariants.{Form, Order, Twice, Wide, Room}
+use Rattle.judge.specs.Verdicts.{fine, Verdict, number_of}
 use Rattle.meaning.specs.Told.{total, shelf_of, memory_of}
 use Rattle.meaning.specs.Lines.{Good, Ran, done, stopped, verdict_on}
 use Rattle.meaning.proofs.Memory.{AllRanged}
@@ -74,13 +74,13 @@ module _ (shelf : Shelf) (store rows : ℕ) where
       true_false x = false≢true (sym x)
 
 -- the line at which reading stops
-number_some : (v : Verdict) → (v ≡ Fine → ⊥) → number_of v ≡ 0 → ⊥
-number_some Fine h e = h refl
-number_some (Form wrong) h e = omega arith
-number_some (Order field) h e = omega arith
-number_some (Twice field) h e = omega arith
-number_some Wide h e = omega arith
-number_some Room h e = omega arith
+number_some : (v : Verdict) → (v ≡ fine → ⊥) → number_of v ≡ 0 → ⊥
+number_some (Ok x) h e = h refl
+number_some (Err (Form wrong)) h e = omega arith
+number_some (Err (Order field)) h e = omega arith
+number_some (Err (Twice field)) h e = omega arith
+number_some (Err Wide) h e = omega arith
+number_some (Err Room) h e = omega arith
 
 module _ (card : Card) (text memory : List ℕ) (line : ℕ) where
   pub at_line : length text ≤ 65536 → (v : Verdict) → FirstFault card (usable memory) (lines_of text) line v → AtLine card text memory (number_of v) line

@@ -1,4 +1,5 @@
 -- Reading lines: all are good, or one is the first that is not; and the numbers of the good ones are in range. Assumes nothing.
+use Rattle.std.specs.Prelude.{Ok}
 use mathlib.Core.Path.{◌≡◌, refl, sym, ap, subst, ◌∙◌}
 use mathlib.Core.Bool.{false, false≢true}
 use mathlib.Core.List.{List, [], ◌∷◌}
@@ -12,9 +13,7 @@ use Rattle.line.specs.declared.Line.{Line}
 use Rattle.line.specs.declared.Reading.{Reading}
 use Rattle.line.specs.declared.Reading.TheVariants.{Good as Read, Bad}
 use Rattle.line.specs.Ranges.{InRange}
-use Rattle.judge.specs.declared.Verdict.{Verdict}
-use Rattle.judge.specs.declared.Verdict.TheVariants.{Fine}
-use Rattle.judge.specs.Verdicts.{is_fine}
+use Rattle.judge.specs.Verdicts.{fine, Verdict, is_fine}
 use Rattle.meaning.specs.Lines.{judge, Good, Ran, done, stopped, verdict_on, run}
 use Rattle.meaning.proofs.Grown.{decide}
 use Rattle.meaning.proofs.Memory.{AllRanged}
@@ -39,7 +38,7 @@ pub record FirstFault (card : Card) (room : ℕ) (lines : List Reading) (line : 
   pub good : Good card room before
   pub counted : line ≡ length before + 1
   pub judged : verdict_on card room before it ≡ verdict
-  pub faulty : verdict ≡ Fine → ⊥
+  pub faulty : verdict ≡ fine → ⊥
 
 -- what reading comes to is told apart
 done_stopped : {told told' : List Line} {n : ℕ} {v : Verdict} → done told ≡ stopped told' n v → ⊥
@@ -57,15 +56,15 @@ stopped_line e = cc
 stopped_verdict : {told told' : List Line} {n n' : ℕ} {v v' : Verdict} → stopped told n v ≡ stopped told' n' v' → v ≡ v'
 stopped_verdict e = cc
 
-pub not_fine : (v : Verdict) → is_fine v ≡ false → v ≡ Fine → ⊥
+pub not_fine : (v : Verdict) → is_fine v ≡ false → v ≡ fine → ⊥
 not_fine v f e = false≢true (sym f ∙ ap is_fine e)
 
-is_not_fine : (v : Verdict) → (v ≡ Fine → ⊥) → is_fine v ≡ false
+is_not_fine : (v : Verdict) → (v ≡ fine → ⊥) → is_fine v ≡ false
 is_not_fine v h = decide (is_fine v) (λ t. absurd (h (fine_is v t))) (λ f. f)
 
 module _ (card : Card) (room : ℕ) where
   -- a line more
-  run_good : (told : List Line) (n : ℕ) (l : Line) (rs : List Reading) → judge card room told l ≡ Fine → run card room told n (Read l ∷ rs) ≡ run card room (l ∷ told) (n + 1) rs
+  run_good : (told : List Line) (n : ℕ) (l : Line) (rs : List Reading) → judge card room told l ≡ fine → run card room told n (Read l ∷ rs) ≡ run card room (l ∷ told) (n + 1) rs
   unfolding run
   run_good told n l rs e = rw e
 
@@ -75,7 +74,7 @@ module _ (card : Card) (room : ℕ) where
 
   -- all good, or the first fault, from what reading came to
   module _ (P : Ran → Type 0) (told : List Line) (n : ℕ) (r : Reading) (rs : List Reading) where
-    by_verdict : ((l : Line) → r ≡ Read l → judge card room told l ≡ Fine → P (run card room (l ∷ told) (n + 1) rs)) → (is_fine (verdict_on card room told r) ≡ false → P (stopped told (n + 1) (verdict_on card room told r))) → P (run card room told n (r ∷ rs))
+    by_verdict : ((l : Line) → r ≡ Read l → judge card room told l ≡ fine → P (run card room (l ∷ told) (n + 1) rs)) → (is_fine (verdict_on card room told r) ≡ false → P (stopped told (n + 1) (verdict_on card room told r))) → P (run card room told n (r ∷ rs))
     by_verdict good bad = go r refl
       where
         go : (x : Reading) → r ≡ x → P (run card room told n (r ∷ rs))

@@ -4,7 +4,6 @@ use mathlib.Core.Path.{◌≡◌, refl, sym, ap, ap₂, ◌∙◌}
 use mathlib.Core.Bool.{Bool, true, false, ◌&&◌, false≢true}
 use mathlib.Core.List.Memᴰ
 use mathlib.Core.List.{List, [], ◌∷◌, Memᴰ as In}
-use mathlib.Core.Option.{none, some}
 use Prim.Native.Nat.{ℕ, ◌+◌, ◌*◌}
 use native.Mathlib.Omega.{arith}
 use lib.Dec.{eqb}
@@ -29,17 +28,17 @@ use Rattle.promise.specs.Says.{Declares, Gives, IsVc, records_by, records_of, un
 use Rattle.promise.specs.Faults.{Before}
 
 -- A. one line
-declares_top : (l : Line) (u top : ℕ) → Declares u top l → top_by (opens l) (of_unit u) ≡ some top
+declares_top : (l : Line) (u top : ℕ) → Declares u top l → top_by (opens l) (of_unit u) ≡ Some top
 unfolding opens same
 declares_top (Bus bus) u top d = absurd d
-declares_top (L-as-Unit settings limits) u top d = rw (eq-eqb settings.number u d.0) (ap some d.1)
+declares_top (L-as-Unit settings limits) u top d = rw (eq-eqb settings.number u d.0) (ap Some d.1)
 declares_top (Vp a b target class outvpi) u top d = absurd d
 declares_top (Drop a b) u top d = absurd d
 declares_top (Page a b topvci) u top d = absurd d
 declares_top (Vc a b c target class outvpi outvci) u top d = absurd d
 declares_top (Mc a session) u top d = absurd d
 
-top_declares : (l : Line) (u top : ℕ) → top_by (opens l) (of_unit u) ≡ some top → Declares u top l
+top_declares : (l : Line) (u top : ℕ) → top_by (opens l) (of_unit u) ≡ Some top → Declares u top l
 unfolding opens same
 top_declares (Bus bus) u top e = absurd (none_some e)
 top_declares (L-as-Unit settings limits) u top e =
@@ -50,11 +49,11 @@ top_declares (Page a b topvci) u top e = absurd (none_some e)
 top_declares (Vc a b c target class outvpi outvci) u top e = absurd (none_some e)
 top_declares (Mc a session) u top e = absurd (none_some e)
 
-page_top : (u v top : ℕ) → top_by (opens (Page u v top)) (of_page u v) ≡ some top
+page_top : (u v top : ℕ) → top_by (opens (Page u v top)) (of_page u v) ≡ Some top
 unfolding opens
 page_top u v top = rw (same_self (of_page u v))
 
-top_page : (l : Line) (u v top : ℕ) → top_by (opens l) (of_page u v) ≡ some top → Page u v top ≡ l
+top_page : (l : Line) (u v top : ℕ) → top_by (opens l) (of_page u v) ≡ Some top → Page u v top ≡ l
 unfolding opens same
 top_page (Bus bus) u v top e = absurd (none_some e)
 top_page (L-as-Unit settings limits) u v top e = absurd (none_some e)
@@ -76,15 +75,15 @@ two_is u v a b t = (sym (eqb-true u a (both_left (eqb u a) (eqb v b) t)), sym (e
 is_two : (u v a b : ℕ) → (a ≡ u) × (b ≡ v) → (eqb u a && eqb v b) ≡ true
 is_two u v a b h = rw (eq-eqb u a (sym h.0)) (eq-eqb v b (sym h.1))
 
-only_some : {A : Type 0} (b : Bool) (a : A) → b ≡ true → only b a ≡ none → ⊥
+only_some : {A : Type 0} (b : Bool) (a : A) → b ≡ true → only b a ≡ None → ⊥
 only_some true a t e = none_some (sym e)
 only_some false a t e = false≢true t
 
-some_only : {A : Type 0} (b : Bool) (a : A) → (only b a ≡ none → ⊥) → b ≡ true
+some_only : {A : Type 0} (b : Bool) (a : A) → (only b a ≡ None → ⊥) → b ≡ true
 some_only true a h = refl
 some_only false a h = absurd (h refl)
 
-gives_given : (l : Line) (u v place : ℕ) → Gives u v l → given_by (gives l place) (of_unit u) v ≡ none → ⊥
+gives_given : (l : Line) (u v place : ℕ) → Gives u v l → given_by (gives l place) (of_unit u) v ≡ None → ⊥
 unfolding gives same
 gives_given (Bus bus) u v place g = absurd g
 gives_given (L-as-Unit settings limits) u v place g = absurd g
@@ -94,7 +93,7 @@ gives_given (Page a b topvci) u v place g = only_some _ _ (is_two u v a b g)
 gives_given (Vc a b c target class outvpi outvci) u v place g = absurd g
 gives_given (Mc a session) u v place g = absurd g
 
-given_gives : (l : Line) (u v place : ℕ) → (given_by (gives l place) (of_unit u) v ≡ none → ⊥) → Gives u v l
+given_gives : (l : Line) (u v place : ℕ) → (given_by (gives l place) (of_unit u) v ≡ None → ⊥) → Gives u v l
 unfolding gives same
 given_gives (Bus bus) u v place h = h refl
 given_gives (L-as-Unit settings limits) u v place h = h refl
@@ -104,7 +103,7 @@ given_gives (Page a b topvci) u v place h = two_is u v a b (some_only _ _ h)
 given_gives (Vc a b c target class outvpi outvci) u v place h = h refl
 given_gives (Mc a session) u v place h = h refl
 
-vc_given : (l : Line) (u v w place : ℕ) → IsVc u v w l → given_by (gives l place) (of_page u v) w ≡ none → ⊥
+vc_given : (l : Line) (u v w place : ℕ) → IsVc u v w l → given_by (gives l place) (of_page u v) w ≡ None → ⊥
 unfolding gives same
 vc_given (Bus bus) u v w place g = absurd g
 vc_given (L-as-Unit settings limits) u v w place g = absurd g
@@ -114,7 +113,7 @@ vc_given (Page a b topvci) u v w place g = absurd g
 vc_given (Vc a b c target class outvpi outvci) u v w place g = only_some ((eqb u a && eqb v b) && eqb w c) _ (rw (is_two u v a b (g.0, g.1)) (eq-eqb w c (sym g.2)))
 vc_given (Mc a session) u v w place g = absurd g
 
-given_vc : (l : Line) (u v w place : ℕ) → (given_by (gives l place) (of_page u v) w ≡ none → ⊥) → IsVc u v w l
+given_vc : (l : Line) (u v w place : ℕ) → (given_by (gives l place) (of_page u v) w ≡ None → ⊥) → IsVc u v w l
 unfolding gives same
 given_vc (Bus bus) u v w place h = h refl
 given_vc (L-as-Unit settings limits) u v w place h = h refl
@@ -128,10 +127,10 @@ given_vc (Vc a b c target class outvpi outvci) u v w place h =
 given_vc (Mc a session) u v w place h = h refl
 
 -- B. the lines before
-pub declared : (told : List Line) (u top : ℕ) → top_of told (of_unit u) ≡ some top → Before told (Declares u top)
+pub declared : (told : List Line) (u top : ℕ) → top_of told (of_unit u) ≡ Some top → Before told (Declares u top)
 declared told u top e = let m = top_in told (of_unit u) top e in (m.0, m.1, top_declares m.0 u top m.2)
 
-pub page_in_lem : (told : List Line) (u v top : ℕ) → top_of told (of_page u v) ≡ some top → In (Page u v top) told
+pub page_in_lem : (told : List Line) (u v top : ℕ) → top_of told (of_page u v) ≡ Some top → In (Page u v top) told
 page_in_lem told u v top e = let m = top_in told (of_page u v) top e in Memᴰ.cast (top_page m.0 u v top m.2) m.1
 
 not_taken : (r : R.Record) → r ≡ Empty → taken (Some r) ≡ false
@@ -154,10 +153,10 @@ pub before_vc : (told : List Line) (u v w : ℕ) → taken (Some (record_of told
 before_vc told u v w f b = in_given told b.0 b.1 (of_page u v) w (λ place. vc_given b.0 u v w place b.2) (free (record_of told (of_page u v) w) f)
 
 module _ (told : List Line) (grew : Grown told) where
-  pub top_is : (u top : ℕ) → Before told (Declares u top) → top_of told (of_unit u) ≡ some top
+  pub top_is : (u top : ℕ) → Before told (Declares u top) → top_of told (of_unit u) ≡ Some top
   top_is u top b = in_top told grew.once b.0 b.1 (of_unit u) top (declares_top b.0 u top b.2)
 
-  pub top_of_page : (u v top : ℕ) → In (Page u v top) told → top_of told (of_page u v) ≡ some top
+  pub top_of_page : (u v top : ℕ) → In (Page u v top) told → top_of told (of_page u v) ≡ Some top
   top_of_page u v top m = in_top told grew.once (Page u v top) m (of_page u v) top (page_top u v top)
 
   pub page_stands : (u v top : ℕ) → In (Page u v top) told → record_of told (of_unit u) v ≡ R-as-Page top (size * start told (of_page u v))

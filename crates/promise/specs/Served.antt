@@ -1,6 +1,5 @@
 -- What becomes of a cell by the line that serves it. A list of lines has the latest first. Assumes nothing.
-use Rattle.std.specs.Prelude.{ℕ, cond, ◌&&◌, List, eqb, ltb}
-use Rattle.std.proofs.Math.Option.{Option, none, some}
+use Rattle.std.specs.Prelude.{ℕ, cond, ◌&&◌, List, eqb, ltb, None, Option, Some}
 use Rattle.header.specs.Fields.{fields}
 use Rattle.header.specs.declared.Header as H
 use Rattle.header.specs.declared.Link.{Link}
@@ -16,10 +15,10 @@ use Rattle.meaning.specs.Served.{Serving, by_vp, by_drop, by_vc, served}
 
 -- what becomes of a cell: by a `vp` line its VCI is kept, by a `vc` line it is the line's; PT and CLP are kept
 abbrev pub become : Option Serving → H.Header → Looked
-become none h = Misrouted
-become (some by_drop) h = Ignored
-become (some (by_vp target class outvpi)) h = goes_by (routing target class) outvpi h.vci h
-become (some (by_vc target class outvpi outvci)) h = goes_by (routing target class) outvpi outvci h
+become None h = Misrouted
+become (Some by_drop) h = Ignored
+become (Some (by_vp target class outvpi)) h = goes_by (routing target class) outvpi h.vci h
+become (Some (by_vc target class outvpi outvci)) h = goes_by (routing target class) outvpi outvci h
 
 -- "VPI 0 with VCI 0: `ignored`. .. above the top .., `misrouted`"; else the line that serves it, or none
 unfoldable pub looked_up : List Line → Link → ℕ → ℕ → ℕ → Looked

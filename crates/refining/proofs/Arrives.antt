@@ -1,11 +1,11 @@
 -- An arrival. Assumes nothing.
+use Rattle.std.specs.Prelude.{None, Option, Some}
 use Prim.Native.Nat.{ℕ, ◌<◌, ◌≤◌, ◌^◌}
 use native.Mathlib.Omega.{arith}
 use mathlib.Core.Path.{◌≡◌, refl, sym, ap, subst, ◌∙◌}
 use mathlib.Core.Logic.{inl, inr}
 use mathlib.Core.Bool.{◌&&◌}
 use mathlib.Core.List.{List, [], ◌∷◌, ◌++◌, map, map-append}
-use mathlib.Core.Option.{Option, none, some}
 use lib.Dec.{eqb, leb, ltb}
 use lib.ListN.{length, length-append, length-take, length-drop, drop, get_or, set}
 use lib.Seq.{set-get_or}
@@ -55,8 +55,8 @@ ServingIn by_drop = Unit {0}
 ServingIn (by_vc target class outvpi outvci) = WayIn target class outvpi × (outvci ≤ 65535)
 
 abbrev ServedIn : Option Serving → Type 0
-ServedIn none = Unit {0}
-ServedIn (some s) = ServingIn s
+ServedIn None = Unit {0}
+ServedIn (Some s) = ServingIn s
 
 served_in : (lines : List Line) → AllInRange lines → (u v w : ℕ) → ServedIn (served lines u v w)
 unfolding served serves
@@ -77,10 +77,10 @@ way_in (P.lost fate) = Lost fate
 
 way_served : (o : Option Serving) → ServedIn o → (h : H.Header) (payload : List ℕ) → arriving.way_by (become o h) ≡ way_in (P.way_by o h payload)
 unfolding arriving.way_by P.way_by goes_by
-way_served none r h payload = refl
-way_served (some by_drop) r h payload = refl
-way_served (some (by_vp target class outvpi)) r h payload = rw (le-ltb 4095 outvpi r.outvpi_most) refl
-way_served (some (by_vc target class outvpi outvci)) r h payload = rw (le-ltb 4095 outvpi r.0.outvpi_most) refl
+way_served None r h payload = refl
+way_served (Some by_drop) r h payload = refl
+way_served (Some (by_vp target class outvpi)) r h payload = rw (le-ltb 4095 outvpi r.outvpi_most) refl
+way_served (Some (by_vc target class outvpi outvci)) r h payload = rw (le-ltb 4095 outvpi r.0.outvpi_most) refl
 
 way_fields : (lines : List Line) → AllInRange lines → (s : Settings) (header : ℕ) (payload : List ℕ) →
     arriving.way_by (looked_up lines s.link s.number s.top header) ≡ way_in (P.way_for lines s (fields s.link header) payload)
@@ -118,11 +118,11 @@ module _ (c : List ℕ) (whole : length c ≡ 53) where
 
   good_served : (o : Option Serving) → ServedIn o → (h : H.Header) → h.vci < 65536 → GoodWay c (P.way_by o h payload)
   unfolding P.way_by
-  good_served none r h small = tt
-  good_served (some by_drop) r h small = tt
-  good_served (some (by_vp target class outvpi)) r h small =
+  good_served None r h small = tt
+  good_served (Some by_drop) r h small = tt
+  good_served (Some (by_vp target class outvpi)) r h small =
       (record { target = r.sayable; class = (let m = r.class_most in omega arith); header = word_lt outvpi h.vci h.pt h.clp small; payload = payload_length }, refl)
-  good_served (some (by_vc target class outvpi outvci)) r h small =
+  good_served (Some (by_vc target class outvpi outvci)) r h small =
       (record { target = r.0.sayable; class = (let m = r.0.class_most in omega arith); header = word_lt outvpi outvci h.pt h.clp (let m = r.1 in omega arith); payload = payload_length }, refl)
 
   good_way : (lines : List Line) → AllInRange lines → (s : Settings) → GoodWay c (P.way_of lines s c)

@@ -1,12 +1,11 @@
 -- A frame, on both. Assumes nothing.
-use Rattle.std.specs.Prelude.{None, Some}
+use Rattle.std.specs.Prelude.{None, Some, Option}
 use Prim.Native.Nat.{ℕ, zero, suc, ◌+◌, ◌<◌, ◌≤◌, ◌%◌, ◌^◌, min}
 use native.Mathlib.Omega.{arith}
 use mathlib.Core.Path.{◌≡◌, refl, sym, ap, subst, ◌∙◌}
 use mathlib.Core.Logic.{◌≢◌}
 use mathlib.Core.Bool.{Bool, true, false, cond, ◌||◌}
 use mathlib.Core.List.{List, [], ◌∷◌, map}
-use mathlib.Core.Option.{Option, none as nothing, some}
 use lib.Bits.{bit_or}
 use lib.Dec.{eqb}
 use lib.ListN.{length, length-take, length-set, get_or, set, take, replicate}
@@ -239,8 +238,8 @@ module _ (card : Card) (memory : List ℕ) (lines : List Line) (store : List ℕ
 
 -- 4. which counters rise in a frame, as the document's shelf has it, where this set rose by the moves: each unit's hearing, and at the sender what it sent
 unfoldable pub rises_one : Option page.Sending → D.Shelf → ℕ → ℕ → ℕ → ℕ
-rises_one nothing d place k moved = moved
-rises_one (some s) d place k moved =
+rises_one None d place k moved = moved
+rises_one (Some s) d place k moved =
     let us = set d.units place s.left in
     let heard = bit_or moved (hearing_rises (paper.hearing_of d.lines (get_or us k D.blank) s.cell.heard)) in
     cond (eqb k place) (bit_or heard (sending.sent_rises (page.some_addressed d.lines us s.cell))) heard
@@ -368,7 +367,7 @@ module _ (card : Card) (shelf : Shelf) (memory store : List ℕ) (d : D.Shelf) (
           (subst (λ p. Beside card memory d.lines now p (get_or copies k S.blank) (get_or heard_units k D.blank)) on (both_at card memory d.lines now both_now k few))
 
       -- what rises in its row, and in the sender's
-      each_now : (k : ℕ) → k < length us → get_or (sending.count_sent place l).each k 0 ≡ rises_one (some s) d place k (get_or each k 0)
+      each_now : (k : ℕ) → k < length us → get_or (sending.count_sent place l).each k 0 ≡ rises_one (Some s) d place k (get_or each k 0)
       unfolding rises_one
       each_now k few =
           let all = addressed_alike card memory d.lines store s.cell sends.carries both_out (sending.silence out each) in
@@ -382,7 +381,7 @@ module _ (card : Card) (shelf : Shelf) (memory store : List ℕ) (d : D.Shelf) (
           (λ q. rw (ne_eqb k place q) (get_or-set_other l.each place k both 0 q ∙ each_at k few))
 
       -- a sent frame
-      sent_alike : (buffer : List ℕ) → HeardAlike (sending.count_sent place l) now (page.frame_of s.cell) (page.sends_one (some s) d place buffer) (rises_one (some s) d place)
+      sent_alike : (buffer : List ℕ) → HeardAlike (sending.count_sent place l) now (page.frame_of s.cell) (page.sends_one (Some s) d place buffer) (rises_one (Some s) d place)
       unfolding page.sends_one
       sent_alike buffer =
           let m = length_map (λ x. paper.hearing_unit d.lines x s.cell) us in
@@ -407,11 +406,11 @@ module _ (card : Card) (shelf : Shelf) (memory store : List ℕ) (d : D.Shelf) (
 
       by_frame : (buffer : List ℕ) →
           HeardAlike (framing.listened_by (Some place) shelf store each) (framing.store_by (Some place) shelf store) (framing.buffer_by (Some place) shelf store buffer)
-          (page.sends_one (some s) d place buffer) (rises_one (some s) d place)
+          (page.sends_one (Some s) d place buffer) (rises_one (Some s) d place)
       unfolding framing.listened_by framing.store_by framing.buffer_by sending.sent_by sending.sent_store sending.cell_out
       by_frame buffer =
-          let left = page.sends_one (some s) d place buffer in
-          let rises = rises_one (some s) d place in
+          let left = page.sends_one (Some s) d place buffer in
+          let rises = rises_one (Some s) d place in
           let f = page.frame_of s.cell in
           subst (λ f. HeardAlike (sending.count_sent place (sending.heard_by_all out each (heard f))) (sending.heard_store out (heard f) store (take 56 f)) f left rises) (sym frame_is)
           (subst (λ x. HeardAlike (sending.count_sent place (sending.heard_by_all out each x)) (sending.heard_store out x store (take 56 f)) f left rises) (sym sends.heard)

@@ -1,11 +1,10 @@
 -- A good load: the shelf is the document's shelf of these lines. Assumes nothing.
-use Rattle.std.specs.Prelude.{None, Some}
+use Rattle.std.specs.Prelude.{None, Some, Option}
 use Prim.Native.Nat.{ℕ, zero, suc, ◌*◌, ◌<◌, ◌≤◌, min}
 use native.Mathlib.Omega.{arith}
 use mathlib.Core.Path.{◌≡◌, refl, sym, ap, ap₂, subst, ◌∙◌}
 use mathlib.Core.Bool.{true, false≢true}
 use mathlib.Core.List.{List, [], ◌∷◌, ◌++◌, map, map-append, append-nil}
-use mathlib.Core.Option.{Option, none, some}
 use lib.ListN.{length, get_or, replicate, length-take, length-map, get_or-replicate, get_or-map}
 use lib.Seq.{map-set_same, take-set-lt, get_or-take}
 use Rattle.outlet.specs.Outlets.{queue, fresh as fresh_outlet}
@@ -169,12 +168,12 @@ nothing_at e = let z : ◌≡◌ {A = ℕ} 0 1 = cc in omega arith
 
 module _ (card : Card) (memory : List ℕ) (told : List Line) (g : Good card (usable memory) told) (r : AllRanged told) (n i : ℕ) (found : find_in (declared (shelf_of told)) n ≡ Some i) where
   -- a unit that is found stands where its line put it
-  stands : (top : ℕ) × (top_of told (of_unit n) ≡ some top) × Stands (shelf_of told) n top (start told (of_unit n)) (hears_in told n)
+  stands : (top : ℕ) × (top_of told (of_unit n) ≡ Some top) × Stands (shelf_of told) n top (start told (of_unit n)) (hears_in told n)
   stands = go (top_of told (of_unit n)) refl
     where
-      go : (o : Option ℕ) → top_of told (of_unit n) ≡ o → (top : ℕ) × (top_of told (of_unit n) ≡ some top) × Stands (shelf_of told) n top (start told (of_unit n)) (hears_in told n)
-      go none e = absurd (nothing_at (sym ((shelved card (usable memory) told g r).gone n e) ∙ found))
-      go (some top) e = (top, e, (shelved card (usable memory) told g r).here n top e)
+      go : (o : Option ℕ) → top_of told (of_unit n) ≡ o → (top : ℕ) × (top_of told (of_unit n) ≡ Some top) × Stands (shelf_of told) n top (start told (of_unit n)) (hears_in told n)
+      go None e = absurd (nothing_at (sym ((shelved card (usable memory) told g r).gone n e) ∙ found))
+      go (Some top) e = (top, e, (shelved card (usable memory) told g r).here n top e)
 
   -- and it knows what the lines say
   known : Known card (memory_of card memory told) told (unit_at (shelf_of told) i)

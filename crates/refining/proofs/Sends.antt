@@ -1,10 +1,10 @@
 -- What a granted unit sends, on both. Assumes nothing.
+use Rattle.std.specs.Prelude.{Some}
 use Prim.Native.Nat.{ℕ, zero, suc, ◌+◌, ◌<◌, ◌≤◌}
 use native.Mathlib.Omega.{arith}
 use mathlib.Core.Path.{◌≡◌, refl, sym, ap, subst, ◌∙◌}
 use mathlib.Core.Bool.{Bool, true, false, cond}
 use mathlib.Core.List.{List, [], ◌∷◌, map}
-use mathlib.Core.Option.{some}
 use lib.Dec.{leb}
 use lib.ListN.{length}
 use lib.Seq.{take_all}
@@ -103,7 +103,7 @@ module _ (store : List ℕ) (i : ℕ) (u : U.Unit) (d : D.Unit) (a : UnitAlike s
       (record { whole = whole; payload = refl; says = carried_says c }, heard_sealed c whole)
 
   abbrev Sends : List D.Routed → List (List ℕ) → List (List ℕ) → Type 0
-  Sends inlet control loopback = (s : page.Sending) × (page.sending_from inlet control loopback d ≡ some s) × SendsAlike s
+  Sends inlet control loopback = (s : page.Sending) × (page.sending_from inlet control loopback d ≡ Some s) × SendsAlike s
 
   from_inlet : (r : D.Routed) (rest : List D.Routed) (control loopback : List (List ℕ)) → d.inlet ≡ r ∷ rest → Sends (r ∷ rest) control loopback
   unfolding page.sending_from

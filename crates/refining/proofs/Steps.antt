@@ -1,11 +1,10 @@
 -- Every event does on the shelf what it does on the document's. Assumes nothing.
-use Rattle.std.specs.Prelude.{None, Some, Err, Ok, Result}
+use Rattle.std.specs.Prelude.{None, Some, Err, Ok, Result, Option}
 use Prim.Native.Nat.{ℕ, ◌+◌, ◌<◌, ◌≤◌}
 use native.Mathlib.Omega.{arith}
 use mathlib.Core.Path.{◌≡◌, refl, sym, ap, subst, ◌∙◌}
 use mathlib.Core.Bool.{Bool, true, false, cond}
 use mathlib.Core.List.{List, [], ◌∷◌, ◌++◌}
-use mathlib.Core.Option.{Option, none, some}
 use lib.Dec.{eqb}
 use lib.Bits.{bit_or}
 use lib.ListN.{length, length-set, get_or, set}
@@ -77,11 +76,11 @@ module _ (s : page.Sending) (d : D.Shelf) (place : ℕ) where
   abbrev heard_at : ℕ → ℕ
   heard_at k = hearing_rises (Q.hearing_of d.lines (get_or us k D.blank) s.cell.heard)
 
-  rises_hearer : (k moved : ℕ) → (k ≡ place → ⊥) → rises_one (some s) d place k moved ≡ bit_or moved (heard_at k)
+  rises_hearer : (k moved : ℕ) → (k ≡ place → ⊥) → rises_one (Some s) d place k moved ≡ bit_or moved (heard_at k)
   unfolding rises_one
   rises_hearer k moved other = rw (ne_eqb k place other) refl
 
-  rises_sender : (moved : ℕ) → rises_one (some s) d place place moved ≡ bit_or (bit_or moved (heard_at place)) (sent_rises (page.some_addressed d.lines us s.cell))
+  rises_sender : (moved : ℕ) → rises_one (Some s) d place place moved ≡ bit_or (bit_or moved (heard_at place)) (sent_rises (page.some_addressed d.lines us s.cell))
   unfolding rises_one
   rises_sender moved = rw (eq-eqb place place refl) refl
 
@@ -331,12 +330,12 @@ module _ (card : Card) (w : World) (d : D.Shelf) (a : WorldAlike card w d) where
       by_sending : (place : ℕ) → D.find_in m.units d.granted ≡ Some place → (o : Option page.Sending) → page.sending_of (D.unit_at m place) ≡ o →
           ((k : ℕ) → k < length d.units → get_or each k 0 ≡ rises_one o m place k (taken_if (moves k))) →
           (i : ℕ) → i < length d.units → RowAlike (settled w.rows (frame_rises n each)) (page.framed d buffer) i
-      by_sending place at none first r = quiet (ap (λ f. page.sends f m buffer) at ∙ ap (λ o. page.sends_one o m place buffer) first) r
-      by_sending place at (some c) first r =
+      by_sending place at None first r = quiet (ap (λ f. page.sends f m buffer) at ∙ ap (λ o. page.sends_one o m place buffer) first) r
+      by_sending place at (Some c) first r =
           let v = D.unit_at m place in
           let here = found_below card w.shelf w.memory w.store d a.shelf d.granted place
           (find_alike card w.shelf w.memory w.store d a.shelf d.granted ∙ ap (λ l. S.place_from 0 l d.granted) (sym (moved_names d.units)) ∙ at) in
-          let s : page.sent_in m buffer ≡ page.sends_one (some c) m place buffer = ap (λ f. page.sends f m buffer) at ∙ ap (λ o. page.sends_one o m place buffer) first in
+          let s : page.sent_in m buffer ≡ page.sends_one (Some c) m place buffer = ap (λ f. page.sends f m buffer) at ∙ ap (λ o. page.sends_one o m place buffer) first in
           sent_rows w.rows d n a.shelf.counted few a.rows once moves agrees place here c (ap (λ g. g.settings.number) (left_kept v.inlet v.side.controlin v.side.loopbackin v c first)) each
           (λ k low other. r k low ∙ rises_hearer c m place k (taken_if (moves k)) other)
           (r place here ∙ rises_sender c m place (taken_if (moves place)))

@@ -1,11 +1,10 @@
 -- The memory of a good table, byte by byte. Assumes nothing.
-use Rattle.std.specs.Prelude.{Some}
+use Rattle.std.specs.Prelude.{Some, Ok, None, Option}
 use Prim.Native.Nat.{ℕ, ◌+◌, ◌-◌, ◌*◌, ◌/◌, ◌%◌, ◌<◌, ◌≤◌}
 use native.Mathlib.Omega.{arith}
 use mathlib.Core.Path.{◌≡◌, refl, sym, ap, ap₂, subst, ◌∙◌}
 use mathlib.Core.Bool.{true, ◌&&◌}
 use mathlib.Core.List.{List, [], ◌∷◌, ◌++◌, append_assoc, append-nil, Memᴰ as In}
-use mathlib.Core.Option.{Option, none, some}
 use lib.Dec.{eqb, leb}
 use lib.ListN.{length, get_or, drop, replicate, length-append, length-drop, length-replicate, get_or-replicate, get_or-append}
 use lib.Seq.{get_or-append-add, get_or-drop}
@@ -21,8 +20,7 @@ use Rattle.lookup.specs.declared.Record.TheVariants.{Empty, Drop as R-as-Drop, R
 use Rattle.lookup.proofs.RecordLaws.{bytes_length, image_length}
 use Rattle.line.specs.declared.Line.{Line}
 use Rattle.line.specs.declared.Line.TheVariants.{Bus, Unit as L-as-Unit, Vp, Drop, Page, Vc, Mc}
-use Rattle.judge.specs.declared.Verdict.TheVariants.{Fine}
-use Rattle.judge.specs.Verdicts.{taken}
+use Rattle.judge.specs.Verdicts.{fine, taken}
 use Rattle.meaning.specs.Told.{Whose, of_unit, of_page, same, Opening, opens, gives, total, else, given_by, record_of, region_by, regions, records, memory_of}
 use Rattle.meaning.specs.Lines.{judge, Good}
 use Rattle.meaning.proofs.Tabulate.{tabulate_at, tabulate_length, some_inj, none_some, only_true, only_is}
@@ -66,7 +64,7 @@ page_empty : {top place : ℕ} → R-as-Page top place ≡ Empty → ⊥
 page_empty e = let z : ◌≡◌ {A = ℕ} 0 1 = cc in omega arith
 
 module _ (k : Whose) (i : ℕ) (r : R.Record) where
-  gift_some : (l : Line) (place : ℕ) → given_by (gives l place) k i ≡ some r → r ≡ Empty → ⊥
+  gift_some : (l : Line) (place : ℕ) → given_by (gives l place) k i ≡ Some r → r ≡ Empty → ⊥
   unfolding gives
   gift_some (Bus bus) place g z = none_some g
   gift_some (L-as-Unit settings limits) place g z = none_some g
@@ -77,7 +75,7 @@ module _ (k : Whose) (i : ℕ) (r : R.Record) where
       route_empty (only_is (same k (of_page u v) && eqb i w) (R-as-Route (routing target class) outvpi outvci) r g ∙ z)
   gift_some (Mc u session) place g z = none_some g
 
-  fine_vacant : (card : Card) (room : ℕ) (told : List Line) (l : Line) (place : ℕ) → judge card room told l ≡ Fine → given_by (gives l place) k i ≡ some r → record_of told k i ≡ Empty
+  fine_vacant : (card : Card) (room : ℕ) (told : List Line) (l : Line) (place : ℕ) → judge card room told l ≡ fine → given_by (gives l place) k i ≡ Some r → record_of told k i ≡ Empty
   unfolding gives
   fine_vacant card room told (Bus bus) place e g = absurd (none_some g)
   fine_vacant card room told (L-as-Unit settings limits) place e g = absurd (none_some g)
@@ -92,16 +90,16 @@ module _ (k : Whose) (i : ℕ) (r : R.Record) where
   fine_vacant card room told (Mc u session) place e g = absurd (none_some g)
 
 -- so the record is that of the line, wherever it stands in the table
-gift_more : (card : Card) (room : ℕ) (told : List Line) (x : Line) → judge card room told x ≡ Fine → (k : Whose) (i : ℕ) (r : R.Record) → (r ≡ Empty → ⊥) → record_of told k i ≡ r → record_of (x ∷ told) k i ≡ r
+gift_more : (card : Card) (room : ℕ) (told : List Line) (x : Line) → judge card room told x ≡ fine → (k : Whose) (i : ℕ) (r : R.Record) → (r ≡ Empty → ⊥) → record_of told k i ≡ r → record_of (x ∷ told) k i ≡ r
 unfolding record_of
 gift_more card room told x f k i r n e = go (given_by (gives x (size * total told)) k i) refl
   where
     go : (o : Option R.Record) → given_by (gives x (size * total told)) k i ≡ o → else o (record_of told k i) ≡ r
-    go none h = e
-    go (some s) h = absurd (n (sym e ∙ fine_vacant k i s card room told x (size * total told) f h))
+    go None h = e
+    go (Some s) h = absurd (n (sym e ∙ fine_vacant k i s card room told x (size * total told) f h))
 
 record_by : (card : Card) (room : ℕ) (after : List Line) (l : Line) (before : List Line) → Good card room (after ++ (l ∷ before)) → (k : Whose) (i : ℕ) (r : R.Record) →
-    given_by (gives l (size * total before)) k i ≡ some r → record_of (after ++ (l ∷ before)) k i ≡ r
+    given_by (gives l (size * total before)) k i ≡ Some r → record_of (after ++ (l ∷ before)) k i ≡ r
 unfolding record_of
 record_by card room [] l before g k i r e = ap (λ x. else x (record_of before k i)) e
 record_by card room (x ∷ after) l before g k i r e =
@@ -112,7 +110,7 @@ module _ (card : Card) (room : ℕ) (told : List Line) (good : Good card room to
   good_split : (l : Line) (s : Split l told) → Good card room (s.after ++ (l ∷ s.before))
   good_split l s = subst (Good card room) s.all good
 
-  by_split : (l : Line) (s : Split l told) (k : Whose) (i : ℕ) (r : R.Record) → given_by (gives l (size * total s.before)) k i ≡ some r → record_of told k i ≡ r
+  by_split : (l : Line) (s : Split l told) (k : Whose) (i : ℕ) (r : R.Record) → given_by (gives l (size * total s.before)) k i ≡ Some r → record_of told k i ≡ r
   by_split l s k i r e = ap (λ x. record_of x k i) s.all ∙ record_by card room s.after l s.before (good_split l s) k i r e
 
   vp_record : (u v : ℕ) (target : Target) (class outvpi : ℕ) → In (Vp u v target class outvpi) told → record_of told (of_unit u) v ≡ R-as-Route (routing target class) outvpi 0
@@ -186,15 +184,15 @@ regions_split f (x ∷ after) l before =
     )
 
 -- what a line opens: so many records, each the function's
-opens_at : (f : Whose → ℕ → R.Record) (x : Option Opening) (o : Opening) (i : ℕ) → x ≡ some o → i ≤ o.top → (i < length (region_by f x)) × (get_or (region_by f x) i Empty ≡ f o.whose i)
-opens_at f none o i e h = absurd (none_some e)
-opens_at f (some p) o i e h =
+opens_at : (f : Whose → ℕ → R.Record) (x : Option Opening) (o : Opening) (i : ℕ) → x ≡ Some o → i ≤ o.top → (i < length (region_by f x)) × (get_or (region_by f x) i Empty ≡ f o.whose i)
+opens_at f None o i e h = absurd (none_some e)
+opens_at f (Some p) o i e h =
     let s : p ≡ o = some_inj e in
     let top = ap (λ x. x.top) s in
     let n = tabulate_length (f p.whose) (p.top + 1) in
     (omega arith, tabulate_at (f p.whose) (p.top + 1) i Empty (omega arith) ∙ ap (λ x. f x.whose i) s)
 
-module _ (f : Whose → ℕ → R.Record) (told after : List Line) (l : Line) (before : List Line) (all : told ≡ after ++ (l ∷ before)) (o : Opening) (e : opens l ≡ some o) (i : ℕ) (h : i ≤ o.top) where
+module _ (f : Whose → ℕ → R.Record) (told after : List Line) (l : Line) (before : List Line) (all : told ≡ after ++ (l ∷ before)) (o : Opening) (e : opens l ≡ Some o) (i : ℕ) (h : i ≤ o.top) where
   split : regions f told ≡ regions f before ++ (region_by f (opens l) ++ (regions_split f after l before).0)
   split = ap (regions f) all ∙ (regions_split f after l before).1
 
@@ -257,7 +255,7 @@ module _ (card : Card) (memory : List ℕ) (told : List Line) (fits : size * tot
       omega (arith, a, b, image_long, length-replicate {A = ℕ} gap 0, length-drop (usable memory) memory)
 
   -- the record of a line that opens some
-  stands : (after : List Line) (l : Line) (before : List Line) → told ≡ after ++ (l ∷ before) → (o : Opening) → opens l ≡ some o → (i : ℕ) → i ≤ o.top →
+  stands : (after : List Line) (l : Line) (before : List Line) → told ≡ after ++ (l ∷ before) → (o : Opening) → opens l ≡ Some o → (i : ℕ) → i ≤ o.top →
       eight (memory_of card memory told) (size * (total before + i)) ≡ bytes_of card (record_of told o.whose i)
   unfolding memory_of records
   stands after l before all o e i h =

@@ -1,12 +1,11 @@
 -- The shelf of a good table, number by number. Assumes nothing.
-use Rattle.std.specs.Prelude.{None, Some}
+use Rattle.std.specs.Prelude.{None, Some, Option}
 use Prim.Native.Nat.{ℕ, zero, suc, ◌*◌, ◌/◌, ◌%◌, ◌^◌, ◌<◌, ◌≤◌}
 use native.Mathlib.Omega.{arith}
 use mathlib.Core.Path.{◌≡◌, refl, sym, ap, subst, ◌∙◌}
 use mathlib.Core.Logic.{◌↔◌}
 use mathlib.Core.Bool.{true, false, false≢true}
 use mathlib.Core.List.{List, [], ◌∷◌, ◌++◌}
-use mathlib.Core.Option.{Option, none, some}
 use lib.ListN.{length, get_or, set, replicate, length-take}
 use lib.Seq.{get_or-set_same, get_or-set_other}
 use borrow.Author.Tests.{eqb-true, eq-eqb}
@@ -171,8 +170,8 @@ module _ (card : Card) (room store rows : ℕ) (told : List Line) (good : Good c
           ∙ sound_find card shelf store rows sound i inside
 
       go : (o : Option ℕ) → top_of told (of_unit n) ≡ o → Heard i
-      go none k = absurd (nothing_at (sym (w.gone n k) ∙ found))
-      go (some top) k = let s = w.here n top k in subst Heard (at_is (sym s.found ∙ found)) (s.all, s.hearing)
+      go None k = absurd (nothing_at (sym (w.gone n k) ∙ found))
+      go (Some top) k = let s = w.here n top k in subst Heard (at_is (sym s.found ∙ found)) (s.all, s.hearing)
 
   declared_as : (after : List Line) (settings : Settings) (limits : Limits) (before : List Line) → told ≡ after ++ (L-as-Unit settings limits ∷ before) →
       Declared told settings limits (8 * records_of before) (get_or shelf.units (unit_lines before) no_unit)

@@ -1,10 +1,10 @@
 -- Take, and count. Assumes nothing.
+use Rattle.std.specs.Prelude.{None, Option, Some}
 use Prim.Native.Nat.{ℕ, ◌+◌, ◌<◌}
 use native.Mathlib.Omega.{arith}
 use mathlib.Core.Path.{◌≡◌, refl, sym, ap, subst, ◌∙◌}
 use mathlib.Core.Bool.{true}
 use mathlib.Core.List.{List, [], ◌∷◌}
-use mathlib.Core.Option.{Option, none, some}
 use lib.Dec.{eqb}
 use lib.ListN.{length}
 use borrow.Author.Tests.{eq-eqb}
@@ -57,8 +57,8 @@ module _ (card : Card) (w : World) (runs : Runs card w) (unit place : ℕ) (d : 
 
     by_queue : (o : Option ℕ) → Leaves u.outlet o → TakenFrom w place buffer o (outcome w place buffer u (leaving_as o))
     unfolding outcome taking.done_by taking.buffer_by taking.line_cell settled_to
-    by_queue none l = record { said = refl; world = refl; bytes = refl }
-    by_queue (some q) l =
+    by_queue None l = record { said = refl; world = refl; bytes = refl }
+    by_queue (Some q) l =
         record {
           said = refl;
           shelf =

@@ -1,6 +1,5 @@
 -- Take. Assumes nothing.
-use Rattle.std.specs.Prelude.{ℕ, ◌+◌, ◌≡◌, List, [], ◌∷◌, length}
-use Rattle.std.proofs.Math.Option.{Option, none, some}
+use Rattle.std.specs.Prelude.{ℕ, ◌+◌, ◌≡◌, List, [], ◌∷◌, length, None, Option, Some}
 use Rattle.card.specs.declared.Card.{Card}
 use Rattle.answer.specs.declared.Answer.TheVariants.{Taken, Empty}
 use Rattle.paper.specs.Outlets.{queue_at, ring_at, cell_at, shorter}
@@ -31,8 +30,8 @@ pub record Takes (w : World) (place q : ℕ) (o : Outcome) : Type 0 where
       HandedOut u (cell_at w.store place ((queue_at u.outlet q).first + (ring_at u.outlet q).head)) o.bytes
 
 abbrev pub TakenFrom : World → ℕ → List ℕ → Option ℕ → Outcome → Type 0
-TakenFrom w place buffer none o = TakesNone w buffer o
-TakenFrom w place buffer (some q) o = Takes w place q o
+TakenFrom w place buffer None o = TakesNone w buffer o
+TakenFrom w place buffer (Some q) o = Takes w place q o
 
 -- a buffer of 53 bytes
 pub record TakenAt (w : World) (place : ℕ) (buffer : List ℕ) (o : Outcome) : Type 0 where

@@ -1,4 +1,5 @@
 -- A memory that is cleared before, or after, a table was read into it; and what reading a text comes to. Assumes nothing.
+use Rattle.std.specs.Prelude.{Err}
 use mathlib.Core.Path.{◌≡◌, refl, sym, ap, ◌∙◌}
 use mathlib.Core.Bool.{true, false, false≢true}
 use mathlib.Core.List.{List, [], ◌∷◌, ◌++◌, append_assoc}
@@ -19,9 +20,8 @@ use Rattle.line.proofs.Ranges.{read_in_range}
 use Rattle.state.specs.Bytes.{shelf_in}
 use Rattle.state.specs.Placing.{fresh_bytes}
 use Rattle.text.specs.Text.{split}
-use Rattle.judge.specs.declared.Verdict.{Verdict}
-use Rattle.judge.specs.declared.Verdict.TheVariants.{Form}
-use Rattle.judge.specs.Verdicts.{number_of, is_fine}
+use Rattle.judge.specs.declared.Fault.TheVariants.{Form}
+use Rattle.judge.specs.Verdicts.{Verdict, number_of, is_fine}
 use Rattle.meaning.specs.Told.{total, record_of, records, shelf_of, memory_of}
 use Rattle.meaning.specs.Lines.{judge, verdict_on, with, Ran, done, stopped, run, Good}
 use Rattle.meaning.proofs.Regions.{regions_length}
@@ -115,7 +115,7 @@ run_sound card room (r ∷ rs) told n g a h =
 pub ran_sound : (card : Card) (room : ℕ) (text : List ℕ) → Sound card room (ran_of card room text)
 unfolding ran_of
 ran_sound card room text =
-    decide (eqb (length text) 0) (λ t. rw t (stop_sound card room [] 1 (Form Newline) tt tt refl))
+    decide (eqb (length text) 0) (λ t. rw t (stop_sound card room [] 1 (Err (Form Newline)) tt tt refl))
     (λ t. rw t (run_sound card room (readings_of (split 10 text)) [] 0 tt tt (all_read (split 10 text))))
 
 -- what loading comes to

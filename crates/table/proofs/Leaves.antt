@@ -1,4 +1,5 @@
 -- One line more, over plain values. Assumes nothing.
+use Rattle.std.specs.Prelude.{Err, Ok}
 use mathlib.Core.Path.{◌≡◌, refl, sym, ap, ◌∙◌}
 use mathlib.Core.Bool.{true, false, false≢true}
 use mathlib.Core.List.{List}
@@ -6,9 +7,8 @@ use Prim.Native.Nat.{ℕ, ◌+◌}
 use Rattle.card.specs.declared.Card.{Card}
 use Rattle.shelf.specs.Shelf.{Shelf}
 use Rattle.line.specs.declared.Reading.{Reading}
-use Rattle.judge.specs.declared.Verdict.{Verdict}
-use Rattle.judge.specs.declared.Verdict.TheVariants.{Fine, Form, Order, Twice, Wide, Room}
-use Rattle.judge.specs.Verdicts.{is_fine}
+use Rattle.judge.specs.declared.Fault.TheVariants.{Form, Order, Twice, Wide, Room}
+use Rattle.judge.specs.Verdicts.{fine, Verdict, is_fine}
 use Rattle.meaning.specs.Enact.{used_in, memory_in}
 use Rattle.table.specs.Load.{progress_by, memory_after}
 use Rattle.table.specs.InPlace.{state_read, state_after}
@@ -39,10 +39,10 @@ module _ (card : Card) (memory s : List ℕ) (shelf : Shelf) (p : Progress) (rea
   pub state_enacted : (s' : List ℕ) → is_fine v ≡ true → s' ≡ state_read reading p.used s → s' ≡ state_after s w p reading
   state_enacted s' f m = rw (sym (ap is_fine e) ∙ f) m
 
-pub fine_is : (v : Verdict) → is_fine v ≡ true → v ≡ Fine
-fine_is Fine e = refl
-fine_is (Form wrong) e = absurd (false≢true e)
-fine_is (Order field) e = absurd (false≢true e)
-fine_is (Twice field) e = absurd (false≢true e)
-fine_is Wide e = absurd (false≢true e)
-fine_is Room e = absurd (false≢true e)
+pub fine_is : (v : Verdict) → is_fine v ≡ true → v ≡ fine
+fine_is (Ok x) e = refl
+fine_is (Err (Form wrong)) e = absurd (false≢true e)
+fine_is (Err (Order field)) e = absurd (false≢true e)
+fine_is (Err (Twice field)) e = absurd (false≢true e)
+fine_is (Err Wide) e = absurd (false≢true e)
+fine_is (Err Room) e = absurd (false≢true e)

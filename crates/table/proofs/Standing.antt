@@ -1,4 +1,5 @@
 -- The bytes that good lines make are the shelf that they make, and well formed. Assumes nothing.
+use Rattle.std.specs.Prelude.{Ok}
 use mathlib.Core.Path.{◌≡◌, sym, ap, subst, ◌∙◌}
 use mathlib.Core.List.{List, [], ◌∷◌}
 use Prim.Native.Nat.{ℕ, ◌*◌, ◌<◌}
@@ -9,17 +10,17 @@ use Rattle.state.specs.Bytes.{shelf_in}
 use Rattle.state.proofs.Afresh.{fresh_shelf}
 use Rattle.line.specs.declared.Line.{Line}
 use Rattle.line.specs.declared.Line.TheVariants.{Bus, Unit as L-as-Unit, Vp, Drop, Page, Vc, Mc}
-use Rattle.judge.specs.declared.Verdict.TheVariants.{Fine}
 use Rattle.meaning.specs.Told.{total, shelf_by, shelf_of}
 use Rattle.meaning.specs.Lines.{judge, Good}
 use Rattle.meaning.proofs.Memory.{Ranged, AllRanged}
 use Rattle.meaning.proofs.Shelved.{shelved, place_left}
 use Rattle.table.proofs.GivenInPlace.{Roomy, Well, fresh_well, state_well, state_decodes}
 use Rattle.table.specs.InPlace.{state_of}
+use Rattle.judge.specs.Verdicts.{fine}
 
 module _ (card : Card) (room : ℕ) where
   -- there is a place for a unit that a good line declares
-  roomy : (told : List Line) (l : Line) → Good card room told → AllRanged told → judge card room told l ≡ Fine → Ranged l → shelf_in (state_of told) ≡ shelf_of told → Roomy (state_of told) l
+  roomy : (told : List Line) (l : Line) → Good card room told → AllRanged told → judge card room told l ≡ fine → Ranged l → shelf_in (state_of told) ≡ shelf_of told → Roomy (state_of told) l
   roomy told (Bus bus) g r f h e = tt
   roomy told (L-as-Unit settings limits) g r f h e =
       subst (λ (s : Shelf). s.count < 32) (sym e) (place_left card room told settings limits f h (shelved card room told g r))

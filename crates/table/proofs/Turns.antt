@@ -1,4 +1,5 @@
 -- The loop over the lines: what is known between two turns, and each kind of turn. Assumes nothing.
+use Rattle.std.specs.Prelude.{Ok}
 use mathlib.Core.Path.{◌≡◌, refl, sym, ap, ap₂, subst, ◌∙◌}
 use mathlib.Core.Bool.{true, false, false≢true}
 use mathlib.Core.List.{List, [], ◌∷◌}
@@ -23,9 +24,7 @@ use Rattle.line.specs.declared.Reading.TheVariants.{Good as Read, Bad}
 use Rattle.line.specs.Ranges.{InRange}
 use Rattle.text.proofs.Split.{split_some, split_end, split_more, split_last}
 use Rattle.line.proofs.Ranges.{read_in_range}
-use Rattle.judge.specs.declared.Verdict.{Verdict}
-use Rattle.judge.specs.declared.Verdict.TheVariants.{Fine}
-use Rattle.judge.specs.Verdicts.{is_fine}
+use Rattle.judge.specs.Verdicts.{fine, Verdict, is_fine}
 use Rattle.meaning.specs.Told.{Whose, total, opens, takes, shelf_of, record_of, memory_of}
 use Rattle.meaning.specs.Lines.{is_first, judge, verdict_on, run, done, stopped, Good}
 use Rattle.judge.specs.Owners.{unit_of, owner_of}
@@ -146,7 +145,7 @@ module _ (card : Card) (memory₀ text : List ℕ) (told : List Line) (from : �
   verdict_is (Bad wrong) h = refl
 
   -- there is a place for a unit that it declares, and its limits are in their ranges
-  pub placed : (r : Reading) → ((l : Line) → r ≡ Read l → InRange l) → verdict_in card room memory (shelf_in s) p r ≡ Fine → Places (shelf_in s) r
+  pub placed : (r : Reading) → ((l : Line) → r ≡ Read l → InRange l) → verdict_in card room memory (shelf_in s) p r ≡ fine → Places (shelf_in s) r
   placed (Read (Bus bus)) h e = tt
   placed (Read (L-as-Unit settings limits)) h e =
       let given = h (L-as-Unit settings limits) refl in
@@ -170,34 +169,34 @@ module _ (card : Card) (memory₀ text : List ℕ) (told : List Line) (from : �
       sym (step_stopped card memory s (shelf_in s) p r v (verdict_in card room memory (shelf_in s) p r) (sym e) f) ∙ ap (λ q. progress q.used (q.lines + 1) v) b.come
 
   -- one that is fine is one more
-  pub goes : (l : Line) (rs : List Reading) → readings_of (split 10 (drop from text)) ≡ Read l ∷ rs → judge card room told l ≡ Fine → ran_of card room text ≡ run card room (l ∷ told) (length told + 1) rs
+  pub goes : (l : Line) (rs : List Reading) → readings_of (split 10 (drop from text)) ≡ Read l ∷ rs → judge card room told l ≡ fine → ran_of card room text ≡ run card room (l ∷ told) (length told + 1) rs
   unfolding run
   goes l rs e f = b.left ∙ ap (run card room told (length told)) e ∙ rw f
 
   -- the progress and the memory of one line more
-  more_progress : (l : Line) → judge card room told l ≡ Fine → Ranged l → progress_by (verdict_in card room memory (shelf_in s) p (Read l)) p (Read l) ≡ progress_of (done (l ∷ told))
+  more_progress : (l : Line) → judge card room told l ≡ fine → Ranged l → progress_by (verdict_in card room memory (shelf_in s) p (Read l)) p (Read l) ≡ progress_of (done (l ∷ told))
   unfolding total
   more_progress l f r =
       let v = verdict_line l r ∙ f in
       let u : size * total told + size * takes (opens l) ≡ size * (total told + takes (opens l)) = omega arith in
-      sym (step_fine card memory s (shelf_in s) p (Read l) Fine (verdict_in card room memory (shelf_in s) p (Read l)) (sym v) (p.used + size * takes (opens l)) refl refl)
-      ∙ ap (λ q. progress (q.used + size * takes (opens l)) (q.lines + 1) Fine) b.come ∙ ap₂ (λ n k. progress n k Fine) u (add-one (length told))
+      sym (step_fine card memory s (shelf_in s) p (Read l) fine (verdict_in card room memory (shelf_in s) p (Read l)) (sym v) (p.used + size * takes (opens l)) refl refl)
+      ∙ ap (λ q. progress (q.used + size * takes (opens l)) (q.lines + 1) fine) b.come ∙ ap₂ (λ n k. progress n k fine) u (add-one (length told))
 
-  more_memory : (l : Line) → judge card room told l ≡ Fine → Ranged l → memory_after card memory (shelf_in s) (verdict_in card room memory (shelf_in s) p (Read l)) p (Read l) ≡ memory_of card memory₀ (l ∷ told)
+  more_memory : (l : Line) → judge card room told l ≡ fine → Ranged l → memory_after card memory (shelf_in s) (verdict_in card room memory (shelf_in s) p (Read l)) p (Read l) ≡ memory_of card memory₀ (l ∷ told)
   more_memory l f r =
       let v = verdict_line l r ∙ f in
-      sym (memory_enacted card memory s (shelf_in s) p (Read l) Fine (verdict_in card room memory (shelf_in s) p (Read l)) (sym v) (memory_by card memory p.used (owner_of (shelf_in s) (unit_of l)) l) refl refl)
+      sym (memory_enacted card memory s (shelf_in s) p (Read l) fine (verdict_in card room memory (shelf_in s) p (Read l)) (sym v) (memory_by card memory p.used (owner_of (shelf_in s) (unit_of l)) l) refl refl)
       ∙ (λ i. memory_by card (b.holding i) (b.come i).used (owner_of (shelf_is i) (unit_of l)) l)
       ∙ memory_agree card memory₀ told (grown card room told b.good) (shelved card room told b.good b.ranges) hold l f
 
-  more_state : (l : Line) → judge card room told l ≡ Fine → Ranged l → state_after s (verdict_in card room memory (shelf_in s) p (Read l)) p (Read l) ≡ state_of (l ∷ told)
+  more_state : (l : Line) → judge card room told l ≡ fine → Ranged l → state_after s (verdict_in card room memory (shelf_in s) p (Read l)) p (Read l) ≡ state_of (l ∷ told)
   unfolding state_of
   more_state l f r =
       let v = verdict_line l r ∙ f in
-      sym (state_enacted card memory s (shelf_in s) p (Read l) Fine (verdict_in card room memory (shelf_in s) p (Read l)) (sym v) (state_by l p.used s) refl refl)
+      sym (state_enacted card memory s (shelf_in s) p (Read l) fine (verdict_in card room memory (shelf_in s) p (Read l)) (sym v) (state_by l p.used s) refl refl)
       ∙ (λ i. state_by l (b.come i).used (b.standing i))
 
-  pub turn : (e : ℕ) (l : Line) → from ≤ e → e < length text → readings_of (split 10 (drop from text)) ≡ Read l ∷ readings_of (split 10 (drop (e + 1) text)) → judge card room told l ≡ Fine → Ranged l → Between card memory₀ text (l ∷ told) (e + 1) (progress_by (verdict_in card room memory (shelf_in s) p (Read l)) p (Read l)) (memory_after card memory (shelf_in s) (verdict_in card room memory (shelf_in s) p (Read l)) p (Read l)) (state_after s (verdict_in card room memory (shelf_in s) p (Read l)) p (Read l))
+  pub turn : (e : ℕ) (l : Line) → from ≤ e → e < length text → readings_of (split 10 (drop from text)) ≡ Read l ∷ readings_of (split 10 (drop (e + 1) text)) → judge card room told l ≡ fine → Ranged l → Between card memory₀ text (l ∷ told) (e + 1) (progress_by (verdict_in card room memory (shelf_in s) p (Read l)) p (Read l)) (memory_after card memory (shelf_in s) (verdict_in card room memory (shelf_in s) p (Read l)) p (Read l)) (state_after s (verdict_in card room memory (shelf_in s) p (Read l)) p (Read l))
   turn e l h g q f r =
       let short = b.short in
       record {
@@ -222,7 +221,7 @@ module _ (card : Card) (memory₀ text : List ℕ) (told : List Line) (from : �
   by_lines : verdict ≡ verdict_on card (usable memory₀) told r
   by_lines = verdict_is card memory₀ text told from p memory s b r (λ l k. ranged l (in_range l k))
 
-  pub step_places : verdict ≡ Fine → Places (shelf_in s) r
+  pub step_places : verdict ≡ fine → Places (shelf_in s) r
   step_places = placed card memory₀ text told from p memory s b r in_range
 
   readings : (rs : List Reading) × (readings_of (split 10 (drop from text)) ≡ r ∷ rs)

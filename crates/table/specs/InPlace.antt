@@ -6,8 +6,7 @@ use Rattle.state.specs.Placing.{fresh_bytes}
 use Rattle.line.specs.declared.Line.{Line}
 use Rattle.line.specs.declared.Reading.{Reading}
 use Rattle.line.specs.declared.Reading.TheVariants.{Good, Bad}
-use Rattle.judge.specs.declared.Verdict.{Verdict}
-use Rattle.judge.specs.Verdicts.{is_fine}
+use Rattle.judge.specs.Verdicts.{Verdict, is_fine}
 use Rattle.meaning.specs.Told.{total, shelf_of}
 use Rattle.meaning.specs.Lines.{Ran, done, stopped}
 use Rattle.table.specs.GivenInPlace.{state_by}

@@ -1,5 +1,5 @@
 -- Loading: text into lines, lines judged, and what comes back. Assumes nothing.
-use Rattle.std.specs.Prelude.{ℕ, ◌+◌, ◌*◌, Bool, true, false, cond, ◌||◌, List, [], ◌∷◌, eqb, ltb, length}
+use Rattle.std.specs.Prelude.{ℕ, ◌+◌, ◌*◌, Bool, true, false, cond, ◌||◌, List, [], ◌∷◌, eqb, ltb, length, Err, Ok}
 use Rattle.card.specs.declared.Card.{Card}
 use Rattle.lookup.specs.Record.{size, usable, record_at, cleared}
 use Rattle.shelf.specs.Shelves.{fresh}
@@ -9,13 +9,12 @@ use Rattle.line.specs.Lines.{reading_of}
 use Rattle.line.specs.declared.Line.{Line}
 use Rattle.line.specs.declared.Wrong.TheVariants.{Newline}
 use Rattle.line.specs.declared.Reading.{Reading}
-use Rattle.judge.specs.declared.Verdict.{Verdict}
-use Rattle.judge.specs.declared.Verdict.TheVariants.{Fine, Form}
+use Rattle.judge.specs.declared.Fault.TheVariants.{Form}
 use Rattle.table.specs.declared.Progress.{Progress}
 use Rattle.table.specs.declared.Outcome.{Outcome}
 use Rattle.table.specs.declared.Outcome.TheVariants.{Loaded, Refused}
 use Rattle.table.specs.Loading.{Loading}
-use Rattle.judge.specs.Verdicts.{number_of, is_fine}
+use Rattle.judge.specs.Verdicts.{fine, Verdict, number_of, is_fine}
 use Rattle.meaning.specs.Told.{total, shelf_of, memory_of}
 use Rattle.meaning.specs.Enact.{verdict_at, used_in, memory_in}
 use Rattle.meaning.specs.Lines.{Ran, done, stopped, run}
@@ -37,7 +36,7 @@ verdict_in card room memory shelf p reading = verdict_at card room (eqb p.lines 
 
 -- how far reading came
 abbrev pub progress_of : Ran → Progress
-progress_of (done told) = record { used = size * total told; lines = length told; verdict = Fine }
+progress_of (done told) = record { used = size * total told; lines = length told; verdict = fine }
 progress_of (stopped told n verdict) = record { used = size * total told; lines = n; verdict = verdict }
 
 abbrev pub told_in : Ran → List Line
@@ -52,7 +51,7 @@ readings_of (p ∷ q ∷ ps) = reading_of p true ∷ readings_of (q ∷ ps)
 
 -- "empty text (line 1)" is Form; else the first faulty line, or all the lines
 unfoldable pub ran_of : Card → ℕ → List ℕ → Ran
-ran_of card room text = cond (eqb (length text) 0) (stopped [] 1 (Form Newline)) (run card room [] 0 (readings_of (split 10 text)))
+ran_of card room text = cond (eqb (length text) 0) (stopped [] 1 (Err (Form Newline))) (run card room [] 0 (readings_of (split 10 text)))
 
 -- "cell store below 8,192 bytes a declared unit, or fewer counter rows than units"
 abbrev pub too_little : Shelf → ℕ → ℕ → Bool

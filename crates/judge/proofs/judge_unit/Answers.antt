@@ -1,23 +1,29 @@
-use mathlib.Core.Path.{sym, ◌∙◌}
-use Rattle.judge.proofs.Chains.{unit_off, unit_twice, unit_room, unit_wide}
+use Rattle.std.proofs.Common.{sym, ◌∙◌, ◌≡◌, Bool, true, false, cond, Ok, Err}
+use Rattle.std.proofs.lemmas.Result.{err_from_is_err_and}
+use borrow.Author.Tests.{le-leb, lt-leb}
+use Rattle.card.specs.declared.Card.{Card}
+use Rattle.card.specs.declared.Ask.{Ask}
+use Rattle.judge.specs.Verdicts.{Verdict, asked}
+use Rattle.judge.specs.declared.Fault.{Fault}
+use Rattle.judge.specs.Judge.{judge_unit}
+use Rattle.judge.proofs.Owning.{asked_fine, asked_wide}
 use Rattle.judge.proofs.judge_unit.Goals as goal
 
 pub returns-then-bus-settings : goal.returns-then-bus-settings
-returns-then-bus-settings c =
-    let a = c.args in
-    unit_off a.card a.bus a.room a.used a.settings.number a.settings.top a.settings.link a.declared c.if-bus-settings.true
+unfolding judge_unit
+returns-then-bus-settings c = rw (le-leb c.args.bus c.args.settings.number c.if-bus-settings.true)
 
 pub returns-then-declared : goal.returns-then-declared
-returns-then-declared c =
-    let a = c.args in
-    unit_twice a.card a.bus a.room a.used a.settings.number a.settings.top a.settings.link a.declared c.if-bus-settings.false c.if-declared.true
+unfolding judge_unit
+returns-then-declared c = rw (lt-leb c.args.bus c.args.settings.number c.if-bus-settings.false, c.if-declared.true)
 
-pub returns-then-holds : goal.returns-then-holds
-returns-then-holds c =
-    let a = c.args in
-    unit_room a.card a.bus a.room a.used a.settings.number a.settings.top a.settings.link a.declared _ c.if-bus-settings.false c.if-declared.false (sym c.holds.ensures ∙ c.if-holds.true) c.room_for.ensures
+pub returns-in_err-asks : goal.returns-in_err-asks
+unfolding judge_unit
+returns-in_err-asks c =
+    let p = err_from_is_err_and c.from_residual.result c.from_residual.ensures.1 in
+    rw (p.1, p.2, lt-leb c.args.bus c.args.settings.number c.if-bus-settings.false, c.if-declared.false) (asked_wide _ _ _ (sym c.asks.ensures ∙ c.in_err-asks.was) _)
 
 pub returns : goal.returns
+unfolding judge_unit
 returns c =
-    let a = c.args in
-    unit_wide a.card a.bus a.room a.used a.settings.number a.settings.top a.settings.link a.declared c.if-bus-settings.false c.if-declared.false (sym c.holds.ensures ∙ c.if-holds.false)
+    c.room_for.ensures ∙ rw (lt-leb c.args.bus c.args.settings.number c.if-bus-settings.false, c.if-declared.false) (asked_fine _ _ (sym c.asks.ensures ∙ c.in_ok-asks.was) _)

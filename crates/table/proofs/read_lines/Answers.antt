@@ -1,3 +1,4 @@
+use Rattle.std.specs.Prelude.{Ok}
 use mathlib.Core.Path.{◌≡◌, refl, sym, ap, subst, subst₂, ◌∙◌}
 use mathlib.Core.List.{[]}
 use Prim.Native.Nat.{◌+◌}
@@ -7,8 +8,7 @@ use Rattle.text.specs.Text.{fields_of}
 use Rattle.text.proofs.Split.{field_is}
 use Rattle.lookup.specs.Record.{usable}
 use Rattle.state.specs.Bytes.{shelf_in}
-use Rattle.judge.specs.declared.Verdict.TheVariants.{Fine}
-use Rattle.judge.specs.Verdicts.{is_fine}
+use Rattle.judge.specs.Verdicts.{fine, is_fine}
 use Rattle.meaning.specs.Told.{total, memory_of}
 use Rattle.meaning.specs.Enact.{Places}
 use Rattle.meaning.proofs.Memory.{memory_none}
@@ -61,7 +61,7 @@ step-p-requires c =
     let room = c.usable-room.ensures in
     let m = a.memory.now in
     let t = a.text.now in
-    let w = shelf_in l.s in record { s_len = (state_long a.card m t told l.from l.p l.memory l.s b, used_most a.card m t told l.from l.p l.memory l.s b, lines_most a.card m t told l.from l.p l.memory l.s b c.requires.0); places = subst (λ n. verdict_in a.card n l.memory w l.p r ≡ Fine → Places w r) (sym room) (step_places a.card m t told l.from l.p l.memory l.s b e q h r k) }
+    let w = shelf_in l.s in record { s_len = (state_long a.card m t told l.from l.p l.memory l.s b, used_most a.card m t told l.from l.p l.memory l.s b, lines_most a.card m t told l.from l.p l.memory l.s b c.requires.0); places = subst (λ n. verdict_in a.card n l.memory w l.p r ≡ fine → Places w r) (sym room) (step_places a.card m t told l.from l.p l.memory l.s b e q h r k) }
 
 pub shape_of-memory-then-not-is_fine : goal.shape_of-memory-then-not-is_fine
 shape_of-memory-then-not-is_fine c = c.step-p.auto.memory ∙ c.loop-from.invariant.2

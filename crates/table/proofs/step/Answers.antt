@@ -1,16 +1,17 @@
+use Rattle.std.specs.Prelude.{Ok}
 use mathlib.Core.Path.{◌≡◌, sym, ap, subst, ◌∙◌}
 use Rattle.state.specs.Bytes.{shelf_in}
-use Rattle.judge.specs.declared.Verdict.TheVariants.{Fine}
 use Rattle.meaning.specs.Enact.{Places}
 use Rattle.table.specs.Load.{progress_by, memory_after, verdict_in}
 use Rattle.table.specs.InPlace.{state_after}
 use Rattle.table.proofs.step.Goals as goal
+use Rattle.judge.specs.Verdicts.{fine}
 
 pub enact-requires : goal.enact-requires
 enact-requires c =
     let s = c in
     let a = s.args in
-    record { s_len = s.requires.s_len; places = subst (λ r. verdict_in a.card a.room a.memory.now (shelf_in a.s.now) a.p r ≡ Fine → Places (shelf_in a.s.now) r) c.in-Good.is s.requires.places }
+    record { s_len = s.requires.s_len; places = subst (λ r. verdict_in a.card a.room a.memory.now (shelf_in a.s.now) a.p r ≡ fine → Places (shelf_in a.s.now) r) c.in-Good.is s.requires.places }
 
 pub returns-in-Good : goal.returns-in-Good
 returns-in-Good c =
