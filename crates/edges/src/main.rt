@@ -3,12 +3,12 @@
 
 use card::Card;
 use std::io;
-use table::Outcome;
+use table::Refusal;
 
-fn show(rt: &impl Print, outcome: Outcome) -> io::Result<()> {
+fn show(rt: &impl Print, outcome: Result<u32, Refusal>) -> io::Result<()> {
     match outcome {
-        Outcome::Loaded(used) => println!(rt; "ok {used}"),
-        Outcome::Refused { number, line } => println!(rt; "refused {number} {line}"),
+        Ok(used) => println!(rt; "ok {used}"),
+        Err(Refusal { number, line }) => println!(rt; "refused {number} {line}"),
     }
 }
 

@@ -7,7 +7,7 @@ ghost use Rattle.std.specs.Prelude.{◌≡◌, ◌-◌, ◌≤◌, length};
 use card::Card;
 use std::env::Env;
 use std::io::Read;
-use table::Outcome;
+use table::Refusal;
 use toowide::Next;
 
 // The input: so many bytes of it are kept, and whether nothing failed.
@@ -61,7 +61,7 @@ fn say_refused(
 }
 
 // Loads at full size: 32 units, their store and 262,144 bytes of memory.
-fn load(card: Card, text: &[u8], memory: &mut [u8; 262144], state: &mut [u8; 2048]) -> Outcome {
+fn load(card: Card, text: &[u8], memory: &mut [u8; 262144], state: &mut [u8; 2048]) -> Result<u32, Refusal> {
     table::load_text(card, text, memory, state, 262144, 32)
 }
 
@@ -69,8 +69,8 @@ fn load(card: Card, text: &[u8], memory: &mut [u8; 262144], state: &mut [u8; 204
 fn wide_takes(text: &[u8], memory: &mut [u8; 262144]) -> bool {
     let mut state = [0u8; 2048];
     match load(Card::Wide, text, memory, &mut state) {
-        Outcome::Loaded(_) => true,
-        Outcome::Refused { number: _, line: _ } => false,
+        Ok(_) => true,
+        Err(_) => false,
     }
 }
 
@@ -121,8 +121,8 @@ fn on_card(
 ) -> Said {
     let mut state = [0u8; 2048];
     match load(card, text, memory, &mut state) {
-        Outcome::Loaded(used) => say_ok(rt, card, used, state[805]),
-        Outcome::Refused { number, line } => {
+        Ok(used) => say_ok(rt, card, used, state[805]),
+        Err(Refusal { number, line }) => {
             if number == 5 {
                 return list(rt, text, wide_takes(text, memory));
             }

@@ -32,7 +32,6 @@ use Rattle.meaning.proofs.Fits.{order_fine, twice_fine, wide_fine}
 use Rattle.meaning.proofs.Grown.{decide}
 use Rattle.meaning.proofs.Memory.{AllRanged}
 use Rattle.meaning.proofs.Shelved.{shelved}
-use Rattle.table.specs.declared.Outcome.TheVariants.{Refused}
 use Rattle.table.specs.Load.{load, loaded}
 use Rattle.promise.specs.Served.{looked_up, lookup_at, said_by}
 use Rattle.promise.specs.Readings.{lines_of, read_then}
@@ -43,6 +42,7 @@ use Rattle.promise.proofs.Runs.{AllFine, FirstFault}
 use Rattle.promise.proofs.Faults.{too_wide, wide_iff, good_iff}
 use Rattle.promise.proofs.ByLines.{lookup_lines}
 use Rattle.promise.proofs.Refusals.{all_fine, accepts_good, accepts_ranged, at_line, refused, accepted, refused_line, loaded_refused}
+use Rattle.table.specs.Loading.{refusal_of}
 
 -- A. one line: what is fine on the wide card is Wide on the narrow one, or fine there too
 abbrev judged : Bool → Verdict
@@ -184,13 +184,13 @@ module _ (text memory : List ℕ) (store rows : ℕ) (told : List Line) (a : Acc
       }
 
   -- "The eight-bit card refuses it as too wide, naming the first line .. exactly when there is such a line."
-  pub narrow_refuses_iff : (line : ℕ) → (FirstWide told line → (load Narrow text memory store rows).outcome ≡ Refused 5 line) × ((load Narrow text memory store rows).outcome ≡ Refused 5 line → FirstWide told line)
+  pub narrow_refuses_iff : (line : ℕ) → (FirstWide told line → (load Narrow text memory store rows).outcome ≡ refusal_of 5 line) × ((load Narrow text memory store rows).outcome ≡ refusal_of 5 line → FirstWide told line)
   narrow_refuses_iff line = (back line, forth)
     where
-      back : (n : ℕ) → FirstWide told n → (load Narrow text memory store rows).outcome ≡ Refused 5 n
+      back : (n : ℕ) → FirstWide told n → (load Narrow text memory store rows).outcome ≡ refusal_of 5 n
       back n w = ap (λ x. x.outcome) (refused Narrow text memory store rows 5 n (narrow_refuses n w)).0
 
-      forth : (load Narrow text memory store rows).outcome ≡ Refused 5 line → FirstWide told line
+      forth : (load Narrow text memory store rows).outcome ≡ refusal_of 5 line → FirstWide told line
       forth e =
           ⊎_elim (λ n. absurd (loaded_refused (sym (ap (λ x. x.outcome) (accepted Narrow text memory store rows told (narrow_accepts n)).0) ∙ e)))
           (λ w. subst (FirstWide told) (refused_line (sym (back w.0 w.1) ∙ e)) w.1) (wide_or_not told)

@@ -21,8 +21,7 @@ use Rattle.meaning.specs.Told.{total, shelf_of, memory_of}
 use Rattle.meaning.specs.Lines.{Good, Ran, done, stopped, verdict_on}
 use Rattle.meaning.proofs.Memory.{AllRanged}
 use Rattle.meaning.proofs.Grown.{decide}
-use Rattle.table.specs.declared.Outcome.TheVariants.{Loaded, Refused}
-use Rattle.table.specs.Loading.{Loading}
+use Rattle.table.specs.Loading.{Loading, refusal_of}
 use Rattle.table.specs.Load.{ran_of, refusal, too_little, loading_of, memory_ran, load, loaded}
 use Rattle.table.proofs.Cleared.{load_long, load_short}
 use Rattle.promise.specs.Says.{records_of, unit_lines}
@@ -33,16 +32,16 @@ use Rattle.promise.proofs.Said.{records_total, units_count}
 use Rattle.promise.proofs.Runs.{AllFine, FirstFault, AllInRange, line_ranges, all_ranged, done_iff_good, fault_first, first_stops, ran_lines}
 use Rattle.promise.proofs.Faults.{condition_least, condition_iff, good_iff}
 
-pub loaded_refused : {used number line : ℕ} → Loaded used ≡ Refused number line → ⊥
+pub loaded_refused : {used number line : ℕ} → Ok used ≡ refusal_of number line → ⊥
 loaded_refused e = let z : ◌≡◌ {A = ℕ} 0 1 = cc in omega arith
 
-refused_number : {k n k' n' : ℕ} → Refused k n ≡ Refused k' n' → k ≡ k'
+refused_number : {k n k' n' : ℕ} → refusal_of k n ≡ refusal_of k' n' → k ≡ k'
 refused_number e = cc
 
-pub refused_line : {k n k' n' : ℕ} → Refused k n ≡ Refused k' n' → n ≡ n'
+pub refused_line : {k n k' n' : ℕ} → refusal_of k n ≡ refusal_of k' n' → n ≡ n'
 refused_line e = cc
 
-loaded_used : {used used' : ℕ} → Loaded used ≡ Loaded used' → used ≡ used'
+loaded_used : {used used' : ℕ} → Ok used ≡ Ok used' → used ≡ used'
 loaded_used e = cc
 
 -- "cell store below 8,192 bytes a declared unit, or fewer counter rows than units"
@@ -167,7 +166,7 @@ module _ (card : Card) (text memory : List ℕ) (store rows : ℕ) where
       (s.0 ∙ ap (λ x. loading_of x store rows) e, s.1 ∙ ap (λ x. memory_ran card memory x store rows) e)
 
   -- a good load: its bytes, its shelf, its memory
-  pub accepted : (told : List Line) → Accepts card text memory store rows told → (answer ≡ record { outcome = Loaded (size * total told); shelf = shelf_of told }) × (loaded card text memory store rows ≡ memory_of card memory told)
+  pub accepted : (told : List Line) → Accepts card text memory store rows told → (answer ≡ record { outcome = Ok (size * total told); shelf = shelf_of told }) × (loaded card text memory store rows ≡ memory_of card memory told)
   unfolding loading_of memory_ran
   accepted told a =
       let r = by_ran a.short (done told) (ran_lines card room text ∙ (done_iff_good card room (lines_of text) told).1 (all_fine card text memory told a.fine)) in
@@ -176,28 +175,28 @@ module _ (card : Card) (text memory : List ℕ) (store rows : ℕ) where
       (r.0 ∙ rw t, r.1 ∙ rw t)
 
   -- a refusal: 01's number and line, a fresh 16 bus, the memory zero
-  refused_long : (number line : ℕ) → Long text number line → (answer ≡ refusal (Refused number line)) × (loaded card text memory store rows ≡ cleared memory)
+  refused_long : (number line : ℕ) → Long text number line → (answer ≡ refusal (refusal_of number line)) × (loaded card text memory store rows ≡ cleared memory)
   refused_long number line r =
       let s = load_long card text memory store rows r.long in
-      (s.0 ∙ ap₂ (λ k n. refusal (Refused k n)) (sym r.number_is) (sym r.line_is), s.1)
+      (s.0 ∙ ap₂ (λ k n. refusal (refusal_of k n)) (sym r.number_is) (sym r.line_is), s.1)
 
-  refused_at : (number line : ℕ) → AtLine card text memory number line → (answer ≡ refusal (Refused number line)) × (loaded card text memory store rows ≡ cleared memory)
+  refused_at : (number line : ℕ) → AtLine card text memory number line → (answer ≡ refusal (refusal_of number line)) × (loaded card text memory store rows ≡ cleared memory)
   unfolding loading_of memory_ran
   refused_at number line r =
       let f = line_at card text memory line number r in
       let s = by_ran r.short (stopped f.before line (verdict_at card text memory line number r)) (ran_lines card room text ∙ first_stops card room (lines_of text) line (verdict_at card text memory line number r) f) in
-      (s.0 ∙ ap (λ k. refusal (Refused k line)) (number_at card text memory line number r), s.1)
+      (s.0 ∙ ap (λ k. refusal (refusal_of k line)) (number_at card text memory line number r), s.1)
 
-  refused_store : (number line : ℕ) → Store card text memory store rows number line → (answer ≡ refusal (Refused number line)) × (loaded card text memory store rows ≡ cleared memory)
+  refused_store : (number line : ℕ) → Store card text memory store rows number line → (answer ≡ refusal (refusal_of number line)) × (loaded card text memory store rows ≡ cleared memory)
   unfolding loading_of memory_ran
   refused_store number line r =
       let f = all_fine card text memory r.told r.fine in
       let s = by_ran r.short (done r.told) (ran_lines card room text ∙ (done_iff_good card room (lines_of text) r.told).1 f) in
       let n = units_count card room r.told f.good in
       let t = is_little (shelf_of r.told) store rows (subst (λ m. (store < 8192 * m) ⊎ (rows < m)) (sym n) r.little) in
-      (s.0 ∙ rw t (ap₂ (λ k n. refusal (Refused k n)) (sym r.number_is) (sym r.line_is)), s.1 ∙ rw t)
+      (s.0 ∙ rw t (ap₂ (λ k n. refusal (refusal_of k n)) (sym r.number_is) (sym r.line_is)), s.1 ∙ rw t)
 
-  pub refused : (number line : ℕ) → Refuses card text memory store rows number line → (answer ≡ refusal (Refused number line)) × (loaded card text memory store rows ≡ cleared memory)
+  pub refused : (number line : ℕ) → Refuses card text memory store rows number line → (answer ≡ refusal (refusal_of number line)) × (loaded card text memory store rows ≡ cleared memory)
   refused number line r = ⊎_elim (refused_long number line) (⊎_elim (refused_at number line) (refused_store number line)) r
 
   -- and every answer is one of these
@@ -229,21 +228,21 @@ module _ (card : Card) (text memory : List ℕ) (store rows : ℕ) where
       ⊎_elim (λ h. omega (arith, h.number_is))
       (⊎_elim (λ h. let k = some_number card text memory line number h in omega (arith, k)) (λ h. omega (arith, h.number_is))) r
 
-  pub refused_iff : (number line : ℕ) → (answer.outcome ≡ Refused number line → Refuses card text memory store rows number line) × (Refuses card text memory store rows number line → answer.outcome ≡ Refused number line)
+  pub refused_iff : (number line : ℕ) → (answer.outcome ≡ refusal_of number line → Refuses card text memory store rows number line) × (Refuses card text memory store rows number line → answer.outcome ≡ refusal_of number line)
   refused_iff number line = (forth, λ r. ap (λ x. x.outcome) (refused number line r).0)
     where
-      same : (k n : ℕ) → Refuses card text memory store rows k n → Refused k n ≡ Refused number line → Refuses card text memory store rows number line
+      same : (k n : ℕ) → Refuses card text memory store rows k n → refusal_of k n ≡ refusal_of number line → Refuses card text memory store rows number line
       same k n r e = subst (λ x. Refuses card text memory store rows x line) (refused_number e) (subst (Refuses card text memory store rows k) (refused_line e) r)
 
-      forth : answer.outcome ≡ Refused number line → Refuses card text memory store rows number line
+      forth : answer.outcome ≡ refusal_of number line → Refuses card text memory store rows number line
       forth e =
           ⊎_elim (λ a. absurd (loaded_refused (sym (ap (λ x. x.outcome) (accepted a.0 a.1).0) ∙ e)))
           (λ r. same r.0 r.1 r.2 (sym (ap (λ x. x.outcome) (refused r.0 r.1 r.2).0) ∙ e)) either_way
 
-  pub loaded_iff : (used : ℕ) → (answer.outcome ≡ Loaded used → (told : List Line) × Accepts card text memory store rows told × (used ≡ 8 * records_of told)) × ((told : List Line) × Accepts card text memory store rows told × (used ≡ 8 * records_of told) → answer.outcome ≡ Loaded used)
-  loaded_iff used = (forth, λ a. ap (λ x. x.outcome) (accepted a.0 a.1).0 ∙ ap Loaded (ap (λ n. 8 * n) (records_total a.0) ∙ sym a.2))
+  pub loaded_iff : (used : ℕ) → (answer.outcome ≡ Ok used → (told : List Line) × Accepts card text memory store rows told × (used ≡ 8 * records_of told)) × ((told : List Line) × Accepts card text memory store rows told × (used ≡ 8 * records_of told) → answer.outcome ≡ Ok used)
+  loaded_iff used = (forth, λ a. ap (λ x. x.outcome) (accepted a.0 a.1).0 ∙ ap Ok (ap (λ n. 8 * n) (records_total a.0) ∙ sym a.2))
     where
-      forth : answer.outcome ≡ Loaded used → (told : List Line) × Accepts card text memory store rows told × (used ≡ 8 * records_of told)
+      forth : answer.outcome ≡ Ok used → (told : List Line) × Accepts card text memory store rows told × (used ≡ 8 * records_of told)
       forth e =
           ⊎_elim (λ a. (a.0, a.1, loaded_used (sym e ∙ ap (λ x. x.outcome) (accepted a.0 a.1).0) ∙ ap (λ n. 8 * n) (records_total a.0)))
           (λ r. absurd (loaded_refused (sym e ∙ ap (λ x. x.outcome) (refused r.0 r.1 r.2).0))) either_way

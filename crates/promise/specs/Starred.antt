@@ -1,5 +1,5 @@
 -- The starred values of document 01, "Values on each side of a line": one table of cases. Assumes nothing.
-use Rattle.std.specs.Prelude.{ℕ, Bool, true, false, ◌&&◌, List, [], ◌∷◌, ◌++◌, eqb, replicate}
+use Rattle.std.specs.Prelude.{ℕ, Bool, true, false, ◌&&◌, List, [], ◌∷◌, ◌++◌, eqb, replicate, Ok, Err}
 use Rattle.header.specs.Fields.{fields}
 use Rattle.header.specs.Check.{check}
 use Rattle.header.specs.declared.Link.{Link}
@@ -9,22 +9,21 @@ use Rattle.bus.specs.declared.Target.{Target}
 use Rattle.bus.specs.declared.Target.TheVariants.{Unit as unit, Session as session}
 use Rattle.card.specs.declared.Card.{Card}
 use Rattle.card.specs.declared.Card.TheVariants.{Narrow}
-use Rattle.table.specs.declared.Outcome.{Outcome}
-use Rattle.table.specs.declared.Outcome.TheVariants.{Loaded, Refused}
 use Rattle.table.specs.Load.{load}
+use Rattle.table.specs.Loading.{LoadOutcome, refusal_of}
 
 -- a case, and the value that the document gives
 pub data Case : Type 0 where
   check_of : (header value : ℕ) → Case
   vpi_of : (link : Link) (header value : ℕ) → Case
   routing_of : (class : ℕ) (target : Target) (value : ℕ) → Case
-  load_of : (card : Card) (text : List ℕ) (value : Outcome) → Case
+  load_of : (card : Card) (text : List ℕ) (value : LoadOutcome) → Case
 
-unfoldable pub same : Outcome → Outcome → Bool
-same (Loaded a) (Loaded b) = eqb a b
-same (Loaded a) (Refused k n) = false
-same (Refused j m) (Loaded b) = false
-same (Refused j m) (Refused k n) = eqb j k && eqb m n
+unfoldable pub same : LoadOutcome → LoadOutcome → Bool
+same (Ok a) (Ok b) = eqb a b
+same (Ok a) (Err q) = false
+same (Err r) (Ok b) = false
+same (Err r) (Err q) = eqb r.number q.number && eqb r.line q.line
 
 -- a table of one unit with one record, which a `vp` line gives this outgoing VPI, in decimal digits; it needs 8 bytes
 --   bus 16 / unit 0 uni 0 1 one 0 0 1 0 / vp 0 0 b 0 ..
@@ -61,6 +60,6 @@ starred =
     routing_of 2 (unit 3) 0x2038 ∷
     routing_of 3 (session 17) 0x711d ∷
     -- "Outgoing VPI 255 is good on the narrow card; 256 is Wide."
-    load_of Narrow (path (50 ∷ 53 ∷ 53 ∷ [])) (Loaded 8) ∷
-    load_of Narrow (path (50 ∷ 53 ∷ 54 ∷ [])) (Refused 5 3) ∷
+    load_of Narrow (path (50 ∷ 53 ∷ 53 ∷ [])) (Ok 8) ∷
+    load_of Narrow (path (50 ∷ 53 ∷ 54 ∷ [])) (refusal_of 5 3) ∷
     []

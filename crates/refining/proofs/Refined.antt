@@ -1,4 +1,5 @@
 -- The shelf refines the document's shelf; its counters are the history; both cards are one. Assumes nothing.
+use Rattle.std.specs.Prelude.{Ok}
 use Prim.Native.Nat.{ℕ, ◌*◌, ◌<◌, ◌≤◌, min}
 use native.Mathlib.Omega.{arith}
 use mathlib.Core.Path.{◌≡◌, refl, sym, ap, subst, ◌∙◌}
@@ -13,7 +14,6 @@ use Rattle.line.specs.declared.Line.{Line}
 use Rattle.answer.specs.Counting.{zeros}
 use Rattle.answer.specs.declared.Counters as C
 use Rattle.meaning.specs.Lines.{Good}
-use Rattle.table.specs.declared.Outcome.TheVariants.{Loaded, Refused}
 use Rattle.table.specs.Load.{load}
 use Rattle.table.specs.Loads.{answer_of}
 use Rattle.table.proofs.EventInPlace.{load_formed, load_long}
@@ -44,6 +44,7 @@ use Rattle.refining.proofs.Alike.{WorldAlike}
 use Rattle.refining.proofs.States.{accepted_state, begins, same_states}
 use Rattle.refining.proofs.Opens.{opened_alike, opened_rows}
 use Rattle.refining.proofs.Steps.{StepAlike, arrive_step, frame_step, hear_step, take_step, count_step, hand_step, collect_step}
+use Rattle.table.specs.Loading.{refusal_of}
 
 step_alike : (card : Card) (w : World) (d : D.Shelf) → WorldAlike card w d → (e : Event) → StepAlike card w d (happens card w e) (document.happens_to d e)
 step_alike card w d a (arrive unit c) = arrive_step card w d a unit c
@@ -150,26 +151,26 @@ module _ (text memory memory' store store' : List ℕ) (rows rows' : List C.Coun
       }
 
 -- outcomes are told apart
-loaded_refused : {used number line : ℕ} → Loaded used ≡ Refused number line → ⊥
+loaded_refused : {used number line : ℕ} → Ok used ≡ refusal_of number line → ⊥
 loaded_refused e = let z : ◌≡◌ {A = ℕ} 0 1 = cc in omega arith
 
-refused_number : {k n k' n' : ℕ} → Refused k n ≡ Refused k' n' → k ≡ k'
+refused_number : {k n k' n' : ℕ} → refusal_of k n ≡ refusal_of k' n' → k ≡ k'
 refused_number e = cc
 
-refused_line : {k n k' n' : ℕ} → Refused k n ≡ Refused k' n' → n ≡ n'
+refused_line : {k n k' n' : ℕ} → refusal_of k n ≡ refusal_of k' n' → n ≡ n'
 refused_line e = cc
 
 pub too_wide : TooWide
 too_wide text memory memory' store store' rows rows' equal told a number line =
     let b = moved text memory memory' store store' rows rows' equal told Wide a in
     let outcome = (load Narrow text memory' (length store') (length rows')).outcome in
-    let wide : (n : ℕ) → FirstWide told n → outcome ≡ Refused 5 n = λ n w. (narrow_refuses_iff text memory' (length store') (length rows') told b n).0 w in (
+    let wide : (n : ℕ) → FirstWide told n → outcome ≡ refusal_of 5 n = λ n w. (narrow_refuses_iff text memory' (length store') (length rows') told b n).0 w in (
       λ h.
           let e = refused_is outcome number line h in
           ⊎_elim (λ n. absurd (loaded_refused (sym (ap (λ x. x.outcome) (accepted Narrow text memory' (length store') (length rows') told (narrow_accepts text memory' (length store') (length rows') told b n)).0) ∙ e)))
           (λ w. let z = sym (wide w.0 w.1) ∙ e in (sym (refused_number z), subst (FirstWide told) (refused_line z) w.1)) (wide_or_not told),
       λ w.
-          let e = wide line w.1 ∙ ap (λ n. Refused n line) (sym w.0) in
+          let e = wide line w.1 ∙ ap (λ n. refusal_of n line) (sym w.0) in
           subst (λ o. IsRefused (answer_of o) number line) (sym e) (table_refused number line (omega (arith, w.0))),
     )
 

@@ -1,4 +1,5 @@
 -- When a table is refused and when it is good, and what each leaves. Assumes nothing.
+use Rattle.std.specs.Prelude.{Ok, Err}
 use Prim.Native.Nat.{ℕ, zero, suc, ◌+◌, ◌-◌, ◌<◌, ◌≤◌, min}
 use native.Mathlib.Numerals.{add-one}
 use native.Mathlib.Omega.{arith}
@@ -19,8 +20,6 @@ use Rattle.answer.specs.declared.Counters as C
 use Rattle.answer.proofs.Settling.{settled_next}
 use Rattle.answer.specs.Answers.{number_of, values_of}
 use Rattle.answer.specs.declared.Rises.{Rises}
-use Rattle.table.specs.declared.Outcome as O
-use Rattle.table.specs.declared.Outcome.TheVariants as outcome
 use Rattle.table.specs.Load.{load}
 use Rattle.table.specs.Loads.{answer_of, done_of}
 use Rattle.promise.specs.Says.{unit_lines}
@@ -37,29 +36,30 @@ use Rattle.running.specs.Keeping.{loaded}
 use Rattle.running.proofs.Laid.{laid}
 use Rattle.running.proofs.Opened.{opened}
 use Rattle.running.proofs.InPlace.{loaded_seen}
+use Rattle.table.specs.Loading.{LoadOutcome, refusal_of}
 
 -- A. the number and the values of the answer are those of the outcome
 one_is : {a b : ℕ} → a ∷ [] ≡ b ∷ [] → a ≡ b
 one_is e = cc
 
-pub table_refused : (number line : ℕ) → 0 < number → IsRefused (answer_of (outcome.Refused number line)) number line
+pub table_refused : (number line : ℕ) → 0 < number → IsRefused (answer_of (refusal_of number line)) number line
 unfolding answer_of
 table_refused number line h = is_refused number line h
 
-pub table_ok : (used : ℕ) → IsOk (answer_of (outcome.Loaded used)) used
+pub table_ok : (used : ℕ) → IsOk (answer_of (Ok used)) used
 unfolding answer_of
 table_ok used = is_ok used
 
-pub refused_is : (o : O.Outcome) (number line : ℕ) → IsRefused (answer_of o) number line → o ≡ outcome.Refused number line
+pub refused_is : (o : LoadOutcome) (number line : ℕ) → IsRefused (answer_of o) number line → o ≡ refusal_of number line
 unfolding answer_of number_of values_of
-refused_is (outcome.Loaded used) number line h = absurd (let e = h.1 in let k = h.0 in omega arith)
-refused_is (outcome.Refused k n) number line h = λ i. outcome.Refused (h.1 i) (one_is h.2 i)
+refused_is (Ok used) number line h = absurd (let e = h.1 in let k = h.0 in omega arith)
+refused_is (Err r) number line h = λ i. refusal_of (h.1 i) (one_is h.2 i)
 
 -- a good answer: no refusal has number 0
-ok_is : (o : O.Outcome) (used : ℕ) → ((number line : ℕ) → o ≡ outcome.Refused number line → 0 < number) → IsOk (answer_of o) used → o ≡ outcome.Loaded used
+ok_is : (o : LoadOutcome) (used : ℕ) → ((number line : ℕ) → o ≡ refusal_of number line → 0 < number) → IsOk (answer_of o) used → o ≡ Ok used
 unfolding answer_of number_of values_of
-ok_is (outcome.Loaded n) used some h = ap outcome.Loaded (one_is h.1)
-ok_is (outcome.Refused k n) used some h = absurd (let z = some k n refl in let e = h.0 in omega arith)
+ok_is (Ok n) used some h = ap Ok (one_is h.1)
+ok_is (Err r) used some h = absurd (let z = some r.number r.line refl in let e = h.0 in omega arith)
 
 pub table_refused_iff : TableRefusedIff
 table_refused_iff card text memory store rows number line =
@@ -71,7 +71,7 @@ table_refused_iff card text memory store rows number line =
 pub table_loaded_iff : TableLoadedIff
 table_loaded_iff card text memory store rows used =
     let iff = promise.loaded_iff card text memory store rows used in
-    let some : (number line : ℕ) → (load card text memory store rows).outcome ≡ outcome.Refused number line → 0 < number
+    let some : (number line : ℕ) → (load card text memory store rows).outcome ≡ refusal_of number line → 0 < number
     = λ number line e. promise.refuses_some card text memory store rows number line ((promise.refused_iff card text memory store rows number line).0 e) in (
       λ h. iff.0 (ok_is (load card text memory store rows).outcome used some h),
       λ a. subst (λ o. IsOk (answer_of o) used) (sym (iff.1 a)) (table_ok used),

@@ -1,5 +1,5 @@
 -- A memory that is cleared before, or after, a table was read into it; and what reading a text comes to. Assumes nothing.
-use Rattle.std.specs.Prelude.{Err}
+use Rattle.std.specs.Prelude.{Err, Ok}
 use mathlib.Core.Path.{◌≡◌, refl, sym, ap, ◌∙◌}
 use mathlib.Core.Bool.{true, false, false≢true}
 use mathlib.Core.List.{List, [], ◌∷◌, ◌++◌, append_assoc}
@@ -29,12 +29,11 @@ use Rattle.meaning.proofs.Grown.{decide}
 use Rattle.meaning.proofs.Memory.{Ranged, AllRanged, fits_room}
 use Rattle.table.specs.Load.{readings_of, ran_of, progress_of, told_in, too_little, refusal, loading_of, memory_ran, load, loaded}
 use Rattle.table.specs.InPlace.{state_of, state_ran, state_loaded}
-use Rattle.table.specs.declared.Outcome.TheVariants.{Loaded, Refused}
 use Rattle.table.specs.declared.Progress.{Progress}
-use Rattle.table.specs.declared.Outcome.{Outcome}
 use Rattle.table.proofs.Leaves.{fine_is}
 use Rattle.table.proofs.Standing.{stands}
 use Rattle.table.proofs.Turns.{ranged}
+use Rattle.table.specs.Loading.{LoadOutcome, refusal_of}
 
 -- a cleared memory is as long, and keeps what a table may not use
 pub cleared_length : (m : List ℕ) → length (cleared m) ≡ length m
@@ -120,7 +119,7 @@ ran_sound card room text =
 
 -- what loading comes to
 module _ (card : Card) (text m : List ℕ) (store rows : ℕ) where
-  pub load_long : 65536 < length text → (load card text m store rows ≡ refusal (Refused 1 0)) × (loaded card text m store rows ≡ cleared m)
+  pub load_long : 65536 < length text → (load card text m store rows ≡ refusal (refusal_of 1 0)) × (loaded card text m store rows ≡ cleared m)
   unfolding load loaded
   load_long h = (rw (lt-ltb 65536 (length text) h), rw (lt-ltb 65536 (length text) h))
 
@@ -137,27 +136,27 @@ module _ (card : Card) (text m : List ℕ) (store rows : ℕ) where
   state_short h = rw (le-ltb 65536 (length text) h)
 
   -- the answer, the memory and the state that a reading comes to
-  abbrev ComesTo : Ran → Outcome → List ℕ → List ℕ → Type 0
+  abbrev ComesTo : Ran → LoadOutcome → List ℕ → List ℕ → Type 0
   ComesTo ran outcome memory s = ((loading_of ran store rows).outcome ≡ outcome) × (memory_ran card m ran store rows ≡ memory) × (state_ran ran store rows ≡ s)
 
-  ran_stopped : (ran : Ran) → is_fine (progress_of ran).verdict ≡ false → ComesTo ran (Refused (number_of (progress_of ran).verdict) (progress_of ran).lines) (cleared m) (fresh_bytes 16)
+  ran_stopped : (ran : Ran) → is_fine (progress_of ran).verdict ≡ false → ComesTo ran (refusal_of (number_of (progress_of ran).verdict) (progress_of ran).lines) (cleared m) (fresh_bytes 16)
   unfolding loading_of memory_ran state_ran
   ran_stopped (done told) f = absurd (false≢true (sym f))
   ran_stopped (stopped told n v) f = (refl, refl, refl)
 
-  done_little : (told : List Line) → too_little (shelf_of told) store rows ≡ true → ComesTo (done told) (Refused 7 0) (cleared m) (fresh_bytes 16)
+  done_little : (told : List Line) → too_little (shelf_of told) store rows ≡ true → ComesTo (done told) (refusal_of 7 0) (cleared m) (fresh_bytes 16)
   unfolding loading_of memory_ran state_ran
   done_little told t = (rw t, rw t, rw t)
 
-  done_enough : (told : List Line) → too_little (shelf_of told) store rows ≡ false → ComesTo (done told) (Loaded (size * total told)) (memory_of card m told) (state_of told)
+  done_enough : (told : List Line) → too_little (shelf_of told) store rows ≡ false → ComesTo (done told) (Ok (size * total told)) (memory_of card m told) (state_of told)
   unfolding loading_of memory_ran state_ran
   done_enough told t = (rw t, rw t, rw t)
 
   -- what a load gave back and left is what it should
-  abbrev Right : Outcome → List ℕ → List ℕ → Type 0
+  abbrev Right : LoadOutcome → List ℕ → List ℕ → Type 0
   Right outcome memory s = (outcome ≡ (load card text m store rows).outcome) × (memory ≡ loaded card text m store rows) × (s ≡ state_loaded card text m store rows)
 
-  right : length text ≤ 65536 → (ran : Ran) → ran_of card (usable m) text ≡ ran → (outcome : Outcome) (memory s : List ℕ) → ComesTo ran outcome memory s → Right outcome memory s
+  right : length text ≤ 65536 → (ran : Ran) → ran_of card (usable m) text ≡ ran → (outcome : LoadOutcome) (memory s : List ℕ) → ComesTo ran outcome memory s → Right outcome memory s
   right short ran e outcome memory s c =
       let w = load_short short in (
         sym (ap (λ l. l.outcome) (w.0 ∙ ap (λ x. loading_of x store rows) e) ∙ c.0),
@@ -165,7 +164,7 @@ module _ (card : Card) (text m : List ℕ) (store rows : ℕ) where
         sym (state_short short ∙ ap (λ x. state_ran x store rows) e ∙ c.2),
       )
 
-  pub after_long : 65536 < length text → Right (Refused 1 0) (cleared m) (fresh_bytes 16)
+  pub after_long : 65536 < length text → Right (refusal_of 1 0) (cleared m) (fresh_bytes 16)
   after_long h = let w = load_long h in (sym (ap (λ l. l.outcome) w.0), sym w.1, sym (state_long h))
 
   -- after reading the lines of a short text
@@ -179,10 +178,10 @@ module _ (card : Card) (text m : List ℕ) (store rows : ℕ) where
     emptied : cleared memory ≡ cleared m
     emptied = ap cleared holding ∙ cleared_memory card m (told_in ran) (fits_room card (usable m) (told_in ran) sound.good)
 
-    pub after_stopped : is_fine p.verdict ≡ false → Right (Refused (number_of p.verdict) p.lines) (cleared memory) (fresh_bytes 16)
+    pub after_stopped : is_fine p.verdict ≡ false → Right (refusal_of (number_of p.verdict) p.lines) (cleared memory) (fresh_bytes 16)
     after_stopped f =
-        let w = right short ran refl (Refused (number_of (progress_of ran).verdict) (progress_of ran).lines) (cleared m) (fresh_bytes 16) (ran_stopped ran (sym (ap (λ q. is_fine q.verdict) come) ∙ f)) in
-        (ap (λ q. Refused (number_of q.verdict) q.lines) come ∙ w.0, emptied ∙ w.1, w.2)
+        let w = right short ran refl (refusal_of (number_of (progress_of ran).verdict) (progress_of ran).lines) (cleared m) (fresh_bytes 16) (ran_stopped ran (sym (ap (λ q. is_fine q.verdict) come) ∙ f)) in
+        (ap (λ q. refusal_of (number_of q.verdict) q.lines) come ∙ w.0, emptied ∙ w.1, w.2)
 
     all_told : is_fine p.verdict ≡ true → ran ≡ done (told_in ran)
     all_told f = sound.all (sym (ap (λ q. is_fine q.verdict) come) ∙ f)
@@ -190,13 +189,13 @@ module _ (card : Card) (text m : List ℕ) (store rows : ℕ) where
     shelf_is : shelf_in s ≡ shelf_of (told_in ran)
     shelf_is = ap shelf_in standing ∙ (stands card (usable m) (told_in ran) sound.good sound.ranges).1
 
-    pub after_little : is_fine p.verdict ≡ true → too_little (shelf_in s) store rows ≡ true → Right (Refused 7 0) (cleared memory) (fresh_bytes 16)
+    pub after_little : is_fine p.verdict ≡ true → too_little (shelf_in s) store rows ≡ true → Right (refusal_of 7 0) (cleared memory) (fresh_bytes 16)
     after_little f t =
-        let w = right short (done (told_in ran)) (all_told f) (Refused 7 0) (cleared m) (fresh_bytes 16) (done_little (told_in ran) (sym (ap (λ h. too_little h store rows) shelf_is) ∙ t)) in
+        let w = right short (done (told_in ran)) (all_told f) (refusal_of 7 0) (cleared m) (fresh_bytes 16) (done_little (told_in ran) (sym (ap (λ h. too_little h store rows) shelf_is) ∙ t)) in
         (w.0, emptied ∙ w.1, w.2)
 
-    pub after_done : is_fine p.verdict ≡ true → too_little (shelf_in s) store rows ≡ false → Right (Loaded p.used) memory s
+    pub after_done : is_fine p.verdict ≡ true → too_little (shelf_in s) store rows ≡ false → Right (Ok p.used) memory s
     after_done f t =
         let told = told_in ran in
-        let w = right short (done told) (all_told f) (Loaded (size * total told)) (memory_of card m told) (state_of told) (done_enough told (sym (ap (λ h. too_little h store rows) shelf_is) ∙ t)) in
-        (ap (λ q. Loaded q.used) (come ∙ ap progress_of (all_told f)) ∙ w.0, holding ∙ w.1, standing ∙ w.2)
+        let w = right short (done told) (all_told f) (Ok (size * total told)) (memory_of card m told) (state_of told) (done_enough told (sym (ap (λ h. too_little h store rows) shelf_is) ∙ t)) in
+        (ap (λ q. Ok q.used) (come ∙ ap progress_of (all_told f)) ∙ w.0, holding ∙ w.1, standing ∙ w.2)

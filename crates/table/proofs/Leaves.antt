@@ -1,5 +1,5 @@
 -- One line more, over plain values. Assumes nothing.
-use Rattle.std.specs.Prelude.{Err, Ok}
+use Rattle.std.specs.Prelude.{is_err, Err, Ok}
 use mathlib.Core.Path.{◌≡◌, refl, sym, ap, ◌∙◌}
 use mathlib.Core.Bool.{true, false, false≢true}
 use mathlib.Core.List.{List}
@@ -41,8 +41,13 @@ module _ (card : Card) (memory s : List ℕ) (shelf : Shelf) (p : Progress) (rea
 
 pub fine_is : (v : Verdict) → is_fine v ≡ true → v ≡ fine
 fine_is (Ok x) e = refl
-fine_is (Err (Form wrong)) e = absurd (false≢true e)
-fine_is (Err (Order field)) e = absurd (false≢true e)
-fine_is (Err (Twice field)) e = absurd (false≢true e)
-fine_is (Err Wide) e = absurd (false≢true e)
-fine_is (Err Room) e = absurd (false≢true e)
+fine_is (Err fault) e = absurd (false≢true e)
+
+-- what a verdict is, by the test of the code
+pub failed : (v : Verdict) → is_err v ≡ true → is_fine v ≡ false
+failed (Ok x) e = absurd (false≢true e)
+failed (Err fault) e = refl
+
+pub passed : (v : Verdict) → is_err v ≡ false → is_fine v ≡ true
+passed (Ok x) e = refl
+passed (Err fault) e = absurd (false≢true (sym e))

@@ -3,12 +3,12 @@ use Rattle.std.specs.Prelude.{ℕ, min, true, List, replicate}
 use Rattle.card.specs.declared.Card.{Card}
 use Rattle.answer.specs.declared.Outcome.{Outcome}
 use Rattle.answer.specs.Done.{outcome_of}
-use Rattle.table.specs.declared.Outcome as O
 use Rattle.table.specs.InPlace.{state_loaded}
 use Rattle.table.specs.Loads.{answer_of, load_done}
+use Rattle.table.specs.Loading.{LoadOutcome}
 
 -- what a table comes to that declares so many units
-abbrev pub outcome_by : O.Outcome → ℕ → Outcome
+abbrev pub outcome_by : LoadOutcome → ℕ → Outcome
 outcome_by outcome units = record { answer = answer_of outcome; rises = record { from = 0; to = min units 32; anew = true; each = replicate 32 0 } }
 
 abbrev pub load_out : Card → List ℕ → List ℕ → ℕ → ℕ → Outcome

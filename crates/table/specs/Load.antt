@@ -11,9 +11,7 @@ use Rattle.line.specs.declared.Wrong.TheVariants.{Newline}
 use Rattle.line.specs.declared.Reading.{Reading}
 use Rattle.judge.specs.declared.Fault.TheVariants.{Form}
 use Rattle.table.specs.declared.Progress.{Progress}
-use Rattle.table.specs.declared.Outcome.{Outcome}
-use Rattle.table.specs.declared.Outcome.TheVariants.{Loaded, Refused}
-use Rattle.table.specs.Loading.{Loading}
+use Rattle.table.specs.Loading.{Loading, LoadOutcome, refusal_of}
 use Rattle.judge.specs.Verdicts.{fine, Verdict, number_of, is_fine}
 use Rattle.meaning.specs.Told.{total, shelf_of, memory_of}
 use Rattle.meaning.specs.Enact.{verdict_at, used_in, memory_in}
@@ -58,14 +56,14 @@ abbrev pub too_little : Shelf → ℕ → ℕ → Bool
 too_little shelf store rows = ltb store (8192 * shelf.count) || ltb rows shelf.count
 
 -- "Refusals 1 to 7 zero the memory up to 262,144 bytes .. and give back a fresh 16 bus with no units."
-abbrev pub refusal : Outcome → Loading
+abbrev pub refusal : LoadOutcome → Loading
 refusal outcome = record { outcome = outcome; shelf = fresh 16 }
 
 -- "Loading gives Long first; then the first faulty line .. with 2 to 6 tried in that order on it; then Store."
 unfoldable pub loading_of : Ran → ℕ → ℕ → Loading
-loading_of (stopped told n verdict) store rows = refusal (Refused (number_of verdict) n)
+loading_of (stopped told n verdict) store rows = refusal (refusal_of (number_of verdict) n)
 loading_of (done told) store rows =
-    cond (too_little (shelf_of told) store rows) (refusal (Refused 7 0)) (record { outcome = Loaded (size * total told); shelf = shelf_of told })
+    cond (too_little (shelf_of told) store rows) (refusal (refusal_of 7 0)) (record { outcome = Ok (size * total told); shelf = shelf_of told })
 
 unfoldable pub memory_ran : Card → List ℕ → Ran → ℕ → ℕ → List ℕ
 memory_ran card memory (stopped told n verdict) store rows = cleared memory
@@ -77,7 +75,7 @@ is_long text = ltb 65536 (length text)
 
 unfoldable pub load : Card → List ℕ → List ℕ → ℕ → ℕ → Loading
 load card text memory store rows =
-    cond (is_long text) (refusal (Refused 1 0)) (loading_of (ran_of card (usable memory) text) store rows)
+    cond (is_long text) (refusal (refusal_of 1 0)) (loading_of (ran_of card (usable memory) text) store rows)
 
 unfoldable pub loaded : Card → List ℕ → List ℕ → ℕ → ℕ → List ℕ
 loaded card text memory store rows = cond (is_long text) (cleared memory) (memory_ran card memory (ran_of card (usable memory) text) store rows)

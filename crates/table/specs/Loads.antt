@@ -1,19 +1,17 @@
 -- Loading as an event. Assumes nothing.
-use Rattle.std.specs.Prelude.{ℕ, min, true, List, replicate}
+use Rattle.std.specs.Prelude.{ℕ, min, true, List, replicate, Ok, Err}
 use Rattle.card.specs.declared.Card.{Card}
 use Rattle.answer.specs.declared.Answer as A
 use Rattle.answer.specs.declared.Answer.TheVariants.{Loaded, Unloaded}
 use Rattle.answer.specs.Done.{Done}
 use Rattle.answer.specs.Answers.{ends}
-use Rattle.table.specs.declared.Outcome as O
-use Rattle.table.specs.declared.Outcome.TheVariants as outcome
-use Rattle.table.specs.Loading.{Loading}
+use Rattle.table.specs.Loading.{Loading, LoadOutcome}
 use Rattle.table.specs.Load.{load, loaded}
 
 -- "`ok` and bytes used, or `refused`, number and line"
-unfoldable pub answer_of : O.Outcome → A.Answer
-answer_of (outcome.Loaded used) = Loaded used
-answer_of (outcome.Refused number line) = Unloaded number line
+unfoldable pub answer_of : LoadOutcome → A.Answer
+answer_of (Ok used) = Loaded used
+answer_of (Err refusal) = Unloaded refusal.number refusal.line
 
 -- "A good load zeroes its rows"; "Refusals 1 to 7 .. touch neither store nor counter rows and give back a fresh 16 bus with no units"
 abbrev pub done_of : Loading → Done

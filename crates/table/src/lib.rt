@@ -9,6 +9,8 @@ ghost use Rattle.meaning.specs.Enact.{put_by, put_vc, memory_by, Places};
 ghost use Rattle.lookup.specs.Record.{usable as usable_in, cleared};
 ghost use Rattle.state.specs.Placing.{fresh_bytes};
 ghost use Rattle.meaning.specs.Lines.{done};
+ghost use Rattle.judge.specs.Verdicts.{fine};
+ghost use Rattle.table.specs.Loading.{refusal_of};
 ghost use Rattle.table.specs.GivenInPlace.{joined_at, state_by};
 ghost use Rattle.table.specs.Load.{progress_by, memory_after, verdict_in, progress_of, told_in, ran_of, too_little, load as loading_of, loaded};
 ghost use Rattle.table.specs.InPlace.{state_after, state_of, state_loaded};
@@ -17,51 +19,45 @@ ghost use Rattle.table.specs.EventInPlace.{outcome_by, load_out, load_state};
 
 use answer::{Answer, Rises};
 use card::Card;
-use judge::{Owner, Verdict};
+use judge::{Fault, Owner, Verdict};
 use line::{Line, Reading, Wrong};
 use lookup::Record;
 use outlet::Outlet;
 
 // Writes a record at a VPI of a declared unit.
-fn put_path(card: Card, memory: &mut [u8], o: Owner, vpi: u16, r: Record)
+#[tactic(auto, unfolding(meaning::specs::Enact::put_by))]
+fn put_path(card: Card, memory: &mut [u8], o: Option<Owner>, vpi: u16, r: Record)
     ensures { memory.new ≡ put_by card memory.old o vpi r }
 {
-    if !o.known {
-        return;
+    if let Some(o) = o {
+        lookup::put(card, memory, judge::spot(o, vpi), r);
     }
-    lookup::put(card, memory, judge::spot(o, vpi), r);
 }
 
 // Writes a record at a VCI of the page that stands at a VPI.
-fn put_circuit(card: Card, memory: &mut [u8], o: Owner, vpi: u16, vci: u16, r: Record)
+#[tactic(auto, unfolding(meaning::specs::Enact::put_vc, meaning::specs::Enact::put_in))]
+fn put_circuit(card: Card, memory: &mut [u8], o: Option<Owner>, vpi: u16, vci: u16, r: Record)
     ensures { memory.new ≡ put_vc card memory.old o vpi vci r }
 {
-    if !o.known {
+    let Some(o) = o else {
         return;
+    };
+    if let Some(page) = judge::page_in(lookup::get(card, memory, judge::spot(o, vpi))) {
+        lookup::put(card, memory, judge::vci_spot(page, vci), r);
     }
-    let page = judge::page_in(lookup::get(card, memory, judge::spot(o, vpi)));
-    if !page.known {
-        return;
-    }
-    lookup::put(card, memory, judge::vci_spot(page, vci), r);
 }
 
 // Writes what a line gives that names this unit.
-pub fn write(card: Card, memory: &mut [u8], used: u32, o: Owner, line: Line)
+pub fn write(card: Card, memory: &mut [u8], used: u32, o: Option<Owner>, line: Line)
     ensures { memory.new ≡ memory_by card memory.old used o line }
 {
     match line {
-        Line::Bus(_) => {}
-        Line::Unit {
-            settings: _,
-            limits: _,
-        } => {}
         Line::Vp {
-            unit: _,
             vpi,
             target,
             class,
             outvpi,
+            ..
         } => {
             let header = bus::write(target, class);
             let r = Record::Route {
@@ -71,21 +67,19 @@ pub fn write(card: Card, memory: &mut [u8], used: u32, o: Owner, line: Line)
             };
             put_path(card, memory, o, vpi, r);
         }
-        Line::Drop { unit: _, vpi } => {
-            put_path(card, memory, o, vpi, Record::Drop);
-        }
-        Line::Page { unit: _, vpi, top } => {
+        Line::Drop { vpi, .. } => put_path(card, memory, o, vpi, Record::Drop),
+        Line::Page { vpi, top, .. } => {
             let r = Record::Page { top, place: used };
             put_path(card, memory, o, vpi, r);
         }
         Line::Vc {
-            unit: _,
             vpi,
             vci,
             target,
             class,
             outvpi,
             outvci,
+            ..
         } => {
             let header = bus::write(target, class);
             let r = Record::Route {
@@ -95,25 +89,25 @@ pub fn write(card: Card, memory: &mut [u8], used: u32, o: Owner, line: Line)
             };
             put_circuit(card, memory, o, vpi, vci, r);
         }
-        Line::Mc {
-            unit: _,
-            session: _,
-        } => {}
+        Line::Bus(_) => {}
+        Line::Unit { .. } => {}
+        Line::Mc { .. } => {}
     }
 }
 
 // A unit hears one session more.
+#[tactic(auto, unfolding(crate::specs::GivenInPlace::joined_at))]
 fn join(s: &mut [u8], number: u8, session: u8)
     requires { length s.old ≡ 2048 }
     ensures { s.new ≡ joined_at s.old (find_in (declared_in (shelf_in s.old)) number) session }
 {
-    let Some(i) = state::find(s, number) else {
-        return;
-    };
-    state::join(s, i, session);
+    if let Some(i) = state::find(s, number) {
+        state::join(s, i, session);
+    }
 }
 
 // Writes a line into the state.
+#[tactic(auto, unfolding(crate::specs::GivenInPlace::state_by))]
 pub fn enter(s: &mut [u8], used: u32, line: Line)
     requires { (length s.old ≡ 2048) × Places (shelf_in s.old) (Reading.Good line) }
     ensures { s.new ≡ state_by line used s.old }
@@ -121,81 +115,40 @@ pub fn enter(s: &mut [u8], used: u32, line: Line)
     match line {
         Line::Bus(bus) => state::fresh(s, bus),
         Line::Unit { settings, limits } => {
-            state::declare(s, settings, Outlet::fresh(limits), used);
+            state::declare(s, settings, Outlet::fresh(limits), used)
         }
-        Line::Vp {
-            unit: _,
-            vpi: _,
-            target: _,
-            class: _,
-            outvpi: _,
-        } => {}
-        Line::Drop { unit: _, vpi: _ } => {}
-        Line::Page {
-            unit: _,
-            vpi: _,
-            top: _,
-        } => {}
-        Line::Vc {
-            unit: _,
-            vpi: _,
-            vci: _,
-            target: _,
-            class: _,
-            outvpi: _,
-            outvci: _,
-        } => {}
         Line::Mc { unit, session } => join(s, unit, session),
+        Line::Vp { .. } => {}
+        Line::Drop { .. } => {}
+        Line::Page { .. } => {}
+        Line::Vc { .. } => {}
     }
 }
 
 // How many records a line takes.
+#[tactic(auto, unfolding(meaning::specs::Told::opens))]
 pub fn takes(line: Line) -> u32
     ensures { (result ≡ takes_of (opens line)) × (result ≤ 65536) }
 {
     match line {
+        Line::Unit { settings, .. } => (settings.top as u32) + 1,
+        Line::Page { top, .. } => (top as u32) + 1,
         Line::Bus(_) => 0,
-        Line::Unit {
-            settings,
-            limits: _,
-        } => (settings.top as u32) + 1,
-        Line::Vp {
-            unit: _,
-            vpi: _,
-            target: _,
-            class: _,
-            outvpi: _,
-        } => 0,
-        Line::Drop { unit: _, vpi: _ } => 0,
-        Line::Page {
-            unit: _,
-            vpi: _,
-            top,
-        } => (top as u32) + 1,
-        Line::Vc {
-            unit: _,
-            vpi: _,
-            vci: _,
-            target: _,
-            class: _,
-            outvpi: _,
-            outvci: _,
-        } => 0,
-        Line::Mc {
-            unit: _,
-            session: _,
-        } => 0,
+        Line::Vp { .. } => 0,
+        Line::Drop { .. } => 0,
+        Line::Vc { .. } => 0,
+        Line::Mc { .. } => 0,
     }
 }
 
 // The longest text that is read.
 const LONGEST: usize = 65536;
 
-// A table is loaded and uses so many bytes, or is refused with this number at this line.
+// A table is refused with this number at this line.
 #[derive(Clone, Copy)]
-pub enum Outcome {
-    Loaded(u32),
-    Refused { number: u8, line: u32 },
+pub struct Refusal {
+    pub number: u8,
+    pub line: u32,
 }
 
 // The bytes used so far, how many lines were read, and what the last of them came to.
@@ -216,7 +169,7 @@ fn enact(
     line: Line,
 ) -> Progress
     requires s_len { (length s.old ≡ 2048) × (p.used ≤ 262144) × (p.lines ≤ 65536) }
-    requires places { verdict_in card room memory.old (shelf_in s.old) p (Reading.Good line) ≡ Verdict.Fine → Places (shelf_in s.old) (Reading.Good line) }
+    requires places { verdict_in card room memory.old (shelf_in s.old) p (Reading.Good line) ≡ fine → Places (shelf_in s.old) (Reading.Good line) }
     ensures value { result ≡ progress_by (verdict_in card room memory.old (shelf_in s.old) p (Reading.Good line)) p (Reading.Good line) }
     ensures memory_after { memory.new ≡ memory_after card memory.old (shelf_in s.old) (verdict_in card room memory.old (shelf_in s.old) p (Reading.Good line)) p (Reading.Good line) }
     ensures s_after { s.new ≡ state_after s.old (verdict_in card room memory.old (shelf_in s.old) p (Reading.Good line)) p (Reading.Good line) }
@@ -225,7 +178,7 @@ fn enact(
     let lines = p.lines;
     let o = judge::owner_of(s, line);
     let verdict = judge::judge(card, room, lines == 0, memory, s, used, o, line);
-    if !judge::is_fine(verdict) {
+    if verdict.is_err() {
         return Progress {
             used,
             lines: lines + 1,
@@ -251,7 +204,7 @@ fn step(
     reading: Reading,
 ) -> Progress
     requires s_len { (length s.old ≡ 2048) × (p.used ≤ 262144) × (p.lines ≤ 65536) }
-    requires places { verdict_in card room memory.old (shelf_in s.old) p reading ≡ Verdict.Fine → Places (shelf_in s.old) reading }
+    requires places { verdict_in card room memory.old (shelf_in s.old) p reading ≡ fine → Places (shelf_in s.old) reading }
     ensures value { result ≡ progress_by (verdict_in card room memory.old (shelf_in s.old) p reading) p reading }
     ensures memory_after { memory.new ≡ memory_after card memory.old (shelf_in s.old) (verdict_in card room memory.old (shelf_in s.old) p reading) p reading }
     ensures s_after { s.new ≡ state_after s.old (verdict_in card room memory.old (shelf_in s.old) p reading) p reading }
@@ -261,7 +214,7 @@ fn step(
         Reading::Bad(wrong) => Progress {
             used: p.used,
             lines: p.lines + 1,
-            verdict: Verdict::Form(wrong),
+            verdict: Err(Fault::Form(wrong)),
         },
     }
 }
@@ -273,7 +226,7 @@ fn begin() -> Progress
     Progress {
         used: 0,
         lines: 0,
-        verdict: Verdict::Fine,
+        verdict: Ok(()),
     }
 }
 
@@ -299,7 +252,7 @@ fn read_lines(card: Card, text: &[u8], memory: &mut [u8], s: &mut [u8]) -> Progr
         return Progress {
             used: 0,
             lines: 1,
-            verdict: Verdict::Form(Wrong::Newline),
+            verdict: Err(Fault::Form(Wrong::Newline)),
         };
     }
     let room = usable(memory.len());
@@ -311,7 +264,7 @@ fn read_lines(card: Card, text: &[u8], memory: &mut [u8], s: &mut [u8]) -> Progr
         let reading = line::read(&text[from..end], end < text.len(), stretch.fields);
         p = step(card, room, memory, s, p, reading);
         let verdict = p.verdict;
-        if !judge::is_fine(verdict) {
+        if verdict.is_err() {
             return p;
         }
         from = end + 1;
@@ -320,15 +273,15 @@ fn read_lines(card: Card, text: &[u8], memory: &mut [u8], s: &mut [u8]) -> Progr
 }
 
 // A table that is refused leaves nothing behind.
-fn refused(memory: &mut [u8], s: &mut [u8], number: u8, line: u32) -> Outcome
+fn refused(memory: &mut [u8], s: &mut [u8], number: u8, line: u32) -> Result<u32, Refusal>
     requires { length s.old ≡ 2048 }
-    ensures value { result ≡ Outcome.Refused number line }
+    ensures value { result ≡ refusal_of number line }
     ensures memory_after { memory.new ≡ cleared memory.old }
     ensures s_after { s.new ≡ fresh_bytes 16 }
 {
     lookup::clear(memory);
     state::fresh(s, 16);
-    Outcome::Refused { number, line }
+    Err(Refusal { number, line })
 }
 
 // Whether a declared unit lacks its part of the store or its row.
@@ -348,7 +301,7 @@ pub fn load_text(
     s: &mut [u8],
     store: usize,
     rows: usize,
-) -> Outcome
+) -> Result<u32, Refusal>
     requires { length s.old ≡ 2048 }
     ensures value { result ≡ (loading_of card text.now memory.old store rows).outcome }
     ensures memory_after { memory.new ≡ loaded card text.now memory.old store rows }
@@ -361,27 +314,28 @@ pub fn load_text(
     state::fresh(s, 16);
     let p = read_lines(card, text, memory, s);
     let verdict = p.verdict;
-    if !judge::is_fine(verdict) {
+    if verdict.is_err() {
         return refused(memory, s, judge::number(verdict), p.lines);
     }
     if too_little(s, store, rows) {
         return refused(memory, s, 7, 0);
     }
-    Outcome::Loaded(p.used)
+    Ok(p.used)
 }
 
 // What loading answers.
-fn answer_of(outcome: Outcome) -> Answer
+#[tactic(auto, unfolding(crate::specs::Loads::answer_of))]
+fn answer_of(outcome: Result<u32, Refusal>) -> Answer
     ensures { result ≡ answer_of outcome }
 {
     match outcome {
-        Outcome::Loaded(used) => Answer::Loaded(used),
-        Outcome::Refused { number, line } => Answer::Unloaded { number, line },
+        Ok(used) => Answer::Loaded(used),
+        Err(Refusal { number, line }) => Answer::Unloaded { number, line },
     }
 }
 
 // The rows of the declared units start anew; a refused table declares none.
-fn outcome_of(outcome: Outcome, units: u8) -> answer::Outcome
+fn outcome_of(outcome: Result<u32, Refusal>, units: u8) -> answer::Outcome
     ensures { result ≡ outcome_by outcome units }
 {
     let rises = Rises {

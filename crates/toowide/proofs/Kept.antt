@@ -22,7 +22,6 @@ use Rattle.paper.specs.Words.{words_of, InRange}
 use Rattle.paper.proofs.Readings.{reads_iff}
 use Rattle.meaning.proofs.Grown.{decide}
 use Rattle.table.specs.Load.{readings_of, load}
-use Rattle.table.specs.declared.Outcome.TheVariants.{Loaded, Refused}
 use Rattle.table.proofs.Turns.{line_ended, line_open, no_line as no_reading}
 use Rattle.promise.specs.Says.{IsWide}
 use Rattle.promise.specs.Narrow.{NoneWide, FirstWide}
@@ -41,6 +40,7 @@ use Rattle.toowide.specs.declared.Asking.TheVariants.{Of, Nothing}
 use Rattle.toowide.specs.declared.Next.{Next}
 use Rattle.toowide.specs.declared.Next.TheVariants.{At, None}
 use Rattle.toowide.proofs.Walk.{open_nothing, no_line, step, found_skip}
+use Rattle.table.specs.Loading.{refusal_of}
 
 -- A. asking for the next one until there is none
 list_skip : (n start end : ℕ) (rest : List Wide) → list_at Nothing n start end rest ≡ rest
@@ -270,7 +270,7 @@ module _ (text memory : List ℕ) (store rows : ℕ) (told : List Line) where
   pub first_named : FirstNamed text memory store rows told
   first_named a line = (λ e. named a line ((narrow_refuses_iff text memory store rows told a line).1 e), λ x. ⊎_elim (λ n. absurd (some_listed x.0 x.1 x.2 (none_listed a n))) (λ f. back x.0 x.1 x.2 x.3 f.0 f.1) (wide_or_not told))
     where
-      back : (w : Wide) (rest : List Wide) → wide_lines text ≡ w ∷ rest → w.number ≡ line → (n : ℕ) → FirstWide told n → (load Narrow text memory store rows).outcome ≡ Refused 5 line
+      back : (w : Wide) (rest : List Wide) → wide_lines text ≡ w ∷ rest → w.number ≡ line → (n : ℕ) → FirstWide told n → (load Narrow text memory store rows).outcome ≡ refusal_of 5 line
       back w rest e k n f =
           let y = named a n f in
           let same : y.0 ≡ w = cc in

@@ -20,7 +20,6 @@ use Rattle.line.specs.Lines.{bus_line, unit_line, key_of, way_of, vp_line, drop_
 use Rattle.judge.specs.Judge.{judge_bus, judge_unit, judge_vp, judge_drop, judge_page, judge_vc, judge_mc}
 use Rattle.meaning.specs.Told.{same as same_whose, opens, gives as gives_record, hears_by, top_of, total, record_of, hears_in, declare, join_at, shelf_by, shelf_of}
 use Rattle.meaning.specs.Lines.{judge, run, Good}
-use Rattle.table.specs.declared.Outcome.TheVariants as outcome
 use Rattle.line.specs.declared.Line.TheVariants.{Bus}
 use Rattle.promise.specs.Narrow.{FirstWide}
 use Rattle.promise.proofs.Cards.{narrow_refuses_iff}
@@ -55,6 +54,7 @@ use Rattle.paper.specs.Answers.{IsRefused}
 use Rattle.running.proofs.Opened.{told_idle}
 use Rattle.running.proofs.Tables.{table_refused, table_refused_iff, table_loaded_iff}
 use Rattle.witness.specs.Witness.{listing, ListingPrints, text, given_to, said_to, Runs, AllRun, Refusals, bytes, Spoiled, spoiled, columns, turn, running, BeyondLoaded, ControlAsks, misformed, LinkByte, bus_text, BusAlone}
+use Rattle.table.specs.Loading.{refusal_of}
 
 -- A. 01's listing
 -- its text is that of its lines, in their ranges
@@ -229,7 +229,7 @@ first_wide =
       counted = refl;
     }
 
-narrow_wide : (load Narrow text (replicate 2736 0) 24576 3).outcome ≡ outcome.Refused 5 4
+narrow_wide : (load Narrow text (replicate 2736 0) 24576 3).outcome ≡ refusal_of 5 4
 narrow_wide =
     (narrow_refuses_iff text (replicate 2736 0) 24576 3 table (accepts (replicate 2736 0) (length-replicate {A = ℕ} 2736 0)) 4).0 first_wide
 

@@ -3,9 +3,10 @@ use Rattle.lookup.specs.Record.{usable, cleared}
 use Rattle.meaning.specs.Told.{memory_of}
 use Rattle.table.specs.Load.{progress_of, told_in, ran_of}
 use Rattle.table.specs.InPlace.{state_of}
-use Rattle.table.specs.declared.Outcome.TheVariants.{Refused}
 use Rattle.table.proofs.Cleared.{cleared_usable, cleared_twice, memory_cleared, after_long, after_stopped, after_little, after_done}
+use Rattle.table.proofs.Leaves.{failed, passed}
 use Rattle.table.proofs.load_text.Goals as goal
+use Rattle.table.specs.Loading.{refusal_of}
 
 pub returns-then-text-gt-LONGEST : goal.returns-then-text-gt-LONGEST
 returns-then-text-gt-LONGEST c =
@@ -19,8 +20,8 @@ read_lines-p-requires c =
     let e = c.clear.ensures in
     (c.if-text-gt-LONGEST.false, e ∙ sym (cleared_twice _) ∙ ap cleared (sym e), c.fresh.ensures)
 
-pub returns-then-not-is_fine : goal.returns-then-not-is_fine
-returns-then-not-is_fine c =
+pub returns-then-is_err : goal.returns-then-is_err
+returns-then-is_err c =
     let a = c.args in
     let m = a.memory.now in
     let t = a.text.now in
@@ -32,10 +33,9 @@ returns-then-not-is_fine c =
     let holding = l.ensures.memory_after ∙ ap₂ (λ x y. memory_of a.card x (told_in y)) k r ∙ memory_cleared a.card m (told_in (ran_of a.card (usable m) t)) in
     let standing = l.ensures.s_after ∙ ap (λ y. state_of (told_in y)) r in
     let short = c.if-text-gt-LONGEST.false in
-    let f = sym c.is_fine.ensures in
-    let o = after_stopped a.card t m a.store a.rows short p come _ _ holding standing (f ∙ c.if-not-is_fine.true) in
-    let e = c.refused-then-not-is_fine.ensures in
-    record { value = e.value ∙ ap (λ n. Refused n p.lines) c.number.ensures ∙ o.0; memory_after = e.memory_after ∙ o.1; s_after = e.s_after ∙ o.2 }
+    let o = after_stopped a.card t m a.store a.rows short p come _ _ holding standing (failed _ (sym c.is_err.ensures.value ∙ c.if-is_err.true)) in
+    let e = c.refused-then-is_err.ensures in
+    record { value = e.value ∙ ap (λ n. refusal_of n p.lines) c.number.ensures ∙ o.0; memory_after = e.memory_after ∙ o.1; s_after = e.s_after ∙ o.2 }
 
 pub returns-then-too_little : goal.returns-then-too_little
 returns-then-too_little c =
@@ -50,8 +50,7 @@ returns-then-too_little c =
     let holding = l.ensures.memory_after ∙ ap₂ (λ x y. memory_of a.card x (told_in y)) k r ∙ memory_cleared a.card m (told_in (ran_of a.card (usable m) t)) in
     let standing = l.ensures.s_after ∙ ap (λ y. state_of (told_in y)) r in
     let short = c.if-text-gt-LONGEST.false in
-    let f = sym c.is_fine.ensures in
-    let o = after_little a.card t m a.store a.rows short p come _ _ holding standing (f ∙ c.if-not-is_fine.false) (sym c.too_little.ensures ∙ c.if-too_little.true) in
+    let o = after_little a.card t m a.store a.rows short p come _ _ holding standing (passed _ (sym c.is_err.ensures.value ∙ c.if-is_err.false)) (sym c.too_little.ensures ∙ c.if-too_little.true) in
     let e = c.refused-then-too_little.ensures in
     record { value = e.value ∙ o.0; memory_after = e.memory_after ∙ o.1; s_after = e.s_after ∙ o.2 }
 
@@ -68,6 +67,5 @@ returns c =
     let holding = l.ensures.memory_after ∙ ap₂ (λ x y. memory_of a.card x (told_in y)) k r ∙ memory_cleared a.card m (told_in (ran_of a.card (usable m) t)) in
     let standing = l.ensures.s_after ∙ ap (λ y. state_of (told_in y)) r in
     let short = c.if-text-gt-LONGEST.false in
-    let f = sym c.is_fine.ensures in
-    let o = after_done a.card t m a.store a.rows short p come _ _ holding standing (f ∙ c.if-not-is_fine.false) (sym c.too_little.ensures ∙ c.if-too_little.false) in
+    let o = after_done a.card t m a.store a.rows short p come _ _ holding standing (passed _ (sym c.is_err.ensures.value ∙ c.if-is_err.false)) (sym c.too_little.ensures ∙ c.if-too_little.false) in
     record { value = o.0; memory_after = o.1; s_after = o.2 }

@@ -16,6 +16,7 @@ use Rattle.table.specs.Load.{progress_by, memory_after, verdict_in, progress_of,
 use Rattle.table.specs.InPlace.{state_after, state_of}
 use Rattle.table.proofs.Turns.{Between, at_start, at_end, used_most, lines_most, state_long, step_places, stop_progress, stop_memory, stop_state, on}
 use native.Mathlib.Omega.{arith}
+use Rattle.table.proofs.Leaves.{failed, passed}
 use Rattle.table.proofs.read_lines.Goals as goal
 
 pub returns-then-text-eq0 : goal.returns-then-text-eq0
@@ -63,15 +64,15 @@ step-p-requires c =
     let t = a.text.now in
     let w = shelf_in l.s in record { s_len = (state_long a.card m t told l.from l.p l.memory l.s b, used_most a.card m t told l.from l.p l.memory l.s b, lines_most a.card m t told l.from l.p l.memory l.s b c.requires.0); places = subst (λ n. verdict_in a.card n l.memory w l.p r ≡ fine → Places w r) (sym room) (step_places a.card m t told l.from l.p l.memory l.s b e q h r k) }
 
-pub shape_of-memory-then-not-is_fine : goal.shape_of-memory-then-not-is_fine
-shape_of-memory-then-not-is_fine c = c.step-p.auto.memory ∙ c.loop-from.invariant.2
+pub shape_of-memory-then-is_err : goal.shape_of-memory-then-is_err
+shape_of-memory-then-is_err c = c.step-p.auto.memory ∙ c.loop-from.invariant.2
 
-pub shape_of-s-then-not-is_fine : goal.shape_of-s-then-not-is_fine
-shape_of-s-then-not-is_fine c = c.step-p.auto.s ∙ c.loop-from.invariant.3
+pub shape_of-s-then-is_err : goal.shape_of-s-then-is_err
+shape_of-s-then-is_err c = c.step-p.auto.s ∙ c.loop-from.invariant.3
 
-pub returns-then-not-is_fine : goal.returns-then-not-is_fine
+pub returns-then-is_err : goal.returns-then-is_err
 unfolding progress_by
-returns-then-not-is_fine c =
+returns-then-is_err c =
     let a = c.args in
     let l = c.loop-from in
     let told = l.invariant.0 in
@@ -89,7 +90,7 @@ returns-then-not-is_fine c =
     let s₁ = subst (λ n. s.result ≡ progress_by (verdict_in a.card n l.memory w l.p r) l.p r) room s.ensures.value in
     let s₂ = subst (λ n. s.new.memory ≡ memory_after a.card l.memory w (verdict_in a.card n l.memory w l.p r) l.p r) room s.ensures.memory_after in
     let s₃ = subst (λ n. s.new.s ≡ state_after l.s (verdict_in a.card n l.memory w l.p r) l.p r) room s.ensures.s_after in
-    let f = sym (ap is_fine (ap (λ p. p.verdict) s₁)) ∙ sym c.is_fine.ensures ∙ c.if-not-is_fine.true in record { value = s₁ ∙ stop_progress a.card m t told l.from l.p l.memory l.s b e q h r k f; memory_after = s₂ ∙ stop_memory a.card m t told l.from l.p l.memory l.s b e q h r k f; s_after = s₃ ∙ stop_state a.card m t told l.from l.p l.memory l.s b e q h r k f }
+    let f = sym (ap is_fine (ap (λ p. p.verdict) s₁)) ∙ failed _ (sym c.is_err.ensures.value ∙ c.if-is_err.true) in record { value = s₁ ∙ stop_progress a.card m t told l.from l.p l.memory l.s b e q h r k f; memory_after = s₂ ∙ stop_memory a.card m t told l.from l.p l.memory l.s b e q h r k f; s_after = s₃ ∙ stop_state a.card m t told l.from l.p l.memory l.s b e q h r k f }
 
 pub overflow_add-from : goal.overflow_add-from
 overflow_add-from c = omega (arith, c.line_at-stretch.ensures.1)
@@ -117,7 +118,7 @@ loop-from-preserved c =
     let s₁ = subst (λ n. s.result ≡ progress_by (verdict_in a.card n l.memory w l.p r) l.p r) room s.ensures.value in
     let s₂ = subst (λ n. s.new.memory ≡ memory_after a.card l.memory w (verdict_in a.card n l.memory w l.p r) l.p r) room s.ensures.memory_after in
     let s₃ = subst (λ n. s.new.s ≡ state_after l.s (verdict_in a.card n l.memory w l.p r) l.p r) room s.ensures.s_after in
-    let f = sym (ap is_fine (ap (λ p. p.verdict) s₁)) ∙ sym c.is_fine.ensures ∙ c.if-not-is_fine.false in
+    let f = sym (ap is_fine (ap (λ p. p.verdict) s₁)) ∙ passed _ (sym c.is_err.ensures.value ∙ c.if-is_err.false) in
     let o = on a.card m t told l.from l.p l.memory l.s b e q h r k f in (
       o.0,
       subst (λ x. Between a.card m t o.0 (e + 1) s.result s.new.memory x) (sym s₃) (subst₂ (λ p y. Between a.card m t o.0 (e + 1) p y (state_after l.s (verdict_in a.card (usable m) l.memory w l.p r) l.p r)) (sym s₁) (sym s₂) o.1),
