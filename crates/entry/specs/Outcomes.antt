@@ -1,6 +1,6 @@
 -- What comes of each of the eight: what is given back, and what was lent, as it is afterwards; b is the state's bytes. The contracts of `entry` and `owned` cite these, and every promise speaks of them.
 -- Assumes nothing.
-use Rattle.std.specs.Prelude.{ℕ, ◌≡◌, List, length}
+use Rattle.std.specs.Prelude.{ℕ, ◌≡◌, List, length, Result}
 use Rattle.card.specs.declared.Card.{Card}
 use Rattle.answer.specs.declared.Answer.{Answer}
 use Rattle.answer.specs.declared.Outcome.{Outcome}

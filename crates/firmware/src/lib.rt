@@ -84,6 +84,7 @@ fn code(answer: Answer) -> u64
 }
 
 // Where the counters of a unit stand, or the refusal, as one number.
+#[tactic(auto, unfolding(crate::specs::Codes::place_code))]
 fn count_code(card: Card, state: &[u8; 2048], store: &[u8], rows: usize, unit: u8) -> u64
     ensures { result ≡ place_code (counted_in card state.now (length store.now) rows unit) }
 {

@@ -1,5 +1,5 @@
 -- The contracts of the eight entry points, as `entry` has them, and that each is the step that the promises speak of. Assumes nothing.
-use Rattle.std.specs.Prelude.{ℕ, ◌≡◌, List, [], length}
+use Rattle.std.specs.Prelude.{ℕ, ◌≡◌, List, [], length, Result}
 use seplogic.Ra.Ura.{Ura}
 use base.Logic.{SProp, emp}
 use prog.Memory.{Memory}

@@ -1,5 +1,5 @@
 -- One event on a running shelf, the shelf as a value: what `InPlace` shows that the bytes lent to `entry` come to. Assumes nothing.
-use Rattle.std.specs.Prelude.{ℕ, List, [], length}
+use Rattle.std.specs.Prelude.{ℕ, List, [], length, Result, Ok, Err}
 use Rattle.card.specs.declared.Card.{Card}
 use Rattle.shelf.specs.Shelf.{Shelf}
 use Rattle.answer.specs.declared.Answer.TheVariants as answer
