@@ -149,7 +149,7 @@ module _ (lines : List Line) (u : D-as-Unit) (c : List ℕ) where
 
       going : right ≡ true → zeros ≡ false → above ≡ false → Routes (line_for lines u c) → ArrivalIs lines u c (waits (leb 4 (length u.inlet)))
       going er ez ea line =
-          room_or (record { check = eqb-true (check (four c 0)) (get_or c 4 0) er; Some = nonzero ez; top = ltb-false u.settings.top h.vpi ea; line = line }) (leb 4 (length u.inlet)) refl
+          room_or (record { check = eqb-true (check (four c 0)) (get_or c 4 0) er; some = nonzero ez; top = ltb-false u.settings.top h.vpi ea; line = line }) (leb 4 (length u.inlet)) refl
 
       go : (r z a : Bool) (o : Option Serving) → right ≡ r → zeros ≡ z → above ≡ a → line_for lines u c ≡ o → ArrivalIs lines u c (by r z a o)
       go false z a o er ez ea eo = eqb-false (check (four c 0)) (get_or c 4 0) er

@@ -228,10 +228,10 @@ module _ (d : Shelf) (b : Backed d) (buffer : List ℕ) (whole : length buffer �
   framed_backed =
       decide (eqb granted nobody)
       (λ t.
-      let None = eqb-true granted nobody t in
-      let same : (n : ℕ) → get_or (framed d buffer).arbiter.asks n 0 ≡ get_or asks n 0 = λ n. ap (λ x. get_or x.asks n 0) (not_granted m.arbiter.last asks None) in
+      let nobody_is = eqb-true granted nobody t in
+      let same : (n : ℕ) → get_or (framed d buffer).arbiter.asks n 0 ≡ get_or asks n 0 = λ n. ap (λ x. get_or x.asks n 0) (not_granted m.arbiter.last asks nobody_is) in
       record {
-        grant = λ x. absurd (x None);
+        grant = λ x. absurd (x nobody_is);
         low = λ n h. (request m (moved_backed d b) n (λ z. h (same n ∙ z))).0;
         asked = λ n h.
             let low = (request m (moved_backed d b) n (λ z. h (same n ∙ z))).0 in
@@ -239,12 +239,12 @@ module _ (d : Shelf) (b : Backed d) (buffer : List ℕ) (whole : length buffer �
             subst (Waits (framed d buffer) n) (sym apart) (has_one n (λ z. h (same n ∙ z)));
       })
       (λ t.
-      let Some = eqb-false granted nobody t in
-      let c = granted_changes m.arbiter.last asks Some in
+      let somebody = eqb-false granted nobody t in
+      let c = granted_changes m.arbiter.last asks somebody in
       let other : (n : ℕ) → (get_or (framed d buffer).arbiter.asks n 0 ≡ 0 → ⊥) → n ≡ granted → ⊥ = λ n h z. h (ap (λ m. get_or (framed d buffer).arbiter.asks m 0) z ∙ c.cleared) in
       let before : (n : ℕ) → (get_or (framed d buffer).arbiter.asks n 0 ≡ 0 → ⊥) → get_or asks n 0 ≡ 0 → ⊥ = λ n h z. h (c.stand n (other n h) ∙ z) in
       record {
-        grant = λ x. has_one granted (λ z. let a = (granted_asks m.arbiter.last asks Some).1 in omega arith);
+        grant = λ x. has_one granted (λ z. let a = (granted_asks m.arbiter.last asks somebody).1 in omega arith);
         low = λ n h. (request m (moved_backed d b) n (before n h)).0;
         asked = λ n h.
             subst (Waits (framed d buffer) n) (sym (ap (λ x. suc (cond x 1 0)) (ne_eqb n granted (other n h)))) (has_one n (before n h));

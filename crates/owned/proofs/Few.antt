@@ -237,7 +237,7 @@ module _ (rows : List Counters) (lent : ℕ) (long : length rows ≡ 40) where
       same : hands card b store lot n unit cell ≡ hands card b store lot lent unit cell
       same = rw (admitted_few card (shelf_in b) (length store) lent unit (eqb (length cell) 56), admitted_in_few card b (length store) lent unit (eqb (length cell) 56))
 
-  pub counts_few : (card : Card) (b store : List ℕ) (unit : ℕ) (r : Result C.Counters ℕ) → r ≡ counts_of card b store lot (length lot) unit → r ≡ counts_of card b store rows lent unit
+  pub counts_few : (card : Card) (b store : List ℕ) (unit : ℕ) (r : Result Counters ℕ) → r ≡ counts_of card b store lot (length lot) unit → r ≡ counts_of card b store rows lent unit
   unfolding count_of
   counts_few card b store unit r h =
       h ∙ ap (λ (k : ℕ). counts_of card b store lot k unit) many ∙ pick (counted_in card b (length store) n unit) refl ∙ ap (λ (a : Result ℕ ℕ). count_of a rows) (admitted_in_few card b (length store) lent unit true)

@@ -174,7 +174,7 @@ module _ (text memory : List ℕ) (store rows : ℕ) (told : List Line) (a : Acc
       record {
         short = a.short;
         fine = record {
-          Some = a.fine.some;
+          some = a.fine.some;
           all = a.fine.all;
           ranged = a.fine.ranged;
           faultless = (good_iff Narrow memory told).0 (good_narrow (usable memory) told (accepts_good W text memory store rows told a) n);

@@ -21,7 +21,7 @@ use Rattle.meaning.specs.Told.{total, shelf_of, memory_of}
 use Rattle.meaning.specs.Lines.{Good, Ran, done, stopped, verdict_on}
 use Rattle.meaning.proofs.Memory.{AllRanged}
 use Rattle.meaning.proofs.Grown.{decide}
-use Rattle.table.specs.Loading.{Loading, refusal_of}
+use Rattle.table.specs.Loading.{Loading, refusal_of, LoadOutcome}
 use Rattle.table.specs.Load.{ran_of, refusal, too_little, loading_of, memory_ran, load, loaded}
 use Rattle.table.proofs.Cleared.{load_long, load_short}
 use Rattle.promise.specs.Says.{records_of, unit_lines}
@@ -35,13 +35,24 @@ use Rattle.promise.proofs.Faults.{condition_least, condition_iff, good_iff}
 pub loaded_refused : {used number line : ℕ} → Ok used ≡ refusal_of number line → ⊥
 loaded_refused e = let z : ◌≡◌ {A = ℕ} 0 1 = cc in omega arith
 
+-- the number and the line of a refusal
+number_in : LoadOutcome → ℕ
+number_in (Ok used) = 0
+number_in (Err r) = r.number
+
+line_of : LoadOutcome → ℕ
+line_of (Ok used) = 0
+line_of (Err r) = r.line
+
 refused_number : {k n k' n' : ℕ} → refusal_of k n ≡ refusal_of k' n' → k ≡ k'
-refused_number e = cc
+unfolding number_in
+refused_number e = ap number_in e
 
 pub refused_line : {k n k' n' : ℕ} → refusal_of k n ≡ refusal_of k' n' → n ≡ n'
-refused_line e = cc
+unfolding line_of
+refused_line e = ap line_of e
 
-loaded_used : {used used' : ℕ} → Ok used ≡ Ok used' → used ≡ used'
+loaded_used : {used used' : ℕ} → ◌≡◌ {A = LoadOutcome} (Ok used) (Ok used') → used ≡ used'
 loaded_used e = cc
 
 -- "cell store below 8,192 bytes a declared unit, or fewer counter rows than units"
