@@ -44,7 +44,7 @@ line_of : LoadOutcome → ℕ
 line_of (Ok used) = 0
 line_of (Err r) = r.line
 
-refused_number : {k n k' n' : ℕ} → refusal_of k n ≡ refusal_of k' n' → k ≡ k'
+pub refused_number : {k n k' n' : ℕ} → refusal_of k n ≡ refusal_of k' n' → k ≡ k'
 unfolding number_in
 refused_number e = ap number_in e
 

@@ -20,7 +20,7 @@ use Rattle.table.proofs.EventInPlace.{load_formed, load_long}
 use Rattle.promise.specs.Refusals.{Accepts}
 use Rattle.promise.specs.Says.{unit_lines}
 use Rattle.promise.proofs.Faults.{good_iff}
-use Rattle.promise.proofs.Refusals.{accepts_good, accepted}
+use Rattle.promise.proofs.Refusals.{accepts_good, accepted, loaded_refused, refused_number, refused_line}
 use Rattle.promise.specs.Narrow.{FirstWide}
 use Rattle.promise.proofs.Cards.{wide_or_not, narrow_accepts, narrow_refuses_iff}
 use Rattle.document.specs.Events.{Event, arrive, frame, hear, take_cell, count, hand, collect, Back}
@@ -149,16 +149,6 @@ module _ (text memory memory' store store' : List ℕ) (rows rows' : List C.Coun
         store_enough = subst (λ n. 8192 * unit_lines told ≤ n) equal.stores a.store_enough;
         rows_enough = subst (λ n. unit_lines told ≤ n) equal.records a.rows_enough;
       }
-
--- outcomes are told apart
-loaded_refused : {used number line : ℕ} → Ok used ≡ refusal_of number line → ⊥
-loaded_refused e = let z : ◌≡◌ {A = ℕ} 0 1 = cc in omega arith
-
-refused_number : {k n k' n' : ℕ} → refusal_of k n ≡ refusal_of k' n' → k ≡ k'
-refused_number e = cc
-
-refused_line : {k n k' n' : ℕ} → refusal_of k n ≡ refusal_of k' n' → n ≡ n'
-refused_line e = cc
 
 pub too_wide : TooWide
 too_wide text memory memory' store store' rows rows' equal told a number line =
