@@ -6,7 +6,6 @@ use mathlib.Core.Path.{◌≡◌, refl, sym, ap, subst, ◌∙◌}
 use mathlib.Core.Logic.{◌⊎◌, inl, inr, ⊎_elim}
 use mathlib.Core.Bool.{true, false, cond}
 use mathlib.Core.List.{List, [], ◌∷◌, ◌++◌, map}
-use mathlib.Core.Option as O
 use lib.Dec.{eqb, ltb}
 use lib.ListN.{length, length-set, length-append, length-map, get_or, set, replicate, get_or-replicate, get_or-eq_default}
 use lib.Seq.{get_or-set_same, get_or-set_other}
@@ -181,7 +180,7 @@ module _ (d : D.Shelf) (s : Stands d) where
 
   module _ (buffer : List ℕ) (whole : length buffer ≡ 57) (w : Waits d d.granted) (there : D.find_in d.units d.granted ≡ Some w.place) (f : From) (turn : InTurn (moved_unit (D.unit_at d w.place)) f) where
     -- what is left when that cell has been on the bus
-    pub sent_is : sent_in (moved d) buffer ≡ sends_one (O.some (record { cell = cell_of f; left = without f (D.unit_at (moved d) w.place) })) (moved d) w.place buffer
+    pub sent_is : sent_in (moved d) buffer ≡ sends_one (Some (record { cell = cell_of f; left = without f (D.unit_at (moved d) w.place) })) (moved d) w.place buffer
     unfolding sends as_sending
     sent_is =
         let u = D.unit_at (moved d) w.place in

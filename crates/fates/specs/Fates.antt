@@ -61,7 +61,7 @@ LineServes = (lines : List Line) (u v w : ℕ) → LineIs lines u v w (served li
 -- "a routed cell"
 pub record Goes (lines : List Line) (u : D-as-Unit) (c : List ℕ) : Type 0 where
   pub check : RightCheck c
-  pub Some : Zeros (header_of u.settings c) → ⊥
+  pub some : Zeros (header_of u.settings c) → ⊥
   pub top : (header_of u.settings c).vpi ≤ u.settings.top
   pub line : Routes (line_for lines u c)
 

@@ -44,10 +44,8 @@ fn some_looped(s: &[u8]) -> bool
     ensures { result ≡ some_looped s.now 0 32 }
 {
     let mut some = false;
-    let mut i: usize = 0;
-    while i < 32 {
+    for i in 0..32 {
         some = some | (state::at(s, 30, i) != 0);
-        i += 1;
     }
     some
 }
@@ -82,10 +80,8 @@ fn move_all(s: &mut [u8], store: &mut [u8], each: &mut [u16])
         × (each.new ≡ (moved_in s.old store.old).each)) }
 {
     let end = shelf::declared_count(s[805]);
-    let mut i: usize = 0;
-    while i < end {
+    for i in 0..end {
         each[i] = move_one(s, i, store);
-        i += 1;
     }
 }
 
@@ -97,8 +93,7 @@ fn asking_now(s: &[u8]) -> [u8; 32]
     let end = shelf::declared_count(s[805]);
     let granted = s[803];
     let mut now = [0; 32];
-    let mut i: usize = 0;
-    while i < end {
+    for i in 0..end {
         let number = state::at(s, 0, i);
         if number < 32 {
             now[number as usize] = arbiter::asking(
@@ -107,7 +102,6 @@ fn asking_now(s: &[u8]) -> [u8; 32]
                 number == granted,
             );
         }
-        i += 1;
     }
     now
 }
@@ -117,10 +111,8 @@ fn asks_noted(held: [u8; 32]) -> [u8; 32]
     ensures { result ≡ asked_by held }
 {
     let mut asks = [0; 32];
-    let mut i: usize = 0;
-    while i < 32 {
+    for i in 0..32 {
         asks[i] = held[i] % 4;
-        i += 1;
     }
     asks
 }
@@ -215,13 +207,11 @@ fn hear_all(
     let end = shelf::declared_count(s[805]);
     let mut copies: u8 = 0;
     let mut addressed = false;
-    let mut i: usize = 0;
-    while i < end {
+    for i in 0..end {
         let fate = heed(s, i, address, cell, store);
         each[i] = each[i] | answer::hearing_rises(fate);
         copies = copies + queued_one(fate);
         addressed = addressed | is_addressed(fate);
-        i += 1;
     }
     Heeded { copies, addressed }
 }
