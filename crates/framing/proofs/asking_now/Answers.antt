@@ -34,9 +34,6 @@ met c =
           w.now-is ∙ sym (set_out l.now (col b l.i 0) (asks_now (shelf_in b).granted (col b l.i 0) (col b l.i 4) (waiting (unit_in b l.i))) (omega (arith, n)))
     ]
 
-pub overflow_add-i : goal.overflow_add-i
-overflow_add-i c = let e = c.declared_count-end.ensures in omega arith
-
 pub loop-i-preserved : goal.loop-i-preserved
 loop-i-preserved c =
     let l = c.loop-i in

@@ -6,6 +6,3 @@ use Rattle.framing.proofs.asking_now.Given as goal
 
 abbrev pub invariant-loop-i : goal.invariant-loop-i
 invariant-loop-i l = (l.i ≤ l.end) × ((length l.now ≡ 32) × (asking_now (shelf_in l.s) ≡ asking_of (shelf_in l.s).granted l.now (drop l.i (declared (shelf_in l.s)))))
-
-abbrev pub decreases-loop-i : goal.decreases-loop-i
-decreases-loop-i l = l.end - l.i

@@ -15,6 +15,3 @@ invariant-loop-i l = (l.i ≤ l.end)
     × (length l.each ≡ 32)
     × ((j : ℕ) → l.i ≤ j → j < l.end → Housed j (unit_in l.s j) (length l.initial.store))
     × (heeded_by (heard_as l.address l.cell) l.cell l.initial.s l.initial.store l.initial.each ≡ turns (heard_as l.address l.cell) l.cell l.i (l.end - l.i) (scene l.s l.store l.each l.copies l.addressed))
-
-abbrev pub decreases-loop-i : goal.decreases-loop-i
-decreases-loop-i l = l.end - l.i

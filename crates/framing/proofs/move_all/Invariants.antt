@@ -12,6 +12,3 @@ invariant-loop-i l = (l.i ≤ l.end)
     × (length l.store ≡ length l.initial.store)
     × (length l.each ≡ 32)
     × (moved_in l.initial.s l.initial.store ≡ move_from l.i (l.end - l.i) (among l.s l.store l.each))
-
-abbrev pub decreases-loop-i : goal.decreases-loop-i
-decreases-loop-i l = l.end - l.i
