@@ -24,15 +24,13 @@ pub enum Record {
 }
 
 // The bytes of a route: the outgoing VPI is byte 3 on the narrow card, bytes 6 and 7 on the wide one.
+#[tactic(auto, unfolding(crate::specs::Record::route_of))]
 fn route(card: Card, header: u16, vpi: u16, vci: u16) -> [u8; SIZE]
     ensures { result ≡ route_of card header vpi vci }
 {
-    let high = (header / 256 % 256) as u8;
-    let low = (header % 256) as u8;
-    let vcihigh = (vci / 256 % 256) as u8;
-    let vcilow = (vci % 256) as u8;
-    let vpihigh = (vpi / 256 % 256) as u8;
-    let vpilow = (vpi % 256) as u8;
+    let [high, low] = header.to_be_bytes();
+    let [vcihigh, vcilow] = vci.to_be_bytes();
+    let [vpihigh, vpilow] = vpi.to_be_bytes();
     match card {
         Card::Narrow => [2, high, low, vpilow, vcihigh, vcilow, 0, 0],
         Card::Wide => [2, high, low, 0, vcihigh, vcilow, vpihigh, vpilow],
@@ -40,21 +38,13 @@ fn route(card: Card, header: u16, vpi: u16, vci: u16) -> [u8; SIZE]
 }
 
 // The bytes of a page.
+#[tactic(auto, unfolding(crate::specs::Record::page_of))]
 fn page(top: u16, place: u32) -> [u8; SIZE]
     ensures { result ≡ page_of top place }
 {
-    let upper = place / 65536;
-    let lower = place % 65536;
-    [
-        3,
-        (top / 256 % 256) as u8,
-        (top % 256) as u8,
-        0,
-        (upper / 256 % 256) as u8,
-        (upper % 256) as u8,
-        (lower / 256 % 256) as u8,
-        (lower % 256) as u8,
-    ]
+    let [high, low] = top.to_be_bytes();
+    let [a, b, c, d] = place.to_be_bytes();
+    [3, high, low, 0, a, b, c, d]
 }
 
 // The bytes of a record, as a memory holds them.
@@ -95,56 +85,44 @@ fn vpi_in(card: Card, b: &[u8]) -> u16
 }
 
 // What the bytes of a record say; nothing where the kind is unknown.
+#[tactic(auto, unfolding(crate::specs::Record::record_in))]
 fn read(card: Card, b: &[u8]) -> Option<Record>
     requires { length b.now ≡ 8 }
     ensures { result ≡ record_in card b.now }
 {
-    let kind = b[0];
-    if kind == 0 {
-        return Some(Record::Empty);
+    match b[0] {
+        0 => Some(Record::Empty),
+        1 => Some(Record::Drop),
+        2 => {
+            let header = octets::two(b, 1);
+            let vpi = vpi_in(card, b);
+            let vci = octets::two(b, 4);
+            Some(Record::Route { header, vpi, vci })
+        }
+        3 => {
+            let top = octets::two(b, 1);
+            let place = octets::four(b, 4);
+            Some(Record::Page { top, place })
+        }
+        _ => None,
     }
-    if kind == 1 {
-        return Some(Record::Drop);
-    }
-    if kind == 2 {
-        let header = octets::two(b, 1);
-        let vpi = vpi_in(card, b);
-        let vci = octets::two(b, 4);
-        return Some(Record::Route { header, vpi, vci });
-    }
-    if kind == 3 {
-        let top = octets::two(b, 1);
-        let place = octets::four(b, 4);
-        return Some(Record::Page { top, place });
-    }
-    None
 }
 
 // What stands at a place of a memory; nothing where the place is not wholly inside or the kind is unknown.
+#[tactic(auto, unfolding(crate::specs::Record::record_at))]
 pub fn get(card: Card, memory: &[u8], at: usize) -> Option<Record>
     ensures { result ≡ record_at card memory.now at }
 {
-    if memory.len() < SIZE {
-        return None;
-    }
-    if memory.len() - SIZE < at {
-        return None;
-    }
-    read(card, &memory[at..at + SIZE])
+    read(card, memory.get(at..)?.get(..SIZE)?)
 }
 
 // Zeroes the part of a memory that a table may use.
+#[tactic(auto, unfolding(crate::specs::Record::cleared))]
 pub fn clear(memory: &mut [u8])
     ensures { memory.new ≡ cleared memory.old }
 {
-    let mut i: usize = 0;
-    while i < memory.len() {
-        if i == MOST {
-            return;
-        }
-        memory[i] = 0;
-        i += 1;
-    }
+    let end = memory.len().min(MOST);
+    memory[..end].fill(0);
 }
 
 // A cell is ignored, misrouted, or goes on with this routing header and, on the bus, this cell header.
@@ -183,17 +161,13 @@ fn goes(routing: u16, vpi: u16, vci: u16, h: Header) -> Looked
 }
 
 // By the record of the cell's VCI in a page.
+#[tactic(auto, unfolding(crate::specs::Lookup::by_vci))]
 fn by_vci(got: Option<Record>, h: Header) -> Looked
     ensures { result ≡ by_vci got h }
 {
-    let Some(r) = got else {
-        return Looked::Misrouted;
-    };
-    match r {
-        Record::Empty => Looked::Misrouted,
-        Record::Drop => Looked::Misrouted,
-        Record::Route { header, vpi, vci } => goes(header, vpi, vci, h),
-        Record::Page { top: _, place: _ } => Looked::Misrouted,
+    match got {
+        Some(Record::Route { header, vpi, vci }) => goes(header, vpi, vci, h),
+        _ => Looked::Misrouted,
     }
 }
 
@@ -204,11 +178,7 @@ fn by_vpi(card: Card, memory: &[u8], r: Record, h: Header) -> Looked
     match r {
         Record::Empty => Looked::Misrouted,
         Record::Drop => Looked::Ignored,
-        Record::Route {
-            header,
-            vpi,
-            vci: _,
-        } => goes(header, vpi, h.vci, h),
+        Record::Route { header, vpi, .. } => goes(header, vpi, h.vci, h),
         Record::Page { top, place } => {
             if top < h.vci {
                 return Looked::Misrouted;
