@@ -1,5 +1,5 @@
 -- The three ways an arrival at lent bytes ends, and that the bytes are then the shelf after an arrival. Assumes nothing.
-use Rattle.std.specs.Prelude.{Ok}
+use Rattle.std.specs.Prelude.{Ok, Err}
 use Prim.Native.Nat.{ℕ, ◌+◌, ◌%◌, ◌≤◌, ◌<◌}
 use native.Mathlib.Omega.{arith}
 use mathlib.Core.Path.{◌≡◌, refl, sym, ap, subst, ◌∙◌}
@@ -29,10 +29,8 @@ use Rattle.answer.specs.Answers.{refused, spread, outcome_by}
 use Rattle.soundness.specs.Admission.{decided, unit_at, with_unit, with_inlet, Housed}
 use Rattle.soundness.proofs.Laws.{decided_all, decided_both}
 use Rattle.soundness.proofs.InPlace.{formed_in, in_place, below_count}
-use Rattle.arriving.specs.Arriving.{way_for, way_of, fate_by, arrived, inlet_full, cell_in, done_by, store_by, done_at, store_at, arrive_done}
+use Rattle.arriving.specs.Arriving.{Way, way_for, way_of, arrived, inlet_full, cell_in, done_by, store_by, done_at, store_at, arrive_done}
 use Rattle.arriving.specs.InPlace.{arrived_with, state_by, state_at, comes_in, arrive_state}
-use Rattle.arriving.specs.declared.Way.{Way}
-use Rattle.arriving.specs.declared.Way.TheVariants.{Bus, Lost}
 use Rattle.arriving.proofs.Leaves.{inlet_inside}
 
 chosen : {X : Type 0} (P : X → Type 0) (t : Bool) {x y : X} → P x → P y → P (cond t x y)
@@ -46,13 +44,13 @@ module _ (b : List ℕ) (place : ℕ) (below : place < 32) where
 
   state_all : (P : List ℕ → Type 0) → P b → P put → (w : Way) → P (state_by w (unit_in b place) b place)
   unfolding state_by
-  state_all P was is (Lost fate) = was
-  state_all P was is (Bus routing header) = chosen P (inlet_full (unit_in b place)) was is
+  state_all P was is (Err fate) = was
+  state_all P was is (Ok heads) = chosen P (inlet_full (unit_in b place)) was is
 
   after : length b ≡ 2048 → (w : Way) → shelf_in (state_by w (unit_in b place) b place) ≡ (done_by w (shelf_in b) place).reply.shelf
   unfolding state_by done_by
-  after long (Lost fate) = refl
-  after long (Bus routing header) =
+  after long (Err fate) = refl
+  after long (Ok heads) =
       pick (inlet_full (unit_in b place))
       ∙ ap (λ (u : U.Unit). (cond (inlet_full u) (arrived (shelf_in b) place Inletfull) (arrived (with_unit (shelf_in b) place (with_inlet u (pushed u.inlet))) place Queued)).reply.shelf) (sym (unit_at_lem b place blank below))
     where
@@ -72,20 +70,20 @@ module _ (card : Card) (b : List ℕ) (place : ℕ) (below : place < 32) (memory
   there : (x : Way) → w ≡ x → x ≡ way_of card (unit_at (shelf_in b) place) memory c
   there x e = here x e ∙ ap (λ u. way_of card u memory c) same
 
-  module _ (fate : A.Arrival) (e : w ≡ Lost fate) where
-    pub lost_out : outcome_by (arrived_with place (fate_by w)) ≡ outcome_of (done_at card (shelf_in b) place memory c)
-    unfolding fate_by done_by spread
-    lost_out = ap (λ x. outcome_by (arrived_with place (fate_by x))) e ∙ ap (λ x. outcome_of (done_by x (shelf_in b) place)) (there (Lost fate) e)
+  module _ (fate : A.Arrival) (e : w ≡ Err fate) where
+    pub lost_out : outcome_by (arrived_with place fate) ≡ outcome_of (done_at card (shelf_in b) place memory c)
+    unfolding done_by spread
+    lost_out = ap (λ x. outcome_of (done_by x (shelf_in b) place)) (there (Err fate) e)
 
     pub lost_state : b ≡ state_at card b place memory c
     unfolding state_by
-    lost_state = ap (λ x. state_by x (unit_in b place) b place) (here (Lost fate) e)
+    lost_state = ap (λ x. state_by x (unit_in b place) b place) (here (Err fate) e)
 
     pub lost_store : (store : List ℕ) → store ≡ store_at card (shelf_in b) place memory store c
     unfolding store_by
-    lost_store store = ap (λ x. store_by x (unit_at (shelf_in b) place) place store c) (there (Lost fate) e)
+    lost_store store = ap (λ x. store_by x (unit_at (shelf_in b) place) place store c) (there (Err fate) e)
 
-  module _ (routing header : ℕ) (e : w ≡ Bus routing header) (ring : Ring) (er : ring ≡ ring_by (col b place) 14 15) where
+  module _ (routing header : ℕ) (e : w ≡ Ok (record { routing = routing; header = header })) (ring : Ring) (er : ring ≡ ring_by (col b place) 14 15) where
     inlet_here : ring ≡ (unit_in b place).inlet
     unfolding unit_by
     inlet_here = er
@@ -97,21 +95,21 @@ module _ (card : Card) (b : List ℕ) (place : ℕ) (below : place < 32) (memory
     unfolding done_by
     out_by t h =
         ap (λ x. outcome_of (cond x (arrived (shelf_in b) place Inletfull) (arrived (cell_in (shelf_in b) place) place Queued))) (sym h ∙ ap (λ (r : Ring). leb 4 r.count) inlet_there)
-        ∙ ap (λ x. outcome_of (done_by x (shelf_in b) place)) (there (Bus routing header) e)
+        ∙ ap (λ x. outcome_of (done_by x (shelf_in b) place)) (there (Ok (record { routing = routing; header = header })) e)
 
     state_by_lem : (t : Bool) → leb 4 ring.count ≡ t → cond t b (with_ring b 14 15 place (pushed ring)) ≡ state_at card b place memory c
     unfolding state_by
     state_by_lem t h =
         ap (λ x. cond x b (with_ring b 14 15 place (pushed ring))) (sym h)
         ∙ ap (λ (r : Ring). cond (leb 4 r.count) b (with_ring b 14 15 place (pushed r))) inlet_here
-        ∙ ap (λ x. state_by x (unit_in b place) b place) (here (Bus routing header) e)
+        ∙ ap (λ x. state_by x (unit_in b place) b place) (here (Ok (record { routing = routing; header = header })) e)
 
     store_by_lem : (t : Bool) → leb 4 ring.count ≡ t → (store : List ℕ) → cond t store (put_at store place (inlet_slot (tail ring 4)) (cell routing 0 header (part c 5 48))) ≡ store_at card (shelf_in b) place memory store c
     unfolding store_by
     store_by_lem t h store =
         ap (λ x. cond x store (put_at store place (inlet_slot (tail ring 4)) (cell routing 0 header (part c 5 48)))) (sym h)
         ∙ ap (λ (r : Ring). cond (leb 4 r.count) store (put_at store place (inlet_slot (tail r 4)) (cell routing 0 header (part c 5 48)))) inlet_there
-        ∙ ap (λ x. store_by x (unit_at (shelf_in b) place) place store c) (there (Bus routing header) e)
+        ∙ ap (λ x. store_by x (unit_at (shelf_in b) place) place store c) (there (Ok (record { routing = routing; header = header })) e)
 
     pub inlet_room : (bytes : ℕ) → Housed place (unit_in b place) bytes → ring.count < 4 → slot_at place (inlet_slot (tail ring 4)) + 56 ≤ bytes
     inlet_room bytes h k = inlet_inside place bytes ring h.inside (subst (λ r. RingFits r 4) (sym inlet_here) h.inlet) k
@@ -128,9 +126,9 @@ module _ (card : Card) (b : List ℕ) (place : ℕ) (below : place < 32) (memory
       full_store = store_by_lem true (le-leb 4 ring.count h)
 
     module _ (h : ring.count < 4) where
-      pub queued_out : outcome_by (arrived_with place (fate_by w)) ≡ outcome_of (done_at card (shelf_in b) place memory c)
-      unfolding fate_by spread
-      queued_out = ap (λ x. outcome_by (arrived_with place (fate_by x))) e ∙ out_by false (lt-leb 4 ring.count h)
+      pub queued_out : outcome_by (arrived_with place Queued) ≡ outcome_of (done_at card (shelf_in b) place memory c)
+      unfolding spread
+      queued_out = out_by false (lt-leb 4 ring.count h)
 
       pub queued_state : with_ring b 14 15 place (pushed ring) ≡ state_at card b place memory c
       queued_state = state_by_lem false (lt-leb 4 ring.count h)
@@ -142,8 +140,8 @@ module _ (card : Card) (b : List ℕ) (place : ℕ) (below : place < 32) (memory
 pub out_fits : (w : Way) (b : List ℕ) (place rows : ℕ) → place < 32 → place < rows →
     ((outcome_of (done_by w (shelf_in b) place)).rises.to ≤ 32) × ((outcome_of (done_by w (shelf_in b) place)).rises.to ≤ rows)
 unfolding done_by
-out_fits (Lost fate) b place rows h k = (omega arith, omega arith)
-out_fits (Bus routing header) b place rows h k =
+out_fits (Err fate) b place rows h k = (omega arith, omega arith)
+out_fits (Ok heads) b place rows h k =
     chosen (λ (x : Done). (x.rises.to ≤ 32) × (x.rises.to ≤ rows)) (inlet_full (unit_at (shelf_in b) place)) (omega arith, omega arith) (omega arith, omega arith)
 
 -- The tie: of bytes that are a state, an arrival leaves the shelf that 01's Arrival leaves, and a state

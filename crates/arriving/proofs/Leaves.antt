@@ -1,4 +1,5 @@
 -- By the header check, and where the next cell of an inlet lies. Assumes nothing.
+use Rattle.std.specs.Prelude.{Err}
 use Prim.Native.Nat.{ℕ, ◌+◌, ◌≤◌, ◌<◌}
 use native.Mathlib.Omega.{arith}
 use mathlib.Core.Path.{◌≡◌}
@@ -18,10 +19,9 @@ use Rattle.store.proofs.Slots.{slot_inside}
 use Rattle.shelf.specs.declared.Settings.{Settings}
 use Rattle.answer.specs.declared.Arrival.TheVariants.{Hec}
 use Rattle.arriving.specs.Arriving.{way_by, way_for}
-use Rattle.arriving.specs.declared.Way.TheVariants.{Lost}
 
 -- by the header check
-pub unheaded : (card : Card) (settings : Settings) (at : ℕ) (memory c : List ℕ) → sound_header (four c 0) (get_or c 4 0) ≡ false → Lost Hec ≡ way_for card settings at memory c
+pub unheaded : (card : Card) (settings : Settings) (at : ℕ) (memory c : List ℕ) → sound_header (four c 0) (get_or c 4 0) ≡ false → Err Hec ≡ way_for card settings at memory c
 unheaded card settings at memory c e = rw e
 
 pub headed : (card : Card) (settings : Settings) (at : ℕ) (memory c : List ℕ) → sound_header (four c 0) (get_or c 4 0) ≡ true →

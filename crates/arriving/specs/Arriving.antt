@@ -1,5 +1,5 @@
 -- Arrival at a unit. Assumes nothing.
-use Rattle.std.specs.Prelude.{ℕ, Bool, cond, List, eqb, leb, length, get_or, Result}
+use Rattle.std.specs.Prelude.{ℕ, Bool, cond, List, eqb, leb, length, get_or, Result, Ok, Err}
 use Rattle.octets.specs.Octets.{four, part}
 use Rattle.card.specs.declared.Card.{Card}
 use Rattle.lookup.specs.Record.{record_at}
@@ -18,29 +18,27 @@ use Rattle.answer.specs.declared.Answer.TheVariants.{Arrived}
 use Rattle.answer.specs.Done.{Done}
 use Rattle.answer.specs.Answers.{arrival_rises, row, ends, refused}
 use Rattle.soundness.specs.Admission.{admitted, decided, unit_at, with_unit, with_inlet}
-use Rattle.arriving.specs.declared.Way.{Way}
-use Rattle.arriving.specs.declared.Way.TheVariants.{Bus, Lost}
+use Rattle.arriving.specs.declared.Headers.{Headers}
+
+-- where an arriving cell goes: to the bus with these headers, or nowhere, with this fate
+abbrev pub Way : Type 0
+Way = Result Headers A.Arrival
 
 -- "Then the record for the VPI as that link reads it": ignored, misrouted, or routed
 unfoldable pub way_by : L.Looked → Way
-way_by looked.Ignored = Lost Ignored
-way_by looked.Misrouted = Lost Misrouted
-way_by (looked.Goes routing header) = Bus routing header
+way_by looked.Ignored = Err Ignored
+way_by looked.Misrouted = Err Misrouted
+way_by (looked.Goes routing header) = Ok (record { routing = routing; header = header })
 
 -- "Wrong header check: `hec`."
 abbrev pub way_for : Card → Settings → ℕ → List ℕ → List ℕ → Way
 way_for card settings at memory c =
     cond (sound_header (four c 0) (get_or c 4 0))
     (way_by (translated (record_at card memory) settings.link settings.top at (four c 0)))
-    (Lost Hec)
+    (Err Hec)
 
 unfoldable pub way_of : Card → U.Unit → List ℕ → List ℕ → Way
 way_of card u memory c = way_for card u.settings u.place memory c
-
--- the fate of a cell that finds room in the inlet
-unfoldable pub fate_by : Way → A.Arrival
-fate_by (Bus routing header) = Queued
-fate_by (Lost fate) = fate
 
 -- a cell has arrived at the unit in a place, with this fate
 abbrev pub arrived : Shelf → ℕ → A.Arrival → Done
@@ -56,15 +54,15 @@ cell_in shelf place = with_unit shelf place (with_inlet (unit_at shelf place) (p
 
 -- "A routed cell finding 4 cells in the inlet is `inletfull`, else `queued`."
 unfoldable pub done_by : Way → Shelf → ℕ → Done
-done_by (Lost fate) shelf place = arrived shelf place fate
-done_by (Bus routing header) shelf place =
+done_by (Err fate) shelf place = arrived shelf place fate
+done_by (Ok heads) shelf place =
     cond (inlet_full (unit_at shelf place)) (arrived shelf place Inletfull) (arrived (cell_in shelf place) place Queued)
 
 -- the queued cell: the two headers, and the payload as it came
 unfoldable pub store_by : Way → U.Unit → ℕ → List ℕ → List ℕ → List ℕ
-store_by (Lost fate) u place store c = store
-store_by (Bus routing header) u place store c =
-    cond (inlet_full u) store (put_at store place (inlet_slot (tail u.inlet 4)) (cell routing 0 header (part c 5 48)))
+store_by (Err fate) u place store c = store
+store_by (Ok heads) u place store c =
+    cond (inlet_full u) store (put_at store place (inlet_slot (tail u.inlet 4)) (cell heads.routing 0 heads.header (part c 5 48)))
 
 -- at the unit in a place
 abbrev pub done_at : Card → Shelf → ℕ → List ℕ → List ℕ → Done

@@ -1,5 +1,5 @@
 -- Arrival, of a state in lent bytes: what is answered, the bytes and the store afterwards. Assumes nothing.
-use Rattle.std.specs.Prelude.{ℕ, cond, List, eqb, length, Result}
+use Rattle.std.specs.Prelude.{ℕ, cond, List, eqb, length, Result, Ok, Err}
 use Rattle.card.specs.declared.Card.{Card}
 use Rattle.store.specs.Rings.{pushed}
 use Rattle.shelf.specs.declared.Unit as U
@@ -11,9 +11,7 @@ use Rattle.answer.specs.declared.Single.{Single}
 use Rattle.answer.specs.Done.{outcome_of}
 use Rattle.answer.specs.Answers.{arrival_rises, counted_with, refused_with}
 use Rattle.soundness.specs.Admission.{admitted_in, formed_or, decided}
-use Rattle.arriving.specs.Arriving.{way_of, inlet_full, arrive_done, arrive_store}
-use Rattle.arriving.specs.declared.Way.{Way}
-use Rattle.arriving.specs.declared.Way.TheVariants.{Bus, Lost}
+use Rattle.arriving.specs.Arriving.{Way, way_of, inlet_full, arrive_done, arrive_store}
 
 -- a cell has arrived at the unit in a place, with this fate
 abbrev pub arrived_with : ℕ → A.Arrival → Single
@@ -21,8 +19,8 @@ arrived_with place fate = counted_with (Arrived fate) place (arrival_rises fate)
 
 -- the bytes after an arrival at the unit in a place: a cell that is queued is one more in its inlet
 unfoldable pub state_by : Way → U.Unit → List ℕ → ℕ → List ℕ
-state_by (Lost fate) u b place = b
-state_by (Bus routing header) u b place = cond (inlet_full u) b (with_ring b 14 15 place (pushed u.inlet))
+state_by (Err fate) u b place = b
+state_by (Ok heads) u b place = cond (inlet_full u) b (with_ring b 14 15 place (pushed u.inlet))
 
 abbrev pub state_at : Card → List ℕ → ℕ → List ℕ → List ℕ → List ℕ
 state_at card b place memory c = state_by (way_of card (unit_in b place) memory c) (unit_in b place) b place

@@ -6,7 +6,7 @@ ghost use Rattle.soundness.specs.Admission.{Housed};
 ghost use Rattle.answer.specs.Done.{outcome_of};
 ghost use Rattle.answer.specs.Answers.{outcome_by};
 ghost use Rattle.state.specs.Bytes.{unit_in, shelf_in};
-ghost use Rattle.arriving.specs.Arriving.{way_by, way_for, fate_by, done_at, store_at};
+ghost use Rattle.arriving.specs.Arriving.{way_by, way_for, done_at, store_at};
 ghost use Rattle.arriving.specs.InPlace.{arrived_with, state_at, arrive_out, arrive_state, arrive_store_in};
 
 use answer::{Answer, Arrival, Single};
@@ -14,48 +14,36 @@ use card::Card;
 use lookup::Looked;
 use shelf::{Settings, Unit};
 
-// Where an arriving cell goes: to the bus with these headers, or nowhere, with this fate.
+// The headers with which a cell goes to the bus.
 #[derive(Clone, Copy)]
-pub enum Way {
-    Bus { routing: u16, header: u32 },
-    Lost(Arrival),
+pub struct Headers {
+    pub routing: u16,
+    pub header: u32,
 }
 
-// By what was looked up.
-fn way_by(looked: Looked) -> Way
+// By what was looked up: the cell goes to the bus, or is lost with this fate.
+#[tactic(auto, unfolding(crate::specs::Arriving::way_by))]
+fn way_by(looked: Looked) -> Result<Headers, Arrival>
     ensures { result ≡ way_by looked }
 {
     match looked {
-        Looked::Ignored => Way::Lost(Arrival::Ignored),
-        Looked::Misrouted => Way::Lost(Arrival::Misrouted),
-        Looked::Goes { routing, header } => Way::Bus { routing, header },
+        Looked::Ignored => Err(Arrival::Ignored),
+        Looked::Misrouted => Err(Arrival::Misrouted),
+        Looked::Goes { routing, header } => Ok(Headers { routing, header }),
     }
 }
 
 // Where a cell that arrives at a unit goes; its records begin at a byte of the memory.
-fn way_of(card: Card, settings: Settings, at: u32, memory: &[u8], cell: &[u8]) -> Way
+fn way_of(card: Card, settings: Settings, at: u32, memory: &[u8], cell: &[u8]) -> Result<Headers, Arrival>
     requires { length cell.now ≡ 53 }
     ensures { result ≡ way_for card settings at memory.now cell.now }
 {
     let word = octets::four(cell, 0);
     if !lookup::sound(word, cell[4]) {
-        return Way::Lost(Arrival::Hec);
+        return Err(Arrival::Hec);
     }
     let link = settings.link;
     way_by(lookup::translate(card, link, settings.top, at, memory, word))
-}
-
-// The fate of a cell that finds room in the inlet.
-fn fate_by(way: Way) -> Arrival
-    ensures { result ≡ fate_by way }
-{
-    match way {
-        Way::Bus {
-            routing: _,
-            header: _,
-        } => Arrival::Queued,
-        Way::Lost(fate) => fate,
-    }
 }
 
 // A cell has arrived at the unit in a place.
@@ -79,11 +67,13 @@ fn arrive_at(
     ensures kept { (s.new ≡ state_at card s.old place memory.now cell.now) × (store.new ≡ store_at card (shelf_in s.old) place memory.now store.old cell.now) }
 {
     let settings = state::settings_at(s, place);
-    let way = way_of(card, settings, state::place_at(s, place), memory, cell);
-    let fate = fate_by(way);
-    let Way::Bus { routing, header } = way else {
-        return arrived(place, fate);
-    };
+    let Headers { routing, header } =
+        match way_of(card, settings, state::place_at(s, place), memory, cell) {
+            Ok(headers) => headers,
+            Err(fate) => {
+                return arrived(place, fate);
+            }
+        };
     let inlet = state::ring_at(s, 14, 15, place);
     if Unit::INLET <= inlet.count {
         return arrived(place, Arrival::Inletfull);
@@ -93,7 +83,7 @@ fn arrive_at(
     let tail = store::tail(inlet, Unit::INLET);
     store::put_cell(store, store::inlet_at(place, tail), &bytes);
     state::put_ring(s, 14, 15, place, store::pushed(inlet));
-    arrived(place, fate)
+    arrived(place, Arrival::Queued)
 }
 
 // Arrival of a cell at the unit with this number; everything but the counter rows, of which there are so many.

@@ -39,8 +39,7 @@ use Rattle.hearing.proofs.InPlace.{hear_other}
 use Rattle.taking.proofs.InPlace.{take_other}
 use Rattle.handing.proofs.InPlace.{hand_other, collect_other, control_inside as hand_inside}
 use Rattle.arriving.specs.Arriving as arriving
-use Rattle.arriving.specs.declared.Way.{Way}
-use Rattle.arriving.specs.declared.Way.TheVariants.{Bus, Lost}
+use Rattle.arriving.specs.Arriving.{Way}
 use Rattle.arriving.proofs.Leaves.{inlet_inside}
 use Rattle.bus.specs.Heard as H
 use Rattle.hearing.specs.Hearings as hearing
@@ -211,17 +210,17 @@ module _ (w : World) (i : ℕ) (housed : Housed i (unit_at w.shelf i) (length w.
   -- an arrival, by its way
   arrival : (way : Way) (c : List ℕ) → length c ≡ 53 → OnlyAt i w (ended w (arriving.done_by way w.shelf i) (arriving.store_by way u i w.store c) c).world
   unfolding arriving.done_by arriving.store_by
-  arrival (Lost fate) c whole = only_row w i (arrival_rises fate)
-  arrival (Bus routing header) c whole = pick (arriving.inlet_full u) refl
+  arrival (Err fate) c whole = only_row w i (arrival_rises fate)
+  arrival (Ok heads) c whole = pick (arriving.inlet_full u) refl
     where
       pick : (b : Bool) → arriving.inlet_full u ≡ b →
           OnlyAt i w
           (ended w (cond b (arriving.arrived w.shelf i Inletfull) (arriving.arrived (arriving.cell_in w.shelf i) i Queued))
-          (cond b w.store (put_at w.store i (inlet_slot (tail u.inlet 4)) (cell routing 0 header (part c 5 48)))) c).world
+          (cond b w.store (put_at w.store i (inlet_slot (tail u.inlet 4)) (cell heads.routing 0 heads.header (part c 5 48)))) c).world
       pick true t = only_row w i (arrival_rises Inletfull)
       pick false t =
           only_unit w i _ (in_row w.rows i (arrival_rises Queued)) _
-          (put_within w.store i (inlet_slot (tail u.inlet 4)) (cell routing 0 header (part c 5 48)) (composed c routing header whole)
+          (put_within w.store i (inlet_slot (tail u.inlet 4)) (cell heads.routing 0 heads.header (part c 5 48)) (composed c heads.routing heads.header whole)
           (inlet_inside i (part_of i + 8192) u.inlet own_part.inside housed.inlet (leb-false 4 u.inlet.count t)) housed.inside)
           (with_inlet u (pushed u.inlet))
 

@@ -1,5 +1,5 @@
 -- An arrival. Assumes nothing.
-use Rattle.std.specs.Prelude.{None, Option, Some}
+use Rattle.std.specs.Prelude.{None, Option, Some, Ok, Err}
 use Prim.Native.Nat.{ℕ, ◌<◌, ◌≤◌, ◌^◌}
 use native.Mathlib.Omega.{arith}
 use mathlib.Core.Path.{◌≡◌, refl, sym, ap, subst, ◌∙◌}
@@ -38,8 +38,7 @@ use Rattle.answer.specs.Answers.{arrival_rises, row}
 use Rattle.answer.specs.declared.Answer.TheVariants as answer
 use Rattle.soundness.specs.Admission.{unit_at, with_inlet, Housed}
 use Rattle.arriving.specs.Arriving as arriving
-use Rattle.arriving.specs.declared.Way.{Way}
-use Rattle.arriving.specs.declared.Way.TheVariants.{Bus, Lost}
+use Rattle.arriving.specs.Arriving.{Way}
 use Rattle.paper.specs.Counters.{arrival_counts}
 use Rattle.document.specs.Counters.{Entry, entries}
 use Rattle.document.specs.Shelf as D
@@ -72,8 +71,8 @@ served_in (Mc a session ∷ lines) r u v w = served_in lines r.1 u v w
 
 -- B. the way of a cell is the one that the document has
 abbrev pub way_in : P.Way → Way
-way_in (P.goes r) = Bus (routing r.target r.class) r.cell.header
-way_in (P.lost fate) = Lost fate
+way_in (P.goes r) = Ok (record { routing = (routing r.target r.class); header = r.cell.header })
+way_in (P.lost fate) = Err fate
 
 way_served : (o : Option Serving) → ServedIn o → (h : H.Header) (payload : List ℕ) → arriving.way_by (become o h) ≡ way_in (P.way_by o h payload)
 unfolding arriving.way_by P.way_by goes_by

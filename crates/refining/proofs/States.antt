@@ -39,8 +39,7 @@ use Rattle.soundness.specs.Admission.{at_unit, admitted, admitted_in, decided, u
 use Rattle.soundness.proofs.InPlace.{in_place}
 use Rattle.arriving.specs.Arriving as arriving
 use Rattle.arriving.specs.InPlace as arriving·
-use Rattle.arriving.specs.declared.Way.{Way}
-use Rattle.arriving.specs.declared.Way.TheVariants.{Bus, Lost}
+use Rattle.arriving.specs.Arriving.{Way}
 use Rattle.hearing.specs.Hearings.{plan_of}
 use Rattle.hearing.specs.InPlace as hearing·
 use Rattle.framing.specs.Moves.{moved_state, Moved, move, move_from, moved_in}
@@ -110,11 +109,11 @@ both_in c c' b s s' n n' unit right inside formed x y =
     ap (λ d. decided d inside (λ number. b)) (lets_in c b s n unit right formed x ∙ sym (lets_in c' b s' n' unit right formed y))
 
 -- B. an arrival: no cell is lost as queued
-not_queued : (card : Card) (u : U.Unit) (memory c : List ℕ) → arriving.way_of card u memory c ≡ Lost Queued → ⊥
+not_queued : (card : Card) (u : U.Unit) (memory c : List ℕ) → arriving.way_of card u memory c ≡ Err Queued → ⊥
 unfolding arriving.way_of arriving.way_by
 not_queued card u memory c e = by (sound_header (four c 0) (get_or c 4 0)) (translated (record_at card memory) u.settings.link u.settings.top u.place (four c 0)) e
   where
-    by : (k : Bool) (x : L.Looked) → cond k (arriving.way_by x) (Lost Hec) ≡ Lost Queued → ⊥
+    by : (k : Bool) (x : L.Looked) → cond k (arriving.way_by x) (Err Hec) ≡ Err Queued → ⊥
     by true looked.Ignored e = let z : ◌≡◌ {A = ℕ} 0 1 = cc in omega arith
     by true looked.Misrouted e = let z : ◌≡◌ {A = ℕ} 0 1 = cc in omega arith
     by true (looked.Goes routing header) e = let z : ◌≡◌ {A = ℕ} 0 1 = cc in omega arith
@@ -128,17 +127,17 @@ module _ (shelf : Shelf) (place : ℕ) where
   abbrev answer : Way → N.Answer
   answer way = (arriving.done_by way shelf place).reply.answer
 
-  lost_or_in : (f : A.Arrival) (k : Bool) (b more : List ℕ) → (Lost f ≡ Lost Queued → ⊥) →
+  lost_or_in : (f : A.Arrival) (k : Bool) (b more : List ℕ) → (Err f ≡ Err Queued → ⊥) →
       Arrived f ≡ (cond k (arriving.arrived shelf place Inletfull) (arriving.arrived (arriving.cell_in shelf place) place Queued)).reply.answer → b ≡ cond k b more
   lost_or_in f true b more other e = refl
-  lost_or_in f false b more other e = absurd (other (ap Lost (fate_is e)))
+  lost_or_in f false b more other e = absurd (other (ap Err (fate_is e)))
 
-  by_ways : (x y : Way) (b : List ℕ) → (x ≡ Lost Queued → ⊥) → (y ≡ Lost Queued → ⊥) → answer x ≡ answer y → arriving·.state_by x (unit_at shelf place) b place ≡ arriving·.state_by y (unit_at shelf place) b place
+  by_ways : (x y : Way) (b : List ℕ) → (x ≡ Err Queued → ⊥) → (y ≡ Err Queued → ⊥) → answer x ≡ answer y → arriving·.state_by x (unit_at shelf place) b place ≡ arriving·.state_by y (unit_at shelf place) b place
   unfolding arriving.done_by arriving·.state_by
-  by_ways (Lost f) (Lost g) b p q e = refl
-  by_ways (Lost f) (Bus routing header) b p q e = lost_or_in f (arriving.inlet_full (unit_at shelf place)) b _ p e
-  by_ways (Bus routing header) (Lost g) b p q e = sym (lost_or_in g (arriving.inlet_full (unit_at shelf place)) b _ q (sym e))
-  by_ways (Bus routing header) (Bus routing' header') b p q e = refl
+  by_ways (Err f) (Err g) b p q e = refl
+  by_ways (Err f) (Ok heads) b p q e = lost_or_in f (arriving.inlet_full (unit_at shelf place)) b _ p e
+  by_ways (Ok heads) (Err g) b p q e = sym (lost_or_in g (arriving.inlet_full (unit_at shelf place)) b _ q (sym e))
+  by_ways (Ok heads) (Ok heads') b p q e = refl
 
 answer_is : {x y : N.Answer} → answers x ≡ answers y → x ≡ y
 answer_is e = cc

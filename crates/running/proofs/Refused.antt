@@ -18,8 +18,7 @@ use Rattle.answer.specs.Counting.{settled_to}
 use Rattle.answer.specs.declared.Counters as C
 use Rattle.soundness.specs.Admission.{at_unit, admitted, decided, unit_at, with_unit}
 use Rattle.arriving.specs.Arriving as arriving
-use Rattle.arriving.specs.declared.Way.{Way}
-use Rattle.arriving.specs.declared.Way.TheVariants.{Bus, Lost}
+use Rattle.arriving.specs.Arriving.{Way}
 use Rattle.hearing.specs.Hearings as hearing
 use Rattle.outlet.specs.Taking.{leaving}
 use Rattle.taking.specs.Takes as taking
@@ -70,8 +69,8 @@ module _ (w : World) (inside : ℕ → Done) (store bytes : Result ℕ ℕ → L
 -- no event that is let in answers with a number
 arrive_none : (way : Way) (shelf : Shelf) (place : ℕ) → number_of (arriving.done_by way shelf place).reply.answer ≡ 0
 unfolding arriving.done_by number_of
-arrive_none (Lost fate) shelf place = refl
-arrive_none (Bus routing header) shelf place = pick (arriving.inlet_full (unit_at shelf place))
+arrive_none (Err fate) shelf place = refl
+arrive_none (Ok heads) shelf place = pick (arriving.inlet_full (unit_at shelf place))
   where
     pick : (b : Bool) → number_of (cond b (arriving.arrived shelf place Inletfull) (arriving.arrived (arriving.cell_in shelf place) place Queued)).reply.answer ≡ 0
     pick true = refl

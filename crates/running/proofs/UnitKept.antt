@@ -1,5 +1,5 @@
 -- Soundness is kept by what an event does at a unit. Assumes nothing.
-use Rattle.std.specs.Prelude.{None, Option, Some}
+use Rattle.std.specs.Prelude.{None, Option, Some, Ok, Err}
 use Prim.Native.Nat.{ℕ, ◌<◌, ◌≤◌}
 use native.Mathlib.Omega.{arith}
 use mathlib.Core.Path.{◌≡◌, refl, sym, subst, ◌∙◌}
@@ -31,8 +31,7 @@ use Rattle.answer.specs.Answers.{#taken, none, row, ends, refused}
 use Rattle.answer.specs.declared.Answer.TheVariants.{Handed, Taken, Empty}
 use Rattle.answer.specs.declared.Arrival.TheVariants.{Inletfull, Queued}
 use Rattle.arriving.specs.Arriving as arriving
-use Rattle.arriving.specs.declared.Way.{Way}
-use Rattle.arriving.specs.declared.Way.TheVariants.{Bus, Lost}
+use Rattle.arriving.specs.Arriving.{Way}
 use Rattle.arriving.proofs.Leaves.{inlet_inside}
 use Rattle.hearing.specs.Hearings as hearing
 use Rattle.taking.specs.Takes as taking
@@ -57,17 +56,17 @@ module _ (card : Card) (shelf : Shelf) (store c : List ℕ) (rows i : ℕ) (here
 
   pub arrived : (way : Way) → Sound card (arriving.done_by way shelf i).reply.shelf (length store) rows × (length (arriving.store_by way u i store c) ≡ length store)
   unfolding arriving.done_by arriving.store_by
-  arrived (Lost fate) = (sound, refl)
-  arrived (Bus routing header) = pick (arriving.inlet_full u) refl
+  arrived (Err fate) = (sound, refl)
+  arrived (Ok heads) = pick (arriving.inlet_full u) refl
     where
       pick : (b : Bool) → arriving.inlet_full u ≡ b →
           Sound card (cond b (arriving.arrived shelf i Inletfull) (arriving.arrived (arriving.cell_in shelf i) i Queued)).reply.shelf (length store) rows
-          × (length (cond b store (put_at store i (inlet_slot (tail u.inlet 4)) (cell routing 0 header (part c 5 48)))) ≡ length store)
+          × (length (cond b store (put_at store i (inlet_slot (tail u.inlet 4)) (cell heads.routing 0 heads.header (part c 5 48)))) ≡ length store)
       pick true t = (sound, refl)
       pick false t =
           let room : u.inlet.count < 4 = leb-false 4 u.inlet.count t in (
             shelf_changed card shelf (length store) rows i u.outlet (pushed u.inlet) u.side here sound housed.limits housed.queues (pushed_fits 4 u.inlet housed.inlet (omega arith) room) housed.side (omega (arith, more room)),
-            put_kept store i (inlet_slot (tail u.inlet 4)) (cell routing 0 header (part c 5 48)) (inlet_inside i (length store) u.inlet housed.inside housed.inlet room) (composed_length routing header),
+            put_kept store i (inlet_slot (tail u.inlet 4)) (cell heads.routing 0 heads.header (part c 5 48)) (inlet_inside i (length store) u.inlet housed.inside housed.inlet room) (composed_length heads.routing heads.header),
           )
 
 module _ (card : Card) (shelf : Shelf) (bytes rows i : ℕ) (here : i < length (declared shelf)) (sound : Sound card shelf bytes rows) (housed : Housed i (unit_at shelf i) bytes) where

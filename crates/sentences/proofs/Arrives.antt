@@ -1,5 +1,5 @@
 -- Arrival at a unit. Assumes nothing.
-use Rattle.std.specs.Prelude.{Ok}
+use Rattle.std.specs.Prelude.{Ok, Err}
 use Prim.Native.Nat.{ℕ, ◌+◌, ◌<◌}
 use native.Mathlib.Omega.{arith}
 use mathlib.Core.Path.{◌≡◌, refl, sym, ap, subst, ◌∙◌}
@@ -22,8 +22,7 @@ use Rattle.answer.specs.declared.Arrival as A
 use Rattle.answer.specs.declared.Arrival.TheVariants as arrival
 use Rattle.soundness.specs.Admission as admit
 use Rattle.arriving.specs.Arriving as arriving
-use Rattle.arriving.specs.declared.Way.{Way as Way·}
-use Rattle.arriving.specs.declared.Way.TheVariants.{Bus, Lost as Lost·}
+use Rattle.arriving.specs.Arriving.{Way as Way·}
 use Rattle.document.specs.Events.{arrive}
 use Rattle.running.specs.Events.{World, Outcome, happens, ended}
 use Rattle.paper.specs.Cells.{byte, four, pt, clp, header, bus_cell}
@@ -48,10 +47,10 @@ let_in card shelf bytes rows s unit place d right e = rw ((sound_iff card shelf 
 
 -- the way that the code finds
 code_way : Way → ℕ → Way·
-code_way hec h = Lost· arrival.Hec
-code_way ignored h = Lost· arrival.Ignored
-code_way misrouted h = Lost· arrival.Misrouted
-code_way (routed r v c) h = Bus r (header v c (pt h) (clp h))
+code_way hec h = Err arrival.Hec
+code_way ignored h = Err arrival.Ignored
+code_way misrouted h = Err arrival.Misrouted
+code_way (routed r v c) h = Ok (record { routing = r; header = (header v c (pt h) (clp h)) })
 
 looked_way : (way : Way) (h : ℕ) → (way ≡ hec → ⊥) → arriving.way_by (looked_as way h) ≡ code_way way h
 unfolding code_way arriving.way_by

@@ -13,21 +13,21 @@ use Rattle.arriving.proofs.InPlace.{lost_out, lost_state, lost_store, full_out, 
 use borrow.Author.Rules.{rules}
 use Rattle.arriving.proofs.arrive_at.Goals as goal
 
-pub returns-in_default : goal.returns-in_default
-returns-in_default c =
+pub returns-in-Err : goal.returns-in-Err
+returns-in-Err c =
     let a = c.args in
     let below = c.requires.2.below in
-    let w = c.way_of-way in
+    let w = c.way_of in
     let ew = w.ensures ∙ (λ i. way_for a.card (c.settings_at-settings.ensures i) (c.place_at.ensures i) a.memory.now a.cell.now) in
-    let e = c.in_default.is in record { result_value = ap outcome_by (c.arrived.ensures ∙ ap (arrived_with a.place) c.fate_by-fate.ensures) ∙ lost_out a.card a.s.now a.place below a.memory.now a.cell.now w.result ew _ e; kept = (lost_state a.card a.s.now a.place below a.memory.now a.cell.now w.result ew _ e, lost_store a.card a.s.now a.place below a.memory.now a.cell.now w.result ew _ e a.store.now) }
+    let e = c.in-Err.is in record { result_value = ap outcome_by c.arrived.ensures ∙ lost_out a.card a.s.now a.place below a.memory.now a.cell.now w.result ew _ e; kept = (lost_state a.card a.s.now a.place below a.memory.now a.cell.now w.result ew _ e, lost_store a.card a.s.now a.place below a.memory.now a.cell.now w.result ew _ e a.store.now) }
 
 pub returns-then-inlet-ge-INLET : goal.returns-then-inlet-ge-INLET
 returns-then-inlet-ge-INLET c =
     let a = c.args in
     let below = c.requires.2.below in
-    let w = c.way_of-way in
+    let w = c.way_of in
     let ew = w.ensures ∙ (λ i. way_for a.card (c.settings_at-settings.ensures i) (c.place_at.ensures i) a.memory.now a.cell.now) in
-    let e = c.in-Bus.is in
+    let e = c.in-Ok.is in
     let r = c.ring_at-inlet in
     let h = c.if-inlet-ge-INLET.true in record { result_value = ap outcome_by c.arrived-then-inlet-ge-INLET.ensures ∙ full_out a.card a.s.now a.place below a.memory.now a.cell.now w.result ew _ _ e r.result r.ensures h; kept = (full_state a.card a.s.now a.place below a.memory.now a.cell.now w.result ew _ _ e r.result r.ensures h, full_store a.card a.s.now a.place below a.memory.now a.cell.now w.result ew _ _ e r.result r.ensures h a.store.now) }
 
@@ -38,9 +38,9 @@ pub put_cell-requires : goal.put_cell-requires
 put_cell-requires c =
     let a = c.args in
     let below = c.requires.2.below in
-    let w = c.way_of-way in
+    let w = c.way_of in
     let ew = w.ensures ∙ (λ i. way_for a.card (c.settings_at-settings.ensures i) (c.place_at.ensures i) a.memory.now a.cell.now) in
-    let e = c.in-Bus.is in
+    let e = c.in-Ok.is in
     let r = c.ring_at-inlet in
     let at = c.inlet_at.ensures ∙ ap (λ p. slot_at a.place (inlet_slot p)) c.tail-tail.ensures in
     (search rules, subst (λ n. n + 56 ≤ length a.store.now) (sym at) (inlet_room a.card a.s.now a.place below a.memory.now a.cell.now w.result ew _ _ e r.result r.ensures (length a.store.now) c.requires.2 c.if-inlet-ge-INLET.false))
@@ -53,13 +53,13 @@ unfolding put_at
 returns c =
     let a = c.args in
     let below = c.requires.2.below in
-    let w = c.way_of-way in
+    let w = c.way_of in
     let ew = w.ensures ∙ (λ i. way_for a.card (c.settings_at-settings.ensures i) (c.place_at.ensures i) a.memory.now a.cell.now) in
-    let e = c.in-Bus.is in
+    let e = c.in-Ok.is in
     let r = c.ring_at-inlet in
     let at = c.inlet_at.ensures ∙ ap (λ p. slot_at a.place (inlet_slot p)) c.tail-tail.ensures in
     let h = c.if-inlet-ge-INLET.false in record {
-      result_value = ap outcome_by (c.arrived-2.ensures ∙ ap (arrived_with a.place) c.fate_by-fate.ensures) ∙ queued_out a.card a.s.now a.place below a.memory.now a.cell.now w.result ew _ _ e r.result r.ensures h;
+      result_value = ap outcome_by c.arrived-2.ensures ∙ queued_out a.card a.s.now a.place below a.memory.now a.cell.now w.result ew _ _ e r.result r.ensures h;
       kept = (
         c.put_ring.ensures ∙ ap (with_ring a.s.now 14 15 a.place) c.pushed.ensures ∙ queued_state a.card a.s.now a.place below a.memory.now a.cell.now w.result ew _ _ e r.result r.ensures h,
         c.put_cell.ensures ∙ (λ i. splice a.store.now (at i) (c.compose.ensures i)) ∙ queued_store a.card a.s.now a.place below a.memory.now a.cell.now w.result ew _ _ e r.result r.ensures h a.store.now,
