@@ -6,7 +6,6 @@ ghost use Rattle.entry.specs.Outcomes.{arrives, frames, hears, takes, hands, col
 
 use answer::{Answer, Counters};
 use card::Card;
-use framing::Framed;
 
 // A route table is loaded.
 pub fn load(
@@ -44,19 +43,6 @@ pub fn arrive(
     answer::answer_by(done)
 }
 
-// The parts of what a frame comes to: up to which row counters rise; what is given back.
-fn framed_to(done: Framed) -> usize
-    ensures { result ≡ done.to }
-{
-    done.to
-}
-
-fn framed_answer(done: Framed) -> Answer
-    ensures { result ≡ done.answer }
-{
-    done.answer
-}
-
 // A frame on the bus. What rises at each unit is written into an array of its own, and read back from there.
 pub fn frame(
     card: Card,
@@ -70,9 +56,8 @@ pub fn frame(
     let n = rows.len();
     let mut each = [0; 32];
     let done = framing::frame(card, state, store, n, buffer, &mut each);
-    let to = framed_to(done);
-    answer::raise(rows, 0, &each, to);
-    framed_answer(done)
+    answer::raise(rows, 0, &each, done.to);
+    done.answer
 }
 
 // A frame is handed in to a unit.

@@ -138,31 +138,25 @@ fn renew_all(s: &[u8], asks: [u8; 32]) -> Arbiter
 }
 
 // One for a copy that is queued.
+#[tactic(auto, unfolding(answer::specs::Answers::queued_one))]
 fn queued_one(fate: Hearing) -> u8
     ensures value { result ≡ queued_one fate }
     ensures small { result ≤ 1 }
 {
     match fate {
-        Hearing::Damaged => 0,
-        Hearing::Other => 0,
-        Hearing::Wide => 0,
-        Hearing::Full => 0,
-        Hearing::Clp => 0,
         Hearing::Queued => 1,
+        _ => 0,
     }
 }
 
 // Whether a frame with this fate at a unit is addressed to it.
+#[tactic(auto, unfolding(answer::specs::Answers::is_addressed))]
 fn is_addressed(fate: Hearing) -> bool
     ensures { result ≡ is_addressed fate }
 {
     match fate {
-        Hearing::Damaged => false,
-        Hearing::Other => false,
-        Hearing::Wide => true,
-        Hearing::Full => true,
-        Hearing::Clp => true,
-        Hearing::Queued => true,
+        Hearing::Damaged | Hearing::Other => false,
+        _ => true,
     }
 }
 

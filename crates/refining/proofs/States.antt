@@ -127,7 +127,7 @@ module _ (shelf : Shelf) (place : ℕ) where
   abbrev answer : Way → N.Answer
   answer way = (arriving.done_by way shelf place).reply.answer
 
-  lost_or_in : (f : A.Arrival) (k : Bool) (b more : List ℕ) → (Err f ≡ Err Queued → ⊥) →
+  lost_or_in : (f : A.Arrival) (k : Bool) (b more : List ℕ) → (◌≡◌ {A = Way} (Err f) (Err Queued) → ⊥) →
       Arrived f ≡ (cond k (arriving.arrived shelf place Inletfull) (arriving.arrived (arriving.cell_in shelf place) place Queued)).reply.answer → b ≡ cond k b more
   lost_or_in f true b more other e = refl
   lost_or_in f false b more other e = absurd (other (ap Err (fate_is e)))

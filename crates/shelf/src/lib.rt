@@ -50,7 +50,7 @@ impl Unit {
 pub fn declared_count(count: u8) -> usize
     ensures { result ≡ min count 32 }
 {
-    if count < 32 { count as usize } else { 32 }
+    usize::from(count).min(32)
 }
 
 // Whether a unit with these sessions hears this one.

@@ -234,11 +234,7 @@ fn begin() -> Progress
 fn usable(bytes: usize) -> usize
     ensures { result ≡ min bytes 262144 }
 {
-    if bytes < lookup::MOST {
-        bytes
-    } else {
-        lookup::MOST
-    }
+    bytes.min(lookup::MOST)
 }
 
 // Reads the lines of a text into a memory that is zero and a fresh state, up to the first faulty one.

@@ -10,14 +10,14 @@ returns c =
     let rows = c.args.rows.now in
     let sets = c.frame-done.new.each in
     let e = c.frame-done.ensures.each_after in (
-      c.framed_answer.ensures ∙ ap (λ (o : Outcome). o.answer) e.0,
+      ap (λ (o : Outcome). o.answer) e.0,
       (
         e.1.0,
         (
           e.1.1.0,
           (
             e.1.1.1,
-            c.raise.ensures ∙ ap (raised_from rows 0 sets) c.framed_to-to.ensures ∙ raised_all rows sets c.frame-done.result.to c.frame-done.result.to ∙ ap (λ (o : Outcome). settled rows o.rises) e.0,
+            c.raise.ensures ∙ raised_all rows sets c.frame-done.result.to c.frame-done.result.to ∙ ap (λ (o : Outcome). settled rows o.rises) e.0,
           ),
         ),
       ),
