@@ -37,10 +37,8 @@ pub fn check(upper: u16) -> u8
     ensures { result ≡ check_of upper }
 {
     let mut rest: u8 = 0;
-    let mut left: u16 = 12;
-    while 0 < left {
-        left -= 3;
-        rest = pass(rest, ((upper >> left) % 8) as u8);
+    for turn in 0..4u16 {
+        rest = pass(rest, ((upper >> (9 - 3 * turn)) % 8) as u8);
     }
     rest
 }
@@ -75,6 +73,7 @@ fn control_to(unit: u8) -> u16
 }
 
 // What a routing header says.
+#[tactic(auto, using(std::proofs::lemmas::Bool::Decides::nat_tests), unfolding(crate::specs::Routing::address))]
 pub fn read(routing: u16) -> Address
     ensures { result ≡ address_of routing }
 {
@@ -83,39 +82,21 @@ pub fn read(routing: u16) -> Address
     if (check(routing / 16) as u16) != routing % 16 {
         return Address::Bad;
     }
-    let kind = routing / 16384 % 4;
-    if kind == 0 {
-        if number <= 31 {
-            let target = Target::Unit(number);
-            return Address::To { target, class };
-        }
-        return Address::Bad;
-    }
-    if kind == 1 {
-        let target = Target::Session(number);
-        return Address::To { target, class };
-    }
-    if kind == 2 {
-        if number == 0 {
-            let target = Target::All;
-            return Address::To { target, class };
-        }
-        return Address::Bad;
-    }
-    Address::Third { class, number }
+    let target = match (routing / 16384 % 4, number) {
+        (0, 0..=31) => Target::Unit(number),
+        (1, _) => Target::Session(number),
+        (2, 0) => Target::All,
+        (3, _) => return Address::Third { class, number },
+        _ => return Address::Bad,
+    };
+    Address::To { target, class }
 }
 
 // The exclusive-or of some bytes.
 pub fn parity(bytes: &[u8]) -> u8
     ensures { result ≡ parity_of bytes.now }
 {
-    let mut p: u8 = 0;
-    let mut i: usize = 0;
-    while i < bytes.len() {
-        p = p ^ bytes[i];
-        i += 1;
-    }
-    p
+    bytes.iter().fold(0, |p, b| p ^ *b)
 }
 
 // Writes the 56 bytes of a cell as it goes on the bus, before parity. The tandem header is zero.
@@ -129,15 +110,12 @@ pub fn compose(routing: u16, header: u32, payload: &[u8], bytes: &mut [u8])
     octets::copy(payload, bytes, 8);
 }
 
-// Writes the frame of a cell: its 56 bytes, and their parity. The bytes go by way of a local array: the compiler then
-// knows that the two do not overlap, and copies in words.
+// Writes the frame of a cell: its 56 bytes, and their parity.
 pub fn seal(bytes: &[u8], frame: &mut [u8])
     requires { (length bytes.now ≡ 56) × (length frame.old ≡ 57) }
     ensures { frame.new ≡ sealed bytes.now }
 {
-    let mut cell = [0; 56];
-    octets::copy(&bytes[..56], &mut cell, 0);
-    octets::copy(&cell, frame, 0);
+    octets::copy(&bytes[..56], frame, 0);
     frame[56] = parity(bytes);
 }
 

@@ -100,10 +100,8 @@ pub fn check(word: u32) -> u8
     ensures { result ≡ check_of word }
 {
     let mut rest: u8 = 0;
-    let mut left: u32 = 36;
-    while 0 < left {
-        left -= 6;
-        rest = pass(rest, ((word >> left) % 64) as u8);
+    for turn in 0..6u32 {
+        rest = pass(rest, ((word >> (30 - 6 * turn)) % 64) as u8);
     }
     rest ^ 0x55
 }
