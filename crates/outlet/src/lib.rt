@@ -5,7 +5,7 @@
 ghost use Rattle.std.specs.Prelude.{◌≡◌, ◌-◌};
 ghost use Rattle.outlet.specs.Outlets.{empty as empty_of, fresh as fresh_of, one as one_of, four as four_of, capacity as capacity_of, queue as ring_of, Given};
 ghost use Rattle.outlet.specs.Hearing.{queue_of, limit as limit_in, held as held_in, at_limit, too_wide, fate_at, fate_in};
-ghost use Rattle.outlet.specs.Taking.{leaving, marks as marks_it, marked as marked_of, outgoing as outgoing_of};
+ghost use Rattle.outlet.specs.Taking.{queues as queues_in, leaving, marks as marks_it, marked as marked_of, outgoing as outgoing_of};
 
 use header::{Header, Link};
 
@@ -113,17 +113,6 @@ impl Outlet {
     }
 }
 
-// What the VBR queue of mode four holds.
-fn rest(cbrlength: u8) -> u8
-    ensures { result ≡ 89 - cbrlength }
-{
-    if cbrlength <= Outlet::SHARED {
-        Outlet::SHARED - cbrlength
-    } else {
-        0
-    }
-}
-
 // How many cells a queue holds; 0 where there is no such queue.
 pub fn capacity(limits: Limits, queue: u8) -> u8
     ensures { result ≡ capacity_of limits queue }
@@ -137,7 +126,7 @@ pub fn capacity(limits: Limits, queue: u8) -> u8
         Mode::Four => match queue {
             0 => Outlet::CONTROL,
             1 => limits.cbrlength,
-            2 => rest(limits.cbrlength),
+            2 => Outlet::SHARED.saturating_sub(limits.cbrlength),
             3 => Outlet::ABR,
             _ => 0,
         },
@@ -253,26 +242,24 @@ pub fn fate_in(capacity: u8, limit: u8, held: u8, link: Link, header: u32) -> Fa
     fate_at(held, capacity, limit, clp)
 }
 
+// How many queues there are in a mode.
+fn queues(mode: Mode) -> u8
+    ensures { result ≡ queues_in mode }
+{
+    match mode {
+        Mode::One => 1,
+        Mode::Four => 4,
+    }
+}
+
 // Which cell leaves next.
 pub fn leaving_of(outlet: Outlet) -> Leaving
     ensures { result ≡ leaving outlet }
 {
-    let limits = outlet.limits;
-    let mode = limits.mode;
-    if 0 < held(outlet, 0) {
-        return Leaving::Queue(0);
-    }
-    let Mode::Four = mode else {
-        return Leaving::Empty;
-    };
-    if 0 < held(outlet, 1) {
-        return Leaving::Queue(1);
-    }
-    if 0 < held(outlet, 2) {
-        return Leaving::Queue(2);
-    }
-    if 0 < held(outlet, 3) {
-        return Leaving::Queue(3);
+    for q in 0..queues(outlet.limits.mode) {
+        if 0 < held(outlet, q) {
+            return Leaving::Queue(q);
+        }
     }
     Leaving::Empty
 }

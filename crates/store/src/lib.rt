@@ -90,15 +90,12 @@ pub fn control_at(place: usize, p: u8) -> usize
     slot_at(place, CONTROL_OUT + (p as u16))
 }
 
-// Writes a cell into the store, by way of a local array: the compiler then knows that the two do not overlap, and copies
-// in words.
+// Writes a cell into the store.
 pub fn put_cell(store: &mut [u8], at: usize, cell: &[u8])
     requires { (length cell.now ≡ 56) × (at + 56 ≤ length store.old) }
     ensures { store.new ≡ splice store.old at cell.now }
 {
-    let mut bytes = [0; 56];
-    octets::copy(&cell[..56], &mut bytes, 0);
-    octets::copy(&bytes, store, at);
+    octets::copy(&cell[..CELL], store, at);
 }
 
 // The cell that stands in the store.
@@ -106,65 +103,47 @@ pub fn get_cell(store: &[u8], at: usize) -> &[u8]
     requires { at + 56 ≤ length store.now }
     ensures { result.now ≡ part store.now at 56 }
 {
-    let end = at + CELL;
-    &store[at..end]
-}
-
-// A number in a byte, as far as it goes.
-fn small(n: u16) -> u8
-    ensures { result ≡ min n 255 }
-{
-    if n < 255 { n as u8 } else { 255 }
-}
-
-// One less, if there is one.
-fn less(n: u8) -> u8
-    ensures { result ≡ n - 1 }
-{
-    if 0 < n { n - 1 } else { 0 }
+    &store[at..at + CELL]
 }
 
 // The place after a place of a ring.
+#[tactic(auto, using(std::proofs::lemmas::Bool::Decides::nat_tests), unfolding(crate::specs::Rings::next))]
 fn next(place: u8, capacity: u8) -> u8
     ensures { result ≡ next_of capacity place }
 {
-    let after = (place as u16) + 1;
-    if after < (capacity as u16) {
-        place + 1
-    } else {
-        0
-    }
+    let after = place.saturating_add(1);
+    if after < capacity { after } else { 0 }
 }
 
 // The place past the newest cell of a ring: where the next one goes.
+#[tactic(auto, using(std::proofs::lemmas::Bool::Decides::nat_tests), unfolding(crate::specs::Rings::tail, crate::specs::Rings::back))]
 pub fn tail(ring: Ring, capacity: u8) -> u8
     ensures { result ≡ tail_of ring capacity }
 {
-    let past = (ring.head as u16) + (ring.count as u16);
-    let end = capacity as u16;
-    if past < end {
-        small(past)
-    } else {
-        small(past - end)
-    }
+    let past = u16::from(ring.head) + u16::from(ring.count);
+    let end = u16::from(capacity);
+    let place = if past < end { past } else { past - end };
+    place.min(255) as u8
 }
 
 // A ring with one cell more.
+#[tactic(auto, unfolding(crate::specs::Rings::pushed))]
 pub fn pushed(ring: Ring) -> Ring
     ensures { result ≡ pushed_of ring }
 {
     Ring {
         head: ring.head,
-        count: small((ring.count as u16) + 1),
+        count: ring.count.saturating_add(1),
     }
 }
 
 // A ring without its oldest cell.
+#[tactic(auto, unfolding(crate::specs::Rings::popped))]
 pub fn popped(ring: Ring, capacity: u8) -> Ring
     ensures { result ≡ popped_of ring capacity }
 {
     Ring {
         head: next(ring.head, capacity),
-        count: less(ring.count),
+        count: ring.count.saturating_sub(1),
     }
 }

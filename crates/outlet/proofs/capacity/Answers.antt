@@ -19,7 +19,7 @@ returns-in-1 c = rw (c.in-Four.is, c.in-1.is)
 
 pub returns-in-2 : goal.returns-in-2
 unfolding capacity
-returns-in-2 c = rw (c.in-Four.is, c.in-2.is) c.rest.ensures
+returns-in-2 c = rw (c.in-Four.is, c.in-2.is) c.saturating_sub.ensures
 
 pub returns-in-3 : goal.returns-in-3
 unfolding capacity

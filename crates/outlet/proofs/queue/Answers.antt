@@ -1,9 +1,3 @@
-use mathlib.Core.Path.{◌≡◌, sym, ◌∙◌}
-use lib.ListN.{length, get_or-eq_default}
-use native.Mathlib.Omega.{arith}
-use Rattle.outlet.specs.Outlets.{empty}
-use Rattle.outlet.proofs.Laws.{length_mapped}
-use borrow.Author.Rules.{rules}
 use Rattle.outlet.proofs.queue.Goals as goal
 
 pub returns-in-0 : goal.returns-in-0
