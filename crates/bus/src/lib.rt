@@ -110,12 +110,15 @@ pub fn compose(routing: u16, header: u32, payload: &[u8], bytes: &mut [u8])
     octets::copy(payload, bytes, 8);
 }
 
-// Writes the frame of a cell: its 56 bytes, and their parity.
+// Writes the frame of a cell: its 56 bytes, and their parity. The bytes go by way of a local array: the compiler then
+// knows that the two do not overlap, and copies in words.
 pub fn seal(bytes: &[u8], frame: &mut [u8])
     requires { (length bytes.now ≡ 56) × (length frame.old ≡ 57) }
     ensures { frame.new ≡ sealed bytes.now }
 {
-    octets::copy(&bytes[..56], frame, 0);
+    let mut cell = [0; 56];
+    octets::copy(&bytes[..56], &mut cell, 0);
+    octets::copy(&cell, frame, 0);
     frame[56] = parity(bytes);
 }
 

@@ -16,11 +16,6 @@ use Rattle.outlet.proofs.Fates.{limit_in}
 use Rattle.outlet.specs.declared.Leaving.{Leaving}
 use Rattle.outlet.specs.declared.Leaving.TheVariants.{Queue, Empty}
 
--- in each mode
-pub leaving_in : (outlet : Outlet) (mode : Mode) → outlet.limits.mode ≡ mode → leaving outlet ≡ lowest (held outlet) 0 (queues mode)
-unfolding leaving
-leaving_in outlet mode e = ap (λ m. lowest (held outlet) 0 (queues m)) e
-
 pub marks_in : (outlet : Outlet) (mode : Mode) → outlet.limits.mode ≡ mode → marks outlet ≡ (outlet.limits.mark && congested_in mode outlet)
 unfolding marks
 marks_in outlet mode e = ap (λ m. outlet.limits.mark && congested_in m outlet) e

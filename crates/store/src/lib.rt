@@ -90,12 +90,15 @@ pub fn control_at(place: usize, p: u8) -> usize
     slot_at(place, CONTROL_OUT + (p as u16))
 }
 
-// Writes a cell into the store.
+// Writes a cell into the store, by way of a local array: the compiler then knows that the two do not overlap, and copies
+// in words.
 pub fn put_cell(store: &mut [u8], at: usize, cell: &[u8])
     requires { (length cell.now ≡ 56) × (at + 56 ≤ length store.old) }
     ensures { store.new ≡ splice store.old at cell.now }
 {
-    octets::copy(&cell[..CELL], store, at);
+    let mut bytes = [0; 56];
+    octets::copy(&cell[..56], &mut bytes, 0);
+    octets::copy(&bytes, store, at);
 }
 
 // The cell that stands in the store.

@@ -1,8 +1,9 @@
 use native.Mathlib.Omega.{arith}
-use mathlib.Core.Path.{sym, ap, ◌∙◌}
-use lib.ListN.{set}
-use lib.Seq.{length-take-le, take_all}
+use mathlib.Core.Path.{refl, sym, ap, ◌∙◌}
+use lib.ListN.{replicate, set}
+use lib.Seq.{length-take-le}
 use Rattle.octets.specs.Octets.{splice}
+use Rattle.octets.proofs.Parts.{copied}
 use Rattle.bus.proofs.Laws.{sealed_by}
 use Rattle.bus.proofs.seal.Goals as goal
 
@@ -15,5 +16,5 @@ copy-requires c = let s = c in let e = length-take-le 56 s.args.bytes.now (omega
 pub returns : goal.returns
 returns c =
     let s = c in
-    let e = c.copy.ensures ∙ ap (splice s.args.frame.now 0) (take_all 56 s.args.bytes.now (omega (arith, s.requires.0))) in
+    let e = c.copy-2.ensures ∙ ap (splice s.args.frame.now 0) (c.copy.ensures ∙ copied 56 (replicate 56 0) s.args.bytes.now refl s.requires.0) in
     (λ i. set (e i) 56 (c.parity.ensures i)) ∙ sealed_by s.args.bytes.now s.args.frame.now s.requires.0 s.requires.1
