@@ -44,6 +44,7 @@ pub fn check(upper: u16) -> u8
 }
 
 // The upper 12 bits of a routing header. A class keeps its two low bits.
+#[tactic(auto, unfolding(crate::specs::Routing::upper))]
 fn upper(target: Target, class: u8) -> u16
     ensures value { result ≡ upper_of target class }
     ensures small { result < 4096 }

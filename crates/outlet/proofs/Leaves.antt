@@ -1,7 +1,7 @@
 -- Which cell leaves and whether it is marked, in plain facts; what its header keeps. Assumes nothing.
 use mathlib.Core.Path.{◌≡◌, refl, ap, subst, ◌∙◌}
 use mathlib.Core.Logic.{◌↔◌, inr}
-use mathlib.Core.Bool.{Bool, true, false, ◌&&◌, cond}
+use mathlib.Core.Bool.{Bool, true, false, cond}
 use Prim.Native.Nat.{ℕ, zero, suc, ◌+◌, ◌-◌, ◌≤◌, ◌<◌}
 use native.Mathlib.Omega.{arith}
 use lib.Dec.{eqb, ltb}
@@ -15,10 +15,6 @@ use Rattle.outlet.specs.Taking.{queues, lowest, leaving, LeavingOf, congested_in
 use Rattle.outlet.proofs.Fates.{limit_in}
 use Rattle.outlet.specs.declared.Leaving.{Leaving}
 use Rattle.outlet.specs.declared.Leaving.TheVariants.{Queue, Empty}
-
-pub marks_in : (outlet : Outlet) (mode : Mode) → outlet.limits.mode ≡ mode → marks outlet ≡ (outlet.limits.mark && congested_in mode outlet)
-unfolding marks
-marks_in outlet mode e = ap (λ m. outlet.limits.mark && congested_in m outlet) e
 
 pub leaving_first : (outlet : Outlet) → 0 < held outlet 0 → leaving outlet ≡ Queue 0
 unfolding leaving lowest

@@ -114,6 +114,7 @@ impl Outlet {
 }
 
 // How many cells a queue holds; 0 where there is no such queue.
+#[tactic(auto, unfolding(crate::specs::Outlets::capacity))]
 pub fn capacity(limits: Limits, queue: u8) -> u8
     ensures { result ≡ capacity_of limits queue }
 {
@@ -165,6 +166,7 @@ pub enum Leaving {
 }
 
 // The queue that holds a class; a class has two bits.
+#[tactic(auto, unfolding(crate::specs::Hearing::queue_of))]
 pub fn queue_of(limits: Limits, class: u8) -> u8
     ensures { result ≡ queue_of limits class }
 {
@@ -176,6 +178,7 @@ pub fn queue_of(limits: Limits, class: u8) -> u8
 }
 
 // From how many cells on a queue takes none with CLP 1: its limit, or its capacity where it has no limit.
+#[tactic(auto, using(std::proofs::lemmas::Bool::Decides::nat_tests), unfolding(crate::specs::Hearing::limit))]
 pub fn limit(limits: Limits, queue: u8) -> u8
     ensures { result ≡ limit_in limits queue }
 {
@@ -202,6 +205,7 @@ pub fn held(outlet: Outlet, queue: u8) -> u8
 }
 
 // Whether a queue is at its limit or above.
+#[tactic(auto, unfolding(crate::specs::Hearing::at_limit))]
 pub fn at_limit(outlet: Outlet, queue: u8) -> bool
     ensures { result ≡ at_limit outlet queue }
 {
@@ -209,6 +213,7 @@ pub fn at_limit(outlet: Outlet, queue: u8) -> bool
 }
 
 // Whether the VPI of a bus header is above what a UNI unit can write.
+#[tactic(auto, unfolding(crate::specs::Hearing::too_wide))]
 fn too_wide(link: Link, header: u32) -> bool
     ensures { result ≡ too_wide link header }
 {
@@ -219,6 +224,7 @@ fn too_wide(link: Link, header: u32) -> bool
 }
 
 // What befalls a copy with this CLP at a queue that holds so many cells.
+#[tactic(auto, using(std::proofs::lemmas::Bool::Decides::nat_tests), unfolding(crate::specs::Hearing::fate_at))]
 pub fn fate_at(held: u8, capacity: u8, limit: u8, clp: u8) -> Fate
     ensures { result ≡ fate_at held capacity limit clp }
 {
@@ -265,6 +271,7 @@ pub fn leaving_of(outlet: Outlet) -> Leaving
 }
 
 // Whether the outlet marks the user cell that leaves next.
+#[tactic(auto, unfolding(crate::specs::Taking::marks))]
 pub fn marks(outlet: Outlet) -> bool
     ensures { result ≡ marks_it outlet }
 {
@@ -277,6 +284,7 @@ pub fn marks(outlet: Outlet) -> bool
 }
 
 // A PT with its middle bit set, where it is marked.
+#[tactic(auto, unfolding(crate::specs::Taking::marked))]
 fn marked(mark: bool, pt: u8) -> u8
     ensures { result ≡ marked_of mark pt }
 {

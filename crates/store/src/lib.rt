@@ -31,6 +31,7 @@ const CONTROL_OUT: u16 = 129;
 pub const LOOPBACK_OUT: u16 = 133;
 
 // Where the part of the unit in a place starts.
+#[tactic(auto, unfolding(crate::specs::Places::part_of))]
 pub fn part_of(place: usize) -> usize
     requires { place < 32 }
     ensures { result ≡ part_of place }
@@ -47,6 +48,7 @@ pub fn slot_at(place: usize, slot: u16) -> usize
 }
 
 // The slot where a queue's ring starts.
+#[tactic(auto, unfolding(crate::specs::Places::start))]
 pub fn start(limits: Limits, queue: u8) -> u16
     ensures { result ≡ start_of limits queue }
 {
