@@ -22,7 +22,7 @@ pub struct Grant {
     pub asks: [u8; 32],
 }
 
-// What a grant answers: the new arbiter, and the unit granted, or NOBODY.
+// What a grant answers: the new arbiter, and the unit granted, or NOBODY. Beside Grant, since `granting` in crates/document says it so.
 #[derive(Clone, Copy)]
 pub struct Granted {
     pub arbiter: Arbiter,

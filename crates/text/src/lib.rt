@@ -195,6 +195,7 @@ pub fn put_decimal(out: &mut [u8], at: usize, n: u64) -> usize
     let mut digits = [0u8; 20];
     let mut left = n;
     let mut k: usize = 20;
+    // No count: it ends where no digits are left.
     while 9 < left {
         k -= 1;
         digits[k] = 48 + (left % 10) as u8;
