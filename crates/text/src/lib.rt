@@ -3,7 +3,6 @@
 #![tactic(auto)]
 
 ghost use Rattle.std.specs.Prelude.{◌≡◌, ◌+◌, ◌<◌, ◌≤◌, ◌*◌, ◌/◌, length, drop, true};
-ghost use Rattle.std.specs.Int.Bits.{bit_xor};
 ghost use Rattle.octets.specs.Octets.{splice};
 ghost use Rattle.text.specs.Text.{line_from, at, split, fields_of, field_of, after_of, same};
 ghost use Rattle.text.specs.Digits.{digits as digits_of, decimal_of};
@@ -251,20 +250,11 @@ pub fn number(s: &[u8], most: u64) -> Numeral
     Numeral::Is(v)
 }
 
-// A call, so that its result is known to be a byte.
-fn mix(byte: u8, low: u8) -> u8
-    ensures { result ≡ bit_xor byte low }
-{
-    byte ^ low
-}
-
 // The sum after one byte more.
 fn step(sum: u32, byte: u8) -> u32
     ensures { result ≡ stepped sum byte }
 {
-    let low = mix(byte, (sum % 256) as u8);
-    let mixed = (sum / 256) as u64 * 256 + (low as u64);
-    (mixed * 16777619 % 4294967296) as u32
+    (sum ^ u32::from(byte)).wrapping_mul(16777619)
 }
 
 // The sum of all bytes.
