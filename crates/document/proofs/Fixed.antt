@@ -1,4 +1,5 @@
 -- What no event changes: the lines, and the settings and limits of the units. Assumes nothing.
+use Rattle.std.specs.Prelude.{None, Some}
 use Prim.Native.Nat.{ℕ}
 use native.Mathlib.Omega.{arith}
 use mathlib.Core.Path.{◌≡◌, refl, sym, ap, ◌∙◌}
@@ -10,8 +11,6 @@ use lib.ListN.{length, set}
 use lib.Seq.{map-set_same}
 use Rattle.bus.specs.Heard as sort
 use Rattle.outlet.specs.declared.Limits.{Limits}
-use Rattle.outlet.specs.declared.Leaving as L
-use Rattle.outlet.specs.declared.Leaving.TheVariants as leaves
 use Rattle.shelf.specs.declared.Settings.{Settings}
 use Rattle.shelf.specs.declared.Found as F
 use Rattle.shelf.specs.declared.Found.TheVariants as found
@@ -106,10 +105,10 @@ unfolding takes_from
 took_from [] d place q buffer = refl
 took_from (c ∷ cells) d place q buffer = map-set_same given_of d.units place (with_queue (unit_at d place) q cells) blank refl
 
-took : (l : L.Leaving) (d : Shelf) (place : ℕ) (buffer : List ℕ) → given (takes_by l d place buffer).shelf ≡ given d
+took : (l : Option ℕ) (d : Shelf) (place : ℕ) (buffer : List ℕ) → given (takes_by l d place buffer).shelf ≡ given d
 unfolding takes_by
-took (leaves.Queue q) d place buffer = took_from _ d place q buffer
-took leaves.Empty d place buffer = refl
+took (Some q) d place buffer = took_from _ d place q buffer
+took None d place buffer = refl
 
 -- the processor's events
 handed_into : (cells : List (List ℕ)) (d : Shelf) (place : ℕ) (c : List ℕ) → given (hands_into cells d place c).shelf ≡ given d

@@ -1,13 +1,11 @@
 -- 01's Take. Assumes nothing.
-use Rattle.std.specs.Prelude.{ℕ, Bool, ◌&&◌, ◌||◌, List, [], ◌∷◌, ◌++◌, leb}
+use Rattle.std.specs.Prelude.{ℕ, Bool, ◌&&◌, ◌||◌, List, [], ◌∷◌, ◌++◌, leb, None, Option, Some}
 use Rattle.octets.specs.Octets.{be4}
 use Rattle.header.specs.Check.{check}
 use Rattle.outlet.specs.declared.Mode.{Mode}
 use Rattle.outlet.specs.declared.Mode.TheVariants.{One, Four}
 use Rattle.outlet.specs.Hearing.{limit}
 use Rattle.outlet.specs.Taking.{lowest, queues, outgoing}
-use Rattle.outlet.specs.declared.Leaving as L
-use Rattle.outlet.specs.declared.Leaving.TheVariants as leaves
 use Rattle.answer.specs.declared.Answer as A
 use Rattle.answer.specs.declared.Answer.TheVariants.{Taken, Empty}
 use Rattle.paper.specs.Counters.{taken}
@@ -19,7 +17,7 @@ unfoldable pub line_cell : ℕ → List ℕ → List ℕ
 line_cell header payload = be4 header ++ (check header ∷ payload)
 
 -- "the oldest cell (mode `one`) or the oldest cell of the lowest class held (mode `four`), or `empty`": the queue that it leaves
-abbrev pub leaving : Unit → L.Leaving
+abbrev pub leaving : Unit → Option ℕ
 leaving u = lowest (held u) 0 (queues u.limits.mode)
 
 -- "If mark is 1 and, counted before it leaves, CBR or VBR is at its limit or above (mode `one`: the queue at the VBR limit or above)"
@@ -53,9 +51,9 @@ takes_from (c ∷ rest) shelf place q buffer =
     let u = unit_at shelf place in
     record { answer = Taken; shelf = after shelf place (with_queue u q rest) (entries (number_of u) (taken ∷ [])); bytes = handed u c }
 
-unfoldable pub takes_by : L.Leaving → Shelf → ℕ → List ℕ → Took
-takes_by (leaves.Queue q) shelf place buffer = takes_from (queue_at (unit_at shelf place) q) shelf place q buffer
-takes_by leaves.Empty shelf place buffer = nothing shelf buffer
+unfoldable pub takes_by : Option ℕ → Shelf → ℕ → List ℕ → Took
+takes_by (Some q) shelf place buffer = takes_from (queue_at (unit_at shelf place) q) shelf place q buffer
+takes_by None shelf place buffer = nothing shelf buffer
 
 abbrev pub takes : Shelf → ℕ → List ℕ → Took
 takes shelf place buffer = takes_by (leaving (unit_at shelf place)) shelf place buffer

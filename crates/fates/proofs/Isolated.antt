@@ -1,4 +1,5 @@
 -- An event at a unit leaves everything else alone. Assumes nothing.
+use Rattle.std.specs.Prelude.{None, Option, Some}
 use Prim.Native.Nat.{ℕ, ◌+◌, ◌≤◌, ◌<◌}
 use native.Mathlib.Omega.{arith}
 use mathlib.Core.Path.{◌≡◌, refl, sym, ap, subst, ◌∙◌}
@@ -23,8 +24,6 @@ use Rattle.shelf.specs.declared.Found.TheVariants as found
 use Rattle.shelf.specs.declared.Unit as U
 use Rattle.shelf.specs.Shelf.{Shelf}
 use Rattle.outlet.specs.Taking.{leaving}
-use Rattle.outlet.specs.declared.Leaving as L
-use Rattle.outlet.specs.declared.Leaving.TheVariants as leaves
 use Rattle.answer.specs.Answers.{row, none, ends, refused, arrival_rises, hearing_rises, #taken}
 use Rattle.answer.specs.declared.Arrival.TheVariants.{Inletfull, Queued}
 use Rattle.answer.specs.declared.Answer.TheVariants.{Taken, Empty, Handed}
@@ -245,10 +244,10 @@ module _ (w : World) (i : ℕ) (housed : Housed i (unit_at w.shelf i) (length w.
       go hearing.ToLoopback e = put_within w.store i loopback_out_slot bytes whole (loopback_inside i (part_of i + 8192) u own_part) housed.inside
 
   -- a take, by the queue that it leaves
-  taken : (l : L.Leaving) (buffer : List ℕ) → OnlyAt i w (ended w (taking.done_by l w.shelf i) w.store buffer).world
+  taken : (l : Option ℕ) (buffer : List ℕ) → OnlyAt i w (ended w (taking.done_by l w.shelf i) w.store buffer).world
   unfolding taking.done_by settled_to
-  taken (leaves.Queue q) buffer = only_unit w i _ (in_row w.rows i #taken) w.store (as_was i w.store) (taking.without u q)
-  taken leaves.Empty buffer = only_none w i
+  taken (Some q) buffer = only_unit w i _ (in_row w.rows i #taken) w.store (as_was i w.store) (taking.without u q)
+  taken None buffer = only_none w i
 
   -- a hand-in, by whether the place is taken: no row rises
   handed : (c : List ℕ) → length c ≡ 56 → OnlyAt i w (ended w (handing.hand_at w.shelf i) (handing.hand_store_at w.shelf i w.store c) c).world

@@ -1,4 +1,5 @@
 -- What holds of the document's shelf from a good load on, as these proofs need it. Assumes nothing.
+use Rattle.std.specs.Prelude.{None, Option, Some}
 use Prim.Native.Nat.{ℕ, ◌<◌, ◌≤◌}
 use mathlib.Core.Path.{◌≡◌, refl, sym, subst, ◌∙◌}
 use mathlib.Core.Logic.{◌⊎◌}
@@ -12,8 +13,6 @@ use Rattle.arbiter.specs.declared.Arbiter.{Arbiter}
 use Rattle.arbiter.proofs.Grants.{granted_length}
 use Rattle.shelf.specs.declared.Found as F
 use Rattle.shelf.specs.declared.Found.TheVariants as found
-use Rattle.outlet.specs.declared.Leaving as L
-use Rattle.outlet.specs.declared.Leaving.TheVariants as leaves
 use Rattle.document.specs.Events.{Event, arrive, frame, hear, take_cell, count, hand, collect}
 use Rattle.document.specs.Shelf as D
 use Rattle.document.specs.Arrival.{arrived}
@@ -49,10 +48,10 @@ unfolding T.takes_from
 took_from [] d place q buffer = refl
 took_from (c ∷ cells) d place q buffer = refl
 
-pub took : (l : L.Leaving) (d : D.Shelf) (place : ℕ) (buffer : List ℕ) → (T.takes_by l d place buffer).shelf.arbiter ≡ d.arbiter
+pub took : (l : Option ℕ) (d : D.Shelf) (place : ℕ) (buffer : List ℕ) → (T.takes_by l d place buffer).shelf.arbiter ≡ d.arbiter
 unfolding T.takes_by
-took (leaves.Queue q) d place buffer = took_from (D.queue_at (D.unit_at d place) q) d place q buffer
-took leaves.Empty d place buffer = refl
+took (Some q) d place buffer = took_from (D.queue_at (D.unit_at d place) q) d place q buffer
+took None d place buffer = refl
 
 -- so do a hand-in and a collect
 pub handed : (cells : List (List ℕ)) (d : D.Shelf) (place : ℕ) (c : List ℕ) → (P.hands_into cells d place c).shelf.arbiter ≡ d.arbiter

@@ -1,4 +1,5 @@
 -- What leaves is what the lent bytes hold afterwards, and no class leaves before a lower one. Assumes nothing.
+use Rattle.std.specs.Prelude.{None, Some}
 use Prim.Native.Nat.{ℕ, zero, suc, ◌+◌, ◌<◌, ◌≤◌}
 use native.Mathlib.Omega.{arith}
 use mathlib.Core.Path.{◌≡◌, refl, sym, ap, ap₂, ◌∙◌}
@@ -11,8 +12,6 @@ use lib.ListN.{length}
 use lib.ListN as lists
 use borrow.Author.Tests.{eqb-true, eqb-false, eq-eqb, ne_eqb, ltb-false}
 use Rattle.outlet.specs.Taking.{lowest, queues}
-use Rattle.outlet.specs.declared.Leaving as L
-use Rattle.outlet.specs.declared.Leaving.TheVariants as leaves
 use Rattle.shelf.specs.declared.Found as F
 use Rattle.shelf.specs.declared.Found.TheVariants.{At, Nothing}
 use Rattle.meaning.proofs.Grown.{decide}
@@ -74,7 +73,7 @@ module _ (d : Shelf) (unit : ℕ) (buffer : List ℕ) where
         }
 
     -- one leaves
-    from_queue : (q : ℕ) → leaving u ≡ leaves.Queue q → (cells : List Cell) → queue_at u q ≡ cells → HandedOut d unit buffer ⊎ NoneOut d unit buffer
+    from_queue : (q : ℕ) → leaving u ≡ Some q → (cells : List Cell) → queue_at u q ≡ cells → HandedOut d unit buffer ⊎ NoneOut d unit buffer
     unfolding takes_by takes_from oldest_in
     from_queue q l [] s =
         inr (none_out (e ∙ ap (λ x. took_step (takes_by x d place buffer)) l ∙ ap (λ x. took_step (takes_from x d place q buffer)) s)
@@ -104,10 +103,10 @@ module _ (d : Shelf) (unit : ℕ) (buffer : List ℕ) where
         })
 
     -- by the queue that it is to leave
-    by_leaving : (l : L.Leaving) → leaving u ≡ l → HandedOut d unit buffer ⊎ NoneOut d unit buffer
+    by_leaving : (l : Option ℕ) → leaving u ≡ l → HandedOut d unit buffer ⊎ NoneOut d unit buffer
     unfolding takes_by oldest_in
-    by_leaving (leaves.Queue q) l = from_queue q l (queue_at u q) refl
-    by_leaving leaves.Empty l = inr (none_out (e ∙ ap (λ x. took_step (takes_by x d place buffer)) l) (λ k. ap (λ x. oldest_in x u k) l))
+    by_leaving (Some q) l = from_queue q l (queue_at u q) refl
+    by_leaving None l = inr (none_out (e ∙ ap (λ x. took_step (takes_by x d place buffer)) l) (λ k. ap (λ x. oldest_in x u k) l))
 
   -- by the unit that is found, and the length of the buffer
   by_place : (f : F.Found) → find_in d.units unit ≡ f → (b : Bool) → eqb (length buffer) 53 ≡ b → HandedOut d unit buffer ⊎ NoneOut d unit buffer
@@ -227,12 +226,12 @@ pub sent_framed : SentFramed
 sent_framed d buffer = by_length d buffer (eqb (length buffer) 57) refl
 
 -- D. the lowest queue that holds a cell: those before it hold none
-none_before : (cells : ℕ → ℕ) (q n k : ℕ) → lowest cells q n ≡ leaves.Queue k → (p : ℕ) → q ≤ p → p < k → cells p ≡ 0
+none_before : (cells : ℕ → ℕ) (q n k : ℕ) → lowest cells q n ≡ Some k → (p : ℕ) → q ≤ p → p < k → cells p ≡ 0
 unfolding lowest
 none_before cells q zero k e p h l = let z : ◌≡◌ {A = ℕ} 0 1 = cc in absurd (omega arith)
 none_before cells q (suc n) k e p h l = go (ltb 0 (cells q)) refl (none_before cells (q + 1) n k) e
   where
-    go : (b : Bool) → ltb 0 (cells q) ≡ b → (lowest cells (q + 1) n ≡ leaves.Queue k → (p : ℕ) → q + 1 ≤ p → p < k → cells p ≡ 0) → cond b (leaves.Queue q) (lowest cells (q + 1) n) ≡ leaves.Queue k → cells p ≡ 0
+    go : (b : Bool) → ltb 0 (cells q) ≡ b → (lowest cells (q + 1) n ≡ Some k → (p : ℕ) → q + 1 ≤ p → p < k → cells p ≡ 0) → cond b (Some q) (lowest cells (q + 1) n) ≡ Some k → cells p ≡ 0
     go true t later e = let z : q ≡ k = cc in absurd (omega arith)
     go false t later e =
         decide (eqb p q) (λ x. let z = ltb-false 0 (cells q) t in ap cells (eqb-true p q x) ∙ omega arith)
@@ -243,9 +242,9 @@ lower_first : (u : Unit) (q p : ℕ) → p < q → 0 < held u p → oldest_in (l
 unfolding oldest_in
 lower_first u q p h l = go (leaving u) refl
   where
-    go : (x : L.Leaving) → leaving u ≡ x → oldest_in x u q ≡ []
-    go leaves.Empty e = refl
-    go (leaves.Queue k) e =
+    go : (x : Option ℕ) → leaving u ≡ x → oldest_in x u q ≡ []
+    go None e = refl
+    go (Some k) e =
         decide (eqb q k)
         (λ t. let z = eqb-true q k t in let w = none_before (held u) 0 (queues u.limits.mode) k e p (omega arith) (omega arith) in absurd (omega arith))
         (λ f. ap (λ b. cond b (lists.take 1 (queue_at u k)) []) f)

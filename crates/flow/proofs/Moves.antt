@@ -1,4 +1,5 @@
 -- What a unit's part moves: cells into and out of its places, and what is counted of them. Assumes nothing.
+use Rattle.std.specs.Prelude.{None, Some}
 use Prim.Native.Nat.{ℕ, zero, suc, ◌+◌, ◌<◌}
 use native.Mathlib.Omega.{arith}
 use mathlib.Core.Path.{◌≡◌, refl, sym, ap, ap₂, ◌∙◌}
@@ -19,8 +20,6 @@ use Rattle.bus.specs.declared.Target.{Target}
 use Rattle.outlet.specs.Outlets.{capacity}
 use Rattle.outlet.specs.Hearing.{queue_of, limit, too_wide, bus_clp}
 use Rattle.outlet.specs.Taking.{queues}
-use Rattle.outlet.specs.declared.Leaving as L
-use Rattle.outlet.specs.declared.Leaving.TheVariants as leaves
 use Rattle.outlet.proofs.Fates.{queue_lt}
 use Rattle.shelf.specs.declared.Settings.{Settings}
 use Rattle.line.specs.declared.Line.{Line}
@@ -53,10 +52,10 @@ kept_by get hearing.Clp u x e = refl
 kept_by get hearing.Queued u x e = e
 
 -- a take changes a queue
-left_by_lem : {A : Type 0} (get : Unit → A) (u : Unit) → ((q : ℕ) (cells : List Cell) → get (with_queue u q cells) ≡ get u) → (l : L.Leaving) → get (left_by l u) ≡ get u
+left_by_lem : {A : Type 0} (get : Unit → A) (u : Unit) → ((q : ℕ) (cells : List Cell) → get (with_queue u q cells) ≡ get u) → (l : Option ℕ) → get (left_by l u) ≡ get u
 unfolding left_by left_from
-left_by_lem get u e leaves.Empty = refl
-left_by_lem get u e (leaves.Queue q) = go (queue_at u q)
+left_by_lem get u e None = refl
+left_by_lem get u e (Some q) = go (queue_at u q)
   where
     go : (cells : List Cell) → get (left_from cells u q) ≡ get u
     go [] = refl
@@ -146,10 +145,10 @@ holds_inside u q c rest e =
     (λ f. let z = get_or-eq_default u.queues [] {n = q} (ltb-false q (length u.queues) f) in let w : ◌≡◌ {A = ℕ} 0 1 = cc in absurd (omega arith))
 
 -- a take, queue by queue
-left_queue : (l : L.Leaving) (u : Unit) (p : ℕ) → queue_at u p ≡ oldest_in l u p ++ queue_at (left_by l u) p
+left_queue : (l : Option ℕ) (u : Unit) (p : ℕ) → queue_at u p ≡ oldest_in l u p ++ queue_at (left_by l u) p
 unfolding oldest_in left_by left_from
-left_queue leaves.Empty u p = refl
-left_queue (leaves.Queue q) u p = go (eqb p q) refl (queue_at u q) refl
+left_queue None u p = refl
+left_queue (Some q) u p = go (eqb p q) refl (queue_at u q) refl
   where
     go : (b : Bool) → eqb p q ≡ b → (cells : List Cell) → queue_at u q ≡ cells → queue_at u p ≡ cond b (take 1 cells) [] ++ queue_at (left_from cells u q) p
     go true t [] s = refl
@@ -520,10 +519,10 @@ heard_all lines u (frames.Control unit) payload bytes = omega (arith, beside_all
 heard_all lines u (frames.Loopback unit) payload bytes = omega (arith, beside_all (hearing_of lines u (frames.Loopback unit)) bytes)
 
 -- a take
-took_counts : (u : Unit) → length u.queues ≡ 4 → (l : L.Leaving) → leaving u ≡ l → Arrivals (took_by l) 0 0 × Copies (took_by l) 0 (in_all (oldest_in l u))
+took_counts : (u : Unit) → length u.queues ≡ 4 → (l : Option ℕ) → leaving u ≡ l → Arrivals (took_by l) 0 0 × Copies (took_by l) 0 (in_all (oldest_in l u))
 unfolding took_by oldest_in occurs
-took_counts u four leaves.Empty e = ((refl, refl), (refl, refl))
-took_counts u four (leaves.Queue q) e = ((refl, refl), (refl, go (queue_at u q) refl))
+took_counts u four None e = ((refl, refl), (refl, refl))
+took_counts u four (Some q) e = ((refl, refl), (refl, go (queue_at u q) refl))
   where
     go : (cells : List Cell) → queue_at u q ≡ cells → 1 ≡ in_all (λ p. cond (eqb p q) (take 1 cells) [])
     go [] s = let h = holds_one (held u) 0 (queues u.limits.mode) q e in let z = ap length s in absurd (omega arith)
@@ -659,10 +658,10 @@ heard_comes lines u (frames.Loopback unit) = go (eqb (number_of u) unit)
     go false = (refl, refl)
 
 -- a take brings nothing
-took_comes : (l : L.Leaving) → Comes (took_by l) 0 0
+took_comes : (l : Option ℕ) → Comes (took_by l) 0 0
 unfolding took_by occurs
-took_comes leaves.Empty = (refl, refl)
-took_comes (leaves.Queue q) = (refl, refl)
+took_comes None = (refl, refl)
+took_comes (Some q) = (refl, refl)
 
 -- nor does sending
 sent_comes : (b : Bool) → Comes (sent_counts b) 0 0

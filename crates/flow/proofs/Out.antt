@@ -1,4 +1,5 @@
 -- What the lent bytes hold after a take or a frame came down the right street. Assumes nothing.
+use Rattle.std.specs.Prelude.{None, Option, Some}
 use Prim.Native.Nat.{ℕ, ◌+◌, ◌%◌, ◌≤◌, ◌<◌}
 use native.Mathlib.Omega.{arith}
 use mathlib.Core.Path.{◌≡◌, refl, sym, ap, subst, ◌∙◌}
@@ -26,8 +27,6 @@ use Rattle.outlet.proofs.Truth.{le_iff, and_iff, or_iff}
 use Rattle.outlet.specs.Hearing.{limit, TooWide}
 use Rattle.outlet.proofs.Fates.{limit_in}
 use Rattle.outlet.specs.Taking.{marked, marks_cell, outgoing}
-use Rattle.outlet.specs.declared.Leaving as L
-use Rattle.outlet.specs.declared.Leaving.TheVariants as leaves
 use Rattle.outlet.proofs.Headers.{unmarked, marks_cell_iff, outgoing_fields, vpi_kept, outgoing_lt}
 use Rattle.document.specs.Take.{line_cell}
 use Rattle.arbiter.specs.Arbitration.{nobody}
@@ -62,10 +61,10 @@ first_of : (cells : List Cell) (c : Cell) → first 1 cells ≡ c ∷ [] → Fir
 first_of [] c e = let z : ◌≡◌ {A = ℕ} 0 1 = cc in absurd (omega arith)
 first_of (x ∷ cells) c e = let same : x ≡ c = cc in (cells, ap (λ y. y ∷ cells) same)
 
-was_oldest : (l : L.Leaving) (u : Unit) (q : ℕ) (c : Cell) → oldest_in l u q ≡ c ∷ [] → First (queue_at u q) c
+was_oldest : (l : Option ℕ) (u : Unit) (q : ℕ) (c : Cell) → oldest_in l u q ≡ c ∷ [] → First (queue_at u q) c
 unfolding oldest_in
-was_oldest leaves.Empty u q c e = let z : ◌≡◌ {A = ℕ} 0 1 = cc in absurd (omega arith)
-was_oldest (leaves.Queue p) u q c e = go (eqb q p) (λ t. ap (queue_at u) (sym (eqb-true q p t))) e
+was_oldest None u q c e = let z : ◌≡◌ {A = ℕ} 0 1 = cc in absurd (omega arith)
+was_oldest (Some p) u q c e = go (eqb q p) (λ t. ap (queue_at u) (sym (eqb-true q p t))) e
   where
     go : (b : Bool) → (b ≡ true → queue_at u p ≡ queue_at u q) → cond b (first 1 (queue_at u p)) [] ≡ c ∷ [] → First (queue_at u q) c
     go true t e = subst (λ cs. First cs c) (t refl) (first_of (queue_at u p) c e)

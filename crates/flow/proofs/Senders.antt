@@ -1,4 +1,5 @@
 -- Over every sequence of events: a unit that asks has a cell besides one already granted, and a unit with an open grant has a cell to send. Assumes nothing.
+use Rattle.std.specs.Prelude.{None, Some}
 use Prim.Native.Nat.{ℕ, zero, suc, ◌+◌, ◌<◌, ◌≤◌}
 use native.Mathlib.Omega.{arith}
 use mathlib.Core.Path.{◌≡◌, refl, sym, ap, subst, ◌∙◌}
@@ -14,8 +15,6 @@ use Rattle.bus.specs.Frame.{returned}
 use Rattle.arbiter.specs.Arbitration.{nobody, besides, due, renewed_from, unit_of, asks_now}
 use Rattle.arbiter.proofs.Requests.{asks_without}
 use Rattle.arbiter.proofs.Grants.{granted_asks, granted_changes, not_granted}
-use Rattle.outlet.specs.declared.Leaving as L
-use Rattle.outlet.specs.declared.Leaving.TheVariants as leaves
 use Rattle.shelf.specs.Shelves.{place_from}
 use Rattle.shelf.specs.declared.Found as F
 use Rattle.shelf.specs.declared.Found.TheVariants.{At, Nothing}
@@ -270,10 +269,10 @@ module _ (d : Shelf) where
   took_from [] place q buffer = (refl, refl)
   took_from (c ∷ cells) place q buffer = (refl, refl)
 
-  took : (l : L.Leaving) (place : ℕ) (buffer : List ℕ) → Leaves d (takes_by l d place buffer).shelf
+  took : (l : Option ℕ) (place : ℕ) (buffer : List ℕ) → Leaves d (takes_by l d place buffer).shelf
   unfolding takes_by
-  took (leaves.Queue q) place buffer = took_from (queue_at (unit_at d place) q) place q buffer
-  took leaves.Empty place buffer = (refl, refl)
+  took (Some q) place buffer = took_from (queue_at (unit_at d place) q) place q buffer
+  took None place buffer = (refl, refl)
 
   handed_to : (cells : List (List ℕ)) (place : ℕ) (c : List ℕ) → Leaves d (hands_into cells d place c).shelf
   unfolding hands_into

@@ -1,4 +1,5 @@
 -- An event is, for each unit, its part in it: what becomes of the unit, what the history counts there, and why. Assumes nothing.
+use Rattle.std.specs.Prelude.{None, Some}
 use Prim.Native.Nat.{ℕ, zero, suc, ◌+◌, ◌<◌}
 use native.Mathlib.Omega.{arith}
 use mathlib.Core.Path.{◌≡◌, refl, sym, ap, ap₂, subst, ◌∙◌}
@@ -16,8 +17,6 @@ use Rattle.bus.specs.Heard as frames
 use Rattle.outlet.specs.Outlets.{capacity}
 use Rattle.outlet.specs.Hearing.{queue_of, limit, too_wide, bus_clp}
 use Rattle.outlet.specs.Taking.{lowest, queues}
-use Rattle.outlet.specs.declared.Leaving as L
-use Rattle.outlet.specs.declared.Leaving.TheVariants as leaves
 use Rattle.shelf.specs.declared.Found as F
 use Rattle.shelf.specs.declared.Found.TheVariants.{At, Nothing}
 use Rattle.line.specs.declared.Line.{Line}
@@ -45,9 +44,9 @@ unfoldable pub left_from : List Cell → Unit → ℕ → Unit
 left_from [] u q = u
 left_from (c ∷ rest) u q = with_queue u q rest
 
-unfoldable pub left_by : L.Leaving → Unit → Unit
-left_by (leaves.Queue q) u = left_from (queue_at u q) u q
-left_by leaves.Empty u = u
+unfoldable pub left_by : Option ℕ → Unit → Unit
+left_by (Some q) u = left_from (queue_at u q) u q
+left_by None u = u
 
 -- what a hand-in makes of it, and what a collect leaves of it
 unfoldable pub handed_unit : List (List ℕ) → Unit → List ℕ → Unit
@@ -174,12 +173,12 @@ some_same lines x (u ∷ us) (v ∷ vs) e =
     (some_same lines x us vs (ap (λ l. drop 1 l) e))
 
 -- the queue that a cell is to leave holds one
-pub holds_one : (cells : ℕ → ℕ) (q n k : ℕ) → lowest cells q n ≡ leaves.Queue k → 0 < cells k
+pub holds_one : (cells : ℕ → ℕ) (q n k : ℕ) → lowest cells q n ≡ Some k → 0 < cells k
 unfolding lowest
 holds_one cells q zero k e = let z : ◌≡◌ {A = ℕ} 0 1 = cc in absurd (omega arith)
 holds_one cells q (suc n) k e = go (ltb 0 (cells q)) refl (holds_one cells (q + 1) n k) e
   where
-    go : (b : Bool) → ltb 0 (cells q) ≡ b → (lowest cells (q + 1) n ≡ leaves.Queue k → 0 < cells k) → cond b (leaves.Queue q) (lowest cells (q + 1) n) ≡ leaves.Queue k → 0 < cells k
+    go : (b : Bool) → ltb 0 (cells q) ≡ b → (lowest cells (q + 1) n ≡ Some k → 0 < cells k) → cond b (Some q) (lowest cells (q + 1) n) ≡ Some k → 0 < cells k
     go true t later e = let z : q ≡ k = cc in subst (λ j. 0 < cells j) z (ltb-true 0 (cells q) t)
     go false t later e = later e
 
@@ -307,7 +306,7 @@ module _ (d : Shelf) (i : ℕ) (within : i < length d.units) where
 
   -- a cell is taken, or none is there
   module _ (e : Event) (place : ℕ) (inside : place < length d.units) (buffer : List ℕ) where
-    took_from : (q : ℕ) → leaving (unit_at d place) ≡ leaves.Queue q → (cells : List Cell) → queue_at (unit_at d place) q ≡ cells → Done e (takes_from cells d place q buffer).shelf (cond (eqb i place) takes rests)
+    took_from : (q : ℕ) → leaving (unit_at d place) ≡ Some q → (cells : List Cell) → queue_at (unit_at d place) q ≡ cells → Done e (takes_from cells d place q buffer).shelf (cond (eqb i place) takes rests)
     unfolding takes_from unit_by counts_by left_by left_from took_by
     took_from q l [] s =
         let h = holds_one (held (unit_at d place)) 0 (queues (unit_at d place).limits.mode) q l in
@@ -320,10 +319,10 @@ module _ (d : Shelf) (i : ℕ) (within : i < length d.units) where
         (ap (λ x. entries (number_of (unit_at d place)) x ++ d.history) (sym (ap took_by l))) (λ x. x) (λ x. x)
 
     -- by the queue that it is to leave
-    took : (l : L.Leaving) → leaving (unit_at d place) ≡ l → Done e (takes_by l d place buffer).shelf (cond (eqb i place) takes rests)
+    took : (l : Option ℕ) → leaving (unit_at d place) ≡ l → Done e (takes_by l d place buffer).shelf (cond (eqb i place) takes rests)
     unfolding takes_by unit_by counts_by left_by took_by
-    took (leaves.Queue q) l = took_from q l (queue_at (unit_at d place) q) refl
-    took leaves.Empty l =
+    took (Some q) l = took_from q l (queue_at (unit_at d place) q) refl
+    took None l =
         one_unit d d e i place takes within inside refl (sym (ap (λ x. left_by x (unit_at d place)) l)) (λ j apart. refl)
         (ap (λ x. entries (number_of (unit_at d place)) x ++ d.history) (sym (ap took_by l))) (λ x. x) (λ x. x)
 

@@ -1,10 +1,8 @@
 -- One unit's part in an event: what the unit in a place does when something happens to the shelf. Assumes nothing.
-use Rattle.std.specs.Prelude.{ℕ, Bool, false, cond, ◌&&◌, List, [], ◌∷◌, ◌++◌, map, eqb, leb, length, take}
+use Rattle.std.specs.Prelude.{ℕ, Bool, false, cond, ◌&&◌, List, [], ◌∷◌, ◌++◌, map, eqb, leb, length, take, None, Some}
 use Rattle.std.proofs.Math.Option.{Option, none, some}
 use Rattle.bus.specs.Heard as frames
 use Rattle.outlet.specs.Hearing.{queue_of}
-use Rattle.outlet.specs.declared.Leaving as L
-use Rattle.outlet.specs.declared.Leaving.TheVariants as leaves
 use Rattle.shelf.specs.declared.Found as F
 use Rattle.shelf.specs.declared.Found.TheVariants.{At, Nothing}
 use Rattle.line.specs.declared.Line.{Line}
@@ -287,9 +285,9 @@ meant_by lines u (sends f) q = copy_for lines u (cell_of f).heard (cell_of f).pa
 meant_by lines u (moves p) q = meant_by lines (moved_unit u) p q
 
 -- "Take gives the oldest cell (mode `one`) or the oldest cell of the lowest class held (mode `four`)"
-unfoldable pub oldest_in : L.Leaving → Unit → ℕ → List Cell
-oldest_in (leaves.Queue p) u q = cond (eqb q p) (take 1 (queue_at u p)) []
-oldest_in leaves.Empty u q = []
+unfoldable pub oldest_in : Option ℕ → Unit → ℕ → List Cell
+oldest_in (Some p) u q = cond (eqb q p) (take 1 (queue_at u p)) []
+oldest_in None u q = []
 
 unfoldable pub taken_by : Unit → Part → ℕ → List Cell
 taken_by u rests q = []
@@ -313,9 +311,9 @@ collected_by u (sends f) = []
 collected_by u (moves p) = collected_by (moved_unit u) p
 
 -- what it counts when it is asked for a cell
-unfoldable pub took_by : L.Leaving → List Counter
-took_by (leaves.Queue q) = taken ∷ []
-took_by leaves.Empty = []
+unfoldable pub took_by : Option ℕ → List Counter
+took_by (Some q) = taken ∷ []
+took_by None = []
 
 -- and whatever its part: an arrival and its fate; the fate of a copy; a cell taken, "leaving either outlet" or a queue; a cell sent, and its own copy of it; who rests counts
 -- nothing, and so does who is handed a cell. "A sent cell addressing no declared unit also counts `unheard` at its sender"

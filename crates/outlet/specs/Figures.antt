@@ -1,10 +1,8 @@
 -- Data sheet 004, figures 15 and 16: which of the cells that leave one after the other are marked. Assumes nothing.
-use Rattle.std.specs.Prelude.{ℕ, zero, suc, ◌-◌, Bool, true, List, [], ◌∷◌, set}
+use Rattle.std.specs.Prelude.{ℕ, zero, suc, ◌-◌, Bool, true, List, [], ◌∷◌, set, None, Option, Some}
 use Rattle.outlet.specs.Outlets.{queue, one, four}
 use Rattle.outlet.specs.declared.Ring.{Ring}
 use Rattle.outlet.specs.declared.Outlet.{Outlet}
-use Rattle.outlet.specs.declared.Leaving.{Leaving}
-use Rattle.outlet.specs.declared.Leaving.TheVariants.{Queue, Empty}
 use Rattle.outlet.specs.Taking.{leaving, marks}
 
 -- so many cells in a queue
@@ -15,9 +13,9 @@ abbrev pub with : Outlet → ℕ → ℕ → Outlet
 with outlet q n = record { limits = outlet.limits; queues = set outlet.queues q (holding n) }
 
 -- an outlet without the cell that leaves
-unfoldable pub without : Outlet → Leaving → Outlet
-without outlet (Queue q) = with outlet q ((queue outlet q).count - 1)
-without outlet Empty = outlet
+unfoldable pub without : Outlet → Option ℕ → Outlet
+without outlet (Some q) = with outlet q ((queue outlet q).count - 1)
+without outlet None = outlet
 
 -- the marks of the next n cells, while none comes in
 unfoldable pub marks_in_turn : ℕ → Outlet → List Bool

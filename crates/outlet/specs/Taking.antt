@@ -1,5 +1,5 @@
 -- Which cell leaves an outlet, whether it is marked, and its header: 01's Take. Assumes nothing.
-use Rattle.std.specs.Prelude.{ℕ, zero, suc, ◌+◌, ◌*◌, ◌/◌, ◌%◌, ◌≤◌, ◌<◌, ◌≡◌, ◌⊎◌, Bool, true, false, ◌&&◌, ◌||◌, cond, ltb, eqb}
+use Rattle.std.specs.Prelude.{ℕ, zero, suc, ◌+◌, ◌*◌, ◌/◌, ◌%◌, ◌≤◌, ◌<◌, ◌≡◌, ◌⊎◌, Bool, true, false, ◌&&◌, ◌||◌, cond, ltb, eqb, None, Option, Some}
 use Rattle.header.specs.Fields.{fields, word}
 use Rattle.header.specs.declared.Link.{Link}
 use Rattle.header.specs.declared.Link.TheVariants.{Nni}
@@ -7,8 +7,6 @@ use Rattle.header.specs.declared.Header.{Header}
 use Rattle.outlet.specs.declared.Mode.{Mode}
 use Rattle.outlet.specs.declared.Mode.TheVariants.{One, Four}
 use Rattle.outlet.specs.declared.Outlet.{Outlet}
-use Rattle.outlet.specs.declared.Leaving.{Leaving}
-use Rattle.outlet.specs.declared.Leaving.TheVariants.{Queue, Empty}
 use Rattle.outlet.specs.Hearing.{held, at_limit}
 
 -- how many queues an outlet has
@@ -17,18 +15,18 @@ queues One = 1
 queues Four = 4
 
 -- the lowest of n queues, from queue q on, that holds a cell; `cells` says how many each holds
-unfoldable pub lowest : (ℕ → ℕ) → ℕ → ℕ → Leaving
-lowest cells q zero = Empty
-lowest cells q (suc n) = cond (ltb 0 (cells q)) (Queue q) (lowest cells (q + 1) n)
+unfoldable pub lowest : (ℕ → ℕ) → ℕ → ℕ → Option ℕ
+lowest cells q zero = None
+lowest cells q (suc n) = cond (ltb 0 (cells q)) (Some q) (lowest cells (q + 1) n)
 
 -- "Take gives the oldest cell (mode `one`) or the oldest cell of the lowest class held (mode `four`), or `empty`"
-unfoldable pub leaving : Outlet → Leaving
+unfoldable pub leaving : Outlet → Option ℕ
 leaving outlet = lowest (held outlet) 0 (queues outlet.limits.mode)
 
 -- the same as a fact
-abbrev pub LeavingOf : (ℕ → ℕ) → ℕ → Leaving → Type 0
-LeavingOf cells n (Queue q) = (q < n) × (0 < cells q) × ((p : ℕ) → p < q → cells p ≡ 0)
-LeavingOf cells n Empty = (p : ℕ) → p < n → cells p ≡ 0
+abbrev pub LeavingOf : (ℕ → ℕ) → ℕ → Option ℕ → Type 0
+LeavingOf cells n (Some q) = (q < n) × (0 < cells q) × ((p : ℕ) → p < q → cells p ≡ 0)
+LeavingOf cells n None = (p : ℕ) → p < n → cells p ≡ 0
 
 -- "CBR or VBR is at its limit or above (mode `one`: the queue at the VBR limit or above)"
 abbrev pub congested_in : Mode → Outlet → Bool

@@ -158,13 +158,6 @@ pub enum Fate {
     Queued,
 }
 
-// Which queue's oldest cell leaves next.
-#[derive(Clone, Copy)]
-pub enum Leaving {
-    Queue(u8),
-    Empty,
-}
-
 // The queue that holds a class; a class has two bits.
 #[tactic(auto, unfolding(crate::specs::Hearing::queue_of))]
 pub fn queue_of(limits: Limits, class: u8) -> u8
@@ -258,16 +251,16 @@ fn queues(mode: Mode) -> u8
     }
 }
 
-// Which cell leaves next.
-pub fn leaving_of(outlet: Outlet) -> Leaving
+// Which queue's oldest cell leaves next, if there is one.
+pub fn leaving_of(outlet: Outlet) -> Option<u8>
     ensures { result ≡ leaving outlet }
 {
     for q in 0..queues(outlet.limits.mode) {
         if 0 < held(outlet, q) {
-            return Leaving::Queue(q);
+            return Some(q);
         }
     }
-    Leaving::Empty
+    None
 }
 
 // Whether the outlet marks the user cell that leaves next.

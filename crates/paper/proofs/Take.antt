@@ -1,4 +1,5 @@
 -- What `outlet` says of a cell that leaves is what the paper says. Assumes nothing.
+use Rattle.std.specs.Prelude.{None, Some}
 use Prim.Native.Nat.{ℕ, ◌+◌, ◌*◌, ◌/◌, ◌%◌, ◌<◌}
 use native.Mathlib.Nat.{mod-lt, mod-eq_of_lt}
 use native.Mathlib.Omega.{arith}
@@ -17,8 +18,6 @@ use Rattle.outlet.specs.declared.Mode.{Mode}
 use Rattle.outlet.specs.declared.Mode.TheVariants.{One, Four}
 use Rattle.outlet.specs.declared.Outlet.{Outlet}
 use Rattle.outlet.specs.Taking as queueing
-use Rattle.outlet.specs.declared.Leaving.{Leaving}
-use Rattle.outlet.specs.declared.Leaving.TheVariants.{Queue, Empty}
 use Rattle.outlet.proofs.Leaves.{leaving_iff, marks_iff}
 use Rattle.outlet.proofs.Headers.{marks_cell_iff}
 use Rattle.shelf.specs.declared.Unit as U
@@ -37,25 +36,25 @@ many : (outlet : Outlet) → queueing.queues outlet.limits.mode ≡ length (queu
 many outlet = many_queues outlet.limits.mode outlet.limits.cbrlength outlet.limits.cbrlimit outlet.limits.vbrlimit
 
 -- the queue as an option, and back
-abbrev pub leaving_as : Option ℕ → Leaving
-leaving_as none = Empty
-leaving_as (some q) = Queue q
+abbrev pub leaving_as : Option ℕ → Option ℕ
+leaving_as none = None
+leaving_as (some q) = Some q
 
 pub leaves_from : (outlet : Outlet) (o : Option ℕ) → Leaves outlet o → queueing.leaving outlet ≡ leaving_as o
-leaves_from outlet none h = (leaving_iff outlet Empty).1 (λ p k. h p (subst (λ n. p < n) (many outlet) k))
-leaves_from outlet (some q) h = (leaving_iff outlet (Queue q)).1 (subst (λ n. q < n) (sym (many outlet)) h.0, h.1, h.2)
+leaves_from outlet none h = (leaving_iff outlet None).1 (λ p k. h p (subst (λ n. p < n) (many outlet) k))
+leaves_from outlet (some q) h = (leaving_iff outlet (Some q)).1 (subst (λ n. q < n) (sym (many outlet)) h.0, h.1, h.2)
 
 pub leaves_some : (outlet : Outlet) → (o : Option ℕ) × Leaves outlet o
 leaves_some outlet = by (queueing.leaving outlet) refl
   where
-    by : (l : Leaving) → queueing.leaving outlet ≡ l → (o : Option ℕ) × Leaves outlet o
-    by Empty e = (none, λ q h. (leaving_iff outlet Empty).0 e q (subst (λ n. q < n) (sym (many outlet)) h))
-    by (Queue q) e = let x = (leaving_iff outlet (Queue q)).0 e in (some q, (subst (λ n. q < n) (many outlet) x.0, x.1, x.2))
+    by : (l : Option ℕ) → queueing.leaving outlet ≡ l → (o : Option ℕ) × Leaves outlet o
+    by None e = (none, λ q h. (leaving_iff outlet None).0 e q (subst (λ n. q < n) (sym (many outlet)) h))
+    by (Some q) e = let x = (leaving_iff outlet (Some q)).0 e in (some q, (subst (λ n. q < n) (many outlet) x.0, x.1, x.2))
 
 -- one at most
-as_option : Leaving → Option ℕ
-as_option Empty = none
-as_option (Queue q) = some q
+as_option : Option ℕ → Option ℕ
+as_option None = none
+as_option (Some q) = some q
 
 back : (o : Option ℕ) → as_option (leaving_as o) ≡ o
 unfolding as_option

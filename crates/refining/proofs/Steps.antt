@@ -1,4 +1,5 @@
 -- Every event does on the shelf what it does on the document's. Assumes nothing.
+use Rattle.std.specs.Prelude.{None, Some}
 use Prim.Native.Nat.{ℕ, ◌+◌, ◌<◌, ◌≤◌}
 use native.Mathlib.Omega.{arith}
 use mathlib.Core.Path.{◌≡◌, refl, sym, ap, subst, ◌∙◌}
@@ -17,8 +18,6 @@ use Rattle.shelf.specs.Shelf.{Shelf}
 use Rattle.soundness.specs.State.{Sound}
 use Rattle.soundness.proofs.Facts.{sound_iff}
 use Rattle.outlet.specs.Taking.{leaving}
-use Rattle.outlet.specs.declared.Leaving as L
-use Rattle.outlet.specs.declared.Leaving.TheVariants as leaves
 use Rattle.answer.specs.Answers.{refused, row, arrival_rises, hearing_rises, #taken}
 use Rattle.answer.specs.declared.Hearing as H
 use Rattle.bus.specs.Frame.{heard}
@@ -196,15 +195,15 @@ module _ (card : Card) (w : World) (d : D.Shelf) (a : WorldAlike card w d) where
   took_from [] i q buffer = refl
   took_from (c ∷ cells) i q buffer = length-set d.units i (D.with_queue (D.unit_at d i) q cells)
 
-  took_many : (l : L.Leaving) (i : ℕ) (buffer : List ℕ) → length (T.takes_by l d i buffer).shelf.units ≡ length d.units
+  took_many : (l : Option ℕ) (i : ℕ) (buffer : List ℕ) → length (T.takes_by l d i buffer).shelf.units ≡ length d.units
   unfolding T.takes_by
-  took_many (leaves.Queue q) i buffer = took_from (D.queue_at (D.unit_at d i) q) i q buffer
-  took_many leaves.Empty i buffer = refl
+  took_many (Some q) i buffer = took_from (D.queue_at (D.unit_at d i) q) i q buffer
+  took_many None i buffer = refl
 
-  took_beyond : (l : L.Leaving) (i j : ℕ) → i < j → get_or (settled w.rows (taking.done_by l w.shelf i).rises) j zeros ≡ get_or w.rows j zeros
+  took_beyond : (l : Option ℕ) (i j : ℕ) → i < j → get_or (settled w.rows (taking.done_by l w.shelf i).rises) j zeros ≡ get_or w.rows j zeros
   unfolding taking.done_by settled_to
-  took_beyond (leaves.Queue q) i j h = settled_ahead w.rows (row i #taken) (i + 1) j (omega arith)
-  took_beyond leaves.Empty i j h = refl
+  took_beyond (Some q) i j h = settled_ahead w.rows (row i #taken) (i + 1) j (omega arith)
+  took_beyond None i j h = refl
 
   -- count
   counters_are : (row : C.Counters) (unit : ℕ) → ((c : Counter) → value row (place_of c) ≡ counter_of d.history unit c) → row ≡ counters_of d.history unit

@@ -1,4 +1,5 @@
 -- A take. Assumes nothing.
+use Rattle.std.specs.Prelude.{None, Option, Some}
 use Prim.Native.Nat.{ℕ, zero, suc, ◌+◌, ◌<◌, ◌≤◌}
 use native.Mathlib.Omega.{arith}
 use mathlib.Core.Path.{◌≡◌, refl, sym, ap, ap₂, subst, ◌∙◌}
@@ -16,8 +17,6 @@ use Rattle.outlet.specs.declared.Mode.TheVariants.{One, Four}
 use Rattle.outlet.specs.declared.Ring.{Ring}
 use Rattle.outlet.specs.Hearing.{limit, held, at_limit}
 use Rattle.outlet.specs.Taking.{lowest, leaving, queues, marks, outgoing}
-use Rattle.outlet.specs.declared.Leaving as L
-use Rattle.outlet.specs.declared.Leaving.TheVariants as leaves
 use Rattle.outlet.proofs.Leaves.{leaving_iff}
 use Rattle.store.specs.Places.{Cell, start, outlet_cells}
 use Rattle.store.specs.Rings.{popped}
@@ -66,7 +65,7 @@ lowest_same : (f g : ℕ → ℕ) (q n : ℕ) → ((p : ℕ) → p < q + n → f
 unfolding lowest
 lowest_same f g q zero h = refl
 lowest_same f g q (suc n) h =
-    ap₂ (λ b l. cond b (leaves.Queue q) l) (ap (ltb 0) (h q (omega arith))) (lowest_same f g (q + 1) n (λ p k. h p (omega arith)))
+    ap₂ (λ b l. cond b (Some q) l) (ap (ltb 0) (h q (omega arith))) (lowest_same f g (q + 1) n (λ p k. h p (omega arith)))
 
 few_queues : (mode : Mode) → queues mode ≤ 4
 few_queues One = omega arith
@@ -132,17 +131,17 @@ module _ (card : Card) (shelf : Shelf) (memory store : List ℕ) (d : D.Shelf) (
   abbrev e : D.Unit
   e = D.unit_at d i
 
-  pub record TakeAlike (l : L.Leaving) (t : T.Took) : Type 0 where
+  pub record TakeAlike (l : Option ℕ) (t : T.Took) : Type 0 where
     pub answer : (taking.done_by l shelf i).reply.answer ≡ t.answer
     pub bytes : taking.buffer_by l u i store buffer ≡ t.bytes
     pub after : Alike card (taking.done_by l shelf i).reply.shelf memory store t.shelf
     pub rows : (rows : List C.Counters) → Different d.units → length d.units ≤ length rows → i < 32 → ((j : ℕ) → j < length d.units → RowAlike rows d j) → (j : ℕ) → j < length d.units → RowAlike (settled rows (taking.done_by l shelf i).rises) t.shelf j
 
-  by_queue : (q : ℕ) → q < 4 → 0 < held u.outlet q → TakeAlike (leaves.Queue q) (T.takes_from (D.queue_at e q) d i q buffer)
+  by_queue : (q : ℕ) → q < 4 → 0 < held u.outlet q → TakeAlike (Some q) (T.takes_from (D.queue_at e q) d i q buffer)
   unfolding T.takes_from taking.done_by taking.buffer_by
   by_queue q few some =
       let x = a.units i here in
-      subst (λ cells. TakeAlike (leaves.Queue q) (T.takes_from cells d i q buffer)) (sym (queue_is store i u e x q few some))
+      subst (λ cells. TakeAlike (Some q) (T.takes_from cells d i q buffer)) (sym (queue_is store i u e x q few some))
       (record {
         answer = refl;
         bytes = handed_alike store i u e x q few some;
@@ -152,13 +151,13 @@ module _ (card : Card) (shelf : Shelf) (memory store : List ℕ) (d : D.Shelf) (
             row_alike rows d once enough alike i #taken (D.with_queue e q (rest store i u e x q few some)) (taken ∷ []) here low refl agree_taken;
       })
 
-  by_leaving : (l : L.Leaving) → leaving u.outlet ≡ l → TakeAlike l (T.takes_by l d i buffer)
+  by_leaving : (l : Option ℕ) → leaving u.outlet ≡ l → TakeAlike l (T.takes_by l d i buffer)
   unfolding T.takes_by taking.done_by taking.buffer_by settled_to
-  by_leaving (leaves.Queue q) m =
-      let f = (leaving_iff u.outlet (leaves.Queue q)).0 m in
+  by_leaving (Some q) m =
+      let f = (leaving_iff u.outlet (Some q)).0 m in
       let n = few_queues u.outlet.limits.mode in
       by_queue q (omega (arith, n, f.0)) f.1
-  by_leaving leaves.Empty m = record { answer = refl; bytes = refl; after = a; rows = λ rows once enough low alike. alike }
+  by_leaving None m = record { answer = refl; bytes = refl; after = a; rows = λ rows once enough low alike. alike }
 
   pub take_alike : TakeAlike (leaving u.outlet) (T.takes d i buffer)
   take_alike = subst (λ l. TakeAlike (leaving u.outlet) (T.takes_by l d i buffer)) (leaving_alike store i u e (a.units i here)) (by_leaving (leaving u.outlet) refl)

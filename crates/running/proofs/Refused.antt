@@ -1,4 +1,5 @@
 -- Refusals 8 to 11 over every event. Assumes nothing.
+use Rattle.std.specs.Prelude.{None, Option, Some}
 use Prim.Native.Nat.{ℕ}
 use mathlib.Core.Path.{◌≡◌, refl, sym, ap, ◌∙◌}
 use mathlib.Core.Bool.{Bool, true, false, cond}
@@ -24,8 +25,6 @@ use Rattle.arriving.specs.Arriving as arriving
 use Rattle.arriving.specs.declared.Way.{Way}
 use Rattle.arriving.specs.declared.Way.TheVariants.{Bus, Lost}
 use Rattle.hearing.specs.Hearings as hearing
-use Rattle.outlet.specs.declared.Leaving as L
-use Rattle.outlet.specs.declared.Leaving.TheVariants as leaves
 use Rattle.outlet.specs.Taking.{leaving}
 use Rattle.taking.specs.Takes as taking
 use Rattle.handing.specs.Hands as hands
@@ -83,10 +82,10 @@ arrive_none (Bus routing header) shelf place = pick (arriving.inlet_full (unit_a
     pick true = refl
     pick false = refl
 
-take_none : (leaving : L.Leaving) (shelf : Shelf) (place : ℕ) → number_of (taking.done_by leaving shelf place).reply.answer ≡ 0
+take_none : (leaving : Option ℕ) (shelf : Shelf) (place : ℕ) → number_of (taking.done_by leaving shelf place).reply.answer ≡ 0
 unfolding taking.done_by number_of
-take_none (leaves.Queue q) shelf place = refl
-take_none leaves.Empty shelf place = refl
+take_none (Some q) shelf place = refl
+take_none None shelf place = refl
 
 hear_none : (shelf : Shelf) (place : ℕ) (heard : List ℕ) → number_of (hearing.done_at shelf place heard).reply.answer ≡ 0
 unfolding number_of

@@ -1,4 +1,5 @@
 -- Soundness is kept by what an event does at a unit. Assumes nothing.
+use Rattle.std.specs.Prelude.{None, Option, Some}
 use Prim.Native.Nat.{ℕ, ◌<◌, ◌≤◌}
 use native.Mathlib.Omega.{arith}
 use mathlib.Core.Path.{◌≡◌, refl, sym, subst, ◌∙◌}
@@ -15,8 +16,6 @@ use Rattle.outlet.specs.declared.Ring.{Ring}
 use Rattle.outlet.specs.declared.Mode.{Mode}
 use Rattle.outlet.specs.declared.Mode.TheVariants.{One, Four}
 use Rattle.outlet.specs.Taking.{leaving, queues}
-use Rattle.outlet.specs.declared.Leaving as L
-use Rattle.outlet.specs.declared.Leaving.TheVariants as leaves
 use Rattle.outlet.proofs.Leaves.{leaving_iff}
 use Rattle.store.specs.Places.{Cell, put_at, inlet_slot, control_in_slot}
 use Rattle.store.specs.Rings.{tail, pushed, popped}
@@ -86,12 +85,12 @@ module _ (card : Card) (shelf : Shelf) (bytes rows i : ℕ) (here : i < length (
       subst (λ x. Sound card (with_unit shelf i x) bytes rows) (sym k.copy)
       (shelf_changed card shelf bytes rows i (hearing.copy_of v h).unit.outlet v.inlet (hearing.copy_of v h).unit.side here sound k.limits k.queues housed.inlet k.side (subst (λ x. waiting v ≤ waiting x) k.copy (omega (arith, k.waits))))
 
-  pub taken : (l : L.Leaving) → leaving v.outlet ≡ l → Sound card (taking.done_by l shelf i).reply.shelf bytes rows
+  pub taken : (l : Option ℕ) → leaving v.outlet ≡ l → Sound card (taking.done_by l shelf i).reply.shelf bytes rows
   unfolding taking.done_by
-  taken leaves.Empty e = sound
-  taken (leaves.Queue q) e =
+  taken None e = sound
+  taken (Some q) e =
       changed q (popped (queue v.outlet q) (capacity v.outlet.limits q))
-      (popped_fits (capacity v.outlet.limits q) (queue v.outlet q) (housed.queues.each q (few v.outlet.limits.mode ((leaving_iff v.outlet (leaves.Queue q)).0 e).0)))
+      (popped_fits (capacity v.outlet.limits q) (queue v.outlet q) (housed.queues.each q (few v.outlet.limits.mode ((leaving_iff v.outlet (Some q)).0 e).0)))
     where
       few : (m : Mode) → q < queues m → q < 4
       few One h = omega arith

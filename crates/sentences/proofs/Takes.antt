@@ -11,7 +11,6 @@ use borrow.Author.Tests.{eq-eqb}
 use Rattle.card.specs.declared.Card.{Card}
 use Rattle.outlet.specs.Outlets as outlet
 use Rattle.outlet.specs.Taking as queueing
-use Rattle.outlet.specs.declared.Leaving.{Leaving}
 use Rattle.store.specs.Places as places
 use Rattle.store.specs.Rings as rings
 use Rattle.shelf.specs.declared.Unit as U
@@ -36,7 +35,7 @@ use Rattle.sentences.proofs.Found.{many_units, unit_at_lem}
 use Rattle.sentences.proofs.Arrives.{let_in}
 
 -- what a take comes to, where it is let in
-outcome : (w : World) (place : ℕ) (buffer : List ℕ) (u : U.Unit) → Leaving → Outcome
+outcome : (w : World) (place : ℕ) (buffer : List ℕ) (u : U.Unit) → Option ℕ → Outcome
 outcome w place buffer u l = ended w (taking.done_by l w.shelf place) w.store (taking.buffer_by l u place w.store buffer)
 
 module _ (card : Card) (w : World) (runs : Runs card w) (unit place : ℕ) (d : DeclaredAt w.shelf unit place) where

@@ -1,4 +1,5 @@
 -- The two ways a take of lent bytes ends, and that the bytes are then the shelf after a take. Assumes nothing.
+use Rattle.std.specs.Prelude.{None, Option, Some}
 use Prim.Native.Nat.{ℕ, ◌+◌, ◌%◌, ◌≤◌, ◌<◌}
 use native.Mathlib.Omega.{arith}
 use mathlib.Core.Path.{◌≡◌, refl, sym, ap, subst, ◌∙◌}
@@ -12,8 +13,6 @@ use Rattle.outlet.specs.Outlets.{queue, capacity}
 use Rattle.outlet.specs.declared.Outlet.{Outlet}
 use Rattle.outlet.specs.declared.Ring.{Ring}
 use Rattle.outlet.specs.Taking.{leaving}
-use Rattle.outlet.specs.declared.Leaving as L
-use Rattle.outlet.specs.declared.Leaving.TheVariants as leaves
 use Rattle.store.specs.Places.{slot_at, outlet_slot, cell_at}
 use Rattle.store.specs.Rings.{popped}
 use Rattle.shelf.specs.Shelves.{blank}
@@ -35,51 +34,51 @@ use Rattle.taking.specs.InPlace.{state_by, state_at, comes_in, take_state}
 use Rattle.taking.proofs.Laws.{leaving_few, oldest_inside}
 
 -- by the outlet that was read
-module _ (b : List ℕ) (place : ℕ) (below : place < 32) (o : Outlet) (eo : o ≡ outlet_by (col b place)) (l : L.Leaving) (el : l ≡ leaving o) where
+module _ (b : List ℕ) (place : ℕ) (below : place < 32) (o : Outlet) (eo : o ≡ outlet_by (col b place)) (l : Option ℕ) (el : l ≡ leaving o) where
   here : o ≡ (unit_in b place).outlet
   unfolding unit_by
   here = eo
 
-  left : (m : L.Leaving) → l ≡ m → m ≡ leaving (unit_in b place).outlet
+  left : (m : Option ℕ) → l ≡ m → m ≡ leaving (unit_in b place).outlet
   left m e = sym e ∙ el ∙ ap leaving here
 
   same : unit_in b place ≡ unit_at (shelf_in b) place
   same = sym (unit_at_lem b place blank below)
 
-  meant : (m : L.Leaving) → l ≡ m → m ≡ leaving (unit_at (shelf_in b) place).outlet
+  meant : (m : Option ℕ) → l ≡ m → m ≡ leaving (unit_at (shelf_in b) place).outlet
   meant m e = left m e ∙ ap (λ (u : U.Unit). leaving u.outlet) same
 
-  module _ (e : l ≡ leaves.Empty) where
+  module _ (e : l ≡ None) where
     pub empty_out : record { answer = Empty; rises = none } ≡ outcome_of (done_at (shelf_in b) place)
     unfolding done_by
-    empty_out = ap (λ m. outcome_of (done_by m (shelf_in b) place)) (meant leaves.Empty e)
+    empty_out = ap (λ m. outcome_of (done_by m (shelf_in b) place)) (meant None e)
 
     pub empty_state : b ≡ state_at b place
     unfolding state_by
-    empty_state = ap (λ m. state_by m (unit_in b place).outlet b place) (left leaves.Empty e)
+    empty_state = ap (λ m. state_by m (unit_in b place).outlet b place) (left None e)
 
     pub empty_buffer : (store buffer : List ℕ) → buffer ≡ buffer_at (shelf_in b) place store buffer
     unfolding buffer_by
-    empty_buffer store buffer = ap (λ m. buffer_by m (unit_at (shelf_in b) place) place store buffer) (meant leaves.Empty e)
+    empty_buffer store buffer = ap (λ m. buffer_by m (unit_at (shelf_in b) place) place store buffer) (meant None e)
 
-  module _ (q : ℕ) (e : l ≡ leaves.Queue q) where
+  module _ (q : ℕ) (e : l ≡ Some q) where
     pub few : q < 4
-    few = leaving_few (unit_in b place) q (sym (left (leaves.Queue q) e))
+    few = leaving_few (unit_in b place) q (sym (left (Some q) e))
 
     pub inside : (bytes : ℕ) → Housed place (unit_in b place) bytes → slot_at place (outlet_slot o.limits q (queue o q).head) + 56 ≤ bytes
     inside bytes h =
         subst (λ (x : Outlet). slot_at place (outlet_slot x.limits q (queue x q).head) + 56 ≤ bytes) (sym here)
-        (oldest_inside (unit_in b place) q (sym (left (leaves.Queue q) e)) place bytes h)
+        (oldest_inside (unit_in b place) q (sym (left (Some q) e)) place bytes h)
 
     pub taken_out : record { answer = Taken; rises = row place #taken } ≡ outcome_of (done_at (shelf_in b) place)
     unfolding done_by
-    taken_out = ap (λ m. outcome_of (done_by m (shelf_in b) place)) (meant (leaves.Queue q) e)
+    taken_out = ap (λ m. outcome_of (done_by m (shelf_in b) place)) (meant (Some q) e)
 
     pub taken_state : with_ring b (16 + q) (20 + q) place (popped (queue o q) (capacity o.limits q)) ≡ state_at b place
     unfolding state_by
     taken_state =
         ap (λ (x : Outlet). with_ring b (16 + q) (20 + q) place (popped (queue x q) (capacity x.limits q))) here
-        ∙ ap (λ m. state_by m (unit_in b place).outlet b place) (left (leaves.Queue q) e)
+        ∙ ap (λ m. state_by m (unit_in b place).outlet b place) (left (Some q) e)
 
     pub taken_buffer : (k : Link) → k ≡ link_of (col b place 1) → (store buffer : List ℕ) →
         outward k o (cell_at store place (outlet_slot o.limits q (queue o q).head)) ≡ buffer_at (shelf_in b) place store buffer
@@ -87,14 +86,14 @@ module _ (b : List ℕ) (place : ℕ) (below : place < 32) (o : Outlet) (eo : o 
     taken_buffer k ek store buffer =
         (λ t. outward (ek t) (eo t) (cell_at store place (outlet_slot (eo t).limits q (queue (eo t) q).head)))
         ∙ ap (λ (x : U.Unit). handed x (oldest x q place store)) same
-        ∙ ap (λ m. buffer_by m (unit_at (shelf_in b) place) place store buffer) (meant (leaves.Queue q) e)
+        ∙ ap (λ m. buffer_by m (unit_at (shelf_in b) place) place store buffer) (meant (Some q) e)
 
 -- one row changes, or none
-pub out_fits : (l : L.Leaving) (b : List ℕ) (place rows : ℕ) → place < 32 → place < rows →
+pub out_fits : (l : Option ℕ) (b : List ℕ) (place rows : ℕ) → place < 32 → place < rows →
     ((outcome_of (done_by l (shelf_in b) place)).rises.to ≤ 32) × ((outcome_of (done_by l (shelf_in b) place)).rises.to ≤ rows)
 unfolding done_by
-out_fits (leaves.Queue q) b place rows h k = (omega arith, omega arith)
-out_fits leaves.Empty b place rows h k = (omega arith, omega arith)
+out_fits (Some q) b place rows h k = (omega arith, omega arith)
+out_fits None b place rows h k = (omega arith, omega arith)
 
 -- the bytes after a take at a place: the shelf that they are, whether they are a state, how many there are, and which are as they were
 module _ (b : List ℕ) (long : length b ≡ 2048) (place : ℕ) (below : place < 32) where
@@ -104,36 +103,36 @@ module _ (b : List ℕ) (long : length b ≡ 2048) (place : ℕ) (below : place 
   abbrev ring : ℕ → Ring
   ring q = popped (queue outlet q) (capacity outlet.limits q)
 
-  after : (l : L.Leaving) → l ≡ leaving outlet → shelf_in (state_by l outlet b place) ≡ (done_by l (shelf_in b) place).reply.shelf
+  after : (l : Option ℕ) → l ≡ leaving outlet → shelf_in (state_by l outlet b place) ≡ (done_by l (shelf_in b) place).reply.shelf
   unfolding state_by done_by
-  after (leaves.Queue q) e =
+  after (Some q) e =
       queue_put_lem b place (ring q) below long q (leaving_few (unit_in b place) q (sym e))
       ∙ ap (λ (u : U.Unit). with_unit (shelf_in b) place (without u q)) (sym (unit_at_lem b place blank below))
-  after leaves.Empty e = refl
+  after None e = refl
 
   at_decodes : shelf_in (state_at b place) ≡ (done_at (shelf_in b) place).reply.shelf
   at_decodes =
       after (leaving outlet) refl
       ∙ ap (λ (u : U.Unit). (done_by (leaving u.outlet) (shelf_in b) place).reply.shelf) (sym (unit_at_lem b place blank below))
 
-  at_formed : (l : L.Leaving) → l ≡ leaving outlet → formed_all (state_by l outlet b place) ≡ formed_all b
+  at_formed : (l : Option ℕ) → l ≡ leaving outlet → formed_all (state_by l outlet b place) ≡ formed_all b
   unfolding state_by
-  at_formed (leaves.Queue q) e =
+  at_formed (Some q) e =
       let f = leaving_few (unit_in b place) q (sym e) in
       formed_ring b (16 + q) (20 + q) place (ring q) (omega arith) (omega arith) (omega arith) (omega arith) below
-  at_formed leaves.Empty e = refl
+  at_formed None e = refl
 
-  at_long : (l : L.Leaving) → length (state_by l outlet b place) ≡ length b
+  at_long : (l : Option ℕ) → length (state_by l outlet b place) ≡ length b
   unfolding state_by
-  at_long (leaves.Queue q) = ring_long b (16 + q) (20 + q) place (ring q)
-  at_long leaves.Empty = refl
+  at_long (Some q) = ring_long b (16 + q) (20 + q) place (ring q)
+  at_long None = refl
 
-  at_other : (k : ℕ) → (448 ≤ k → k < 768 → k % 32 ≡ place → ⊥) → (l : L.Leaving) → l ≡ leaving outlet → get_or (state_by l outlet b place) k 0 ≡ get_or b k 0
+  at_other : (k : ℕ) → (448 ≤ k → k < 768 → k % 32 ≡ place → ⊥) → (l : Option ℕ) → l ≡ leaving outlet → get_or (state_by l outlet b place) k 0 ≡ get_or b k 0
   unfolding state_by
-  at_other k apart (leaves.Queue q) e =
+  at_other k apart (Some q) e =
       let f = leaving_few (unit_in b place) q (sym e) in
       ring_other b (16 + q) (20 + q) place (ring q) k (λ x. apart (omega arith) (omega arith) (omega arith)) (λ x. apart (omega arith) (omega arith) (omega arith))
-  at_other k apart leaves.Empty e = refl
+  at_other k apart None e = refl
 
 -- The tie: of bytes that are a state, a take leaves the shelf that 01's Take leaves, and a state
 module _ (card : Card) (b : List ℕ) (store rows unit lent : ℕ) (long : length b ≡ 2048) where

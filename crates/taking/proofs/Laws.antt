@@ -1,4 +1,5 @@
 -- What is written, and where the cell that leaves lies. Assumes nothing.
+use Rattle.std.specs.Prelude.{Some}
 use Prim.Native.Nat.{ℕ, ◌+◌, ◌≤◌, ◌<◌}
 use native.Mathlib.Omega.{arith}
 use mathlib.Core.Path.{◌≡◌, refl, ap, ◌∙◌}
@@ -12,7 +13,6 @@ use Rattle.outlet.specs.Outlets.{capacity, queue}
 use Rattle.outlet.specs.declared.Mode.{Mode}
 use Rattle.outlet.specs.declared.Mode.TheVariants.{One, Four}
 use Rattle.outlet.specs.Taking.{leaving, queues}
-use Rattle.outlet.specs.declared.Leaving.TheVariants as leaves
 use Rattle.outlet.proofs.Leaves.{leaving_iff}
 use Rattle.store.specs.Places.{slot_at, outlet_slot}
 use Rattle.store.proofs.Slots.{start_inside, slot_inside}
@@ -38,13 +38,13 @@ queues_most : (mode : Mode) → queues mode ≤ 4
 queues_most One = omega arith
 queues_most Four = omega arith
 
-module _ (u : U.Unit) (q : ℕ) (e : leaving u.outlet ≡ leaves.Queue q) where
+module _ (u : U.Unit) (q : ℕ) (e : leaving u.outlet ≡ Some q) where
   pub leaving_few : q < 4
-  leaving_few = let w = (leaving_iff u.outlet (leaves.Queue q)).0 e in omega (arith, w.0, queues_most u.outlet.limits.mode)
+  leaving_few = let w = (leaving_iff u.outlet (Some q)).0 e in omega (arith, w.0, queues_most u.outlet.limits.mode)
 
   pub oldest_inside : (place bytes : ℕ) → Housed place u bytes → slot_at place (outlet_slot u.outlet.limits q (queue u.outlet q).head) + 56 ≤ bytes
   oldest_inside place bytes h =
-      let w = (leaving_iff u.outlet (leaves.Queue q)).0 e in
+      let w = (leaving_iff u.outlet (Some q)).0 e in
       let cap = capacity u.outlet.limits q in
       let fits = h.queues.each q leaving_few in
       let some : 0 < cap = omega (arith, w.1, fits.held) in

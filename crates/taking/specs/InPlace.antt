@@ -1,11 +1,9 @@
 -- Take, of a state in lent bytes: what is answered, the bytes and the buffer afterwards. Assumes nothing.
-use Rattle.std.specs.Prelude.{ℕ, ◌+◌, List, eqb}
+use Rattle.std.specs.Prelude.{ℕ, ◌+◌, List, eqb, None, Option, Some}
 use Rattle.card.specs.declared.Card.{Card}
 use Rattle.outlet.specs.Outlets.{queue, capacity}
 use Rattle.outlet.specs.declared.Outlet.{Outlet}
 use Rattle.outlet.specs.Taking.{leaving}
-use Rattle.outlet.specs.declared.Leaving as L
-use Rattle.outlet.specs.declared.Leaving.TheVariants as leaves
 use Rattle.store.specs.Rings.{popped}
 use Rattle.state.specs.Bytes.{unit_in, shelf_in, with_ring}
 use Rattle.answer.specs.Answers.{refused_with}
@@ -16,9 +14,9 @@ use Rattle.soundness.specs.Admission.{admitted_in, formed_or, decided}
 use Rattle.taking.specs.Takes.{take_done, take_buffer}
 
 -- the bytes after the oldest cell of a queue has left the outlet of the unit in a place
-unfoldable pub state_by : L.Leaving → Outlet → List ℕ → ℕ → List ℕ
-state_by (leaves.Queue q) outlet b place = with_ring b (16 + q) (20 + q) place (popped (queue outlet q) (capacity outlet.limits q))
-state_by leaves.Empty outlet b place = b
+unfoldable pub state_by : Option ℕ → Outlet → List ℕ → ℕ → List ℕ
+state_by (Some q) outlet b place = with_ring b (16 + q) (20 + q) place (popped (queue outlet q) (capacity outlet.limits q))
+state_by None outlet b place = b
 
 abbrev pub state_at : List ℕ → ℕ → List ℕ
 state_at b place = state_by (leaving (unit_in b place).outlet) (unit_in b place).outlet b place

@@ -1,5 +1,5 @@
 -- Take. Assumes nothing.
-use Rattle.std.specs.Prelude.{ℕ, List, ◌∷◌, ◌++◌, eqb, length}
+use Rattle.std.specs.Prelude.{ℕ, List, ◌∷◌, ◌++◌, eqb, length, None, Option, Some}
 use Rattle.octets.specs.Octets.{be4, four, part}
 use Rattle.header.specs.Check.{check}
 use Rattle.header.specs.declared.Link.{Link}
@@ -7,8 +7,6 @@ use Rattle.card.specs.declared.Card.{Card}
 use Rattle.outlet.specs.Outlets.{capacity, queue}
 use Rattle.outlet.specs.declared.Outlet.{Outlet}
 use Rattle.outlet.specs.Taking.{leaving, marks, outgoing}
-use Rattle.outlet.specs.declared.Leaving as L
-use Rattle.outlet.specs.declared.Leaving.TheVariants as leaves
 use Rattle.store.specs.Rings.{popped}
 use Rattle.store.specs.Places.{Cell, outlet_slot, cell_at}
 use Rattle.shelf.specs.declared.Unit as U
@@ -38,13 +36,13 @@ abbrev pub without : U.Unit → ℕ → U.Unit
 without u q = with_queue u q (popped (queue u.outlet q) (capacity u.outlet.limits q))
 
 -- "Take gives the oldest cell (mode `one`) or the oldest cell of the lowest class held (mode `four`), or `empty` with the buffer unchanged."
-unfoldable pub done_by : L.Leaving → Shelf → ℕ → Done
-done_by (leaves.Queue q) shelf place = ends Taken (with_unit shelf place (without (unit_at shelf place) q)) (row place #taken)
-done_by leaves.Empty shelf place = ends Empty shelf none
+unfoldable pub done_by : Option ℕ → Shelf → ℕ → Done
+done_by (Some q) shelf place = ends Taken (with_unit shelf place (without (unit_at shelf place) q)) (row place #taken)
+done_by None shelf place = ends Empty shelf none
 
-unfoldable pub buffer_by : L.Leaving → U.Unit → ℕ → List ℕ → List ℕ → List ℕ
-buffer_by (leaves.Queue q) u place store buffer = handed u (oldest u q place store)
-buffer_by leaves.Empty u place store buffer = buffer
+unfoldable pub buffer_by : Option ℕ → U.Unit → ℕ → List ℕ → List ℕ → List ℕ
+buffer_by (Some q) u place store buffer = handed u (oldest u q place store)
+buffer_by None u place store buffer = buffer
 
 -- at the unit in a place
 abbrev pub done_at : Shelf → ℕ → Done
