@@ -1,6 +1,6 @@
 -- Whether a unit asks, which is the first, which priority is the highest. Assumes nothing.
 use mathlib.Core.Path.{◌≡◌, refl, sym, ap, ◌∙◌}
-use mathlib.Core.Bool.{Bool, true, false, ◌||◌, cond, or-false, or-true, or_assoc, false≢true}
+use mathlib.Core.Bool.{Bool, true, false, ◌||◌, cond, or-true, false≢true}
 use mathlib.Core.List.{List, [], ◌∷◌, ◌++◌, append-nil}
 use Prim.Native.Nat.{ℕ, zero, suc, ◌+◌, ◌≤◌, ◌<◌}
 use native.Mathlib.Numerals.{add-one, unary_clauses}
@@ -10,7 +10,8 @@ use lib.ListN.{length, get_or, set, take, drop, drop_of_length-le, get_or-eq_def
 use lib.Seq.{drop-cons, take_all, take-suc-set, drop-set-lt, append_snoc}
 use borrow.Author.Tests.{eq-eqb, ne_eqb, eqb-true, eqb-false, le-leb, lt-leb}
 use Rattle.arbiter.proofs.Order.{units_length, unit_at_lem, cyclic_length, cyclic_has}
-use Rattle.arbiter.specs.Arbitration.{besides, asking, due, renewed_from, units, cyclic, nobody, asks_at, some_asks, highest, first, FirstOf}
+use Rattle.std.specs.List.{list_any}
+use Rattle.arbiter.specs.Arbitration.{run, besides, asking, due, renewed_from, units, cyclic, nobody, asks_at, some_asks, highest, first, FirstOf}
 
 -- one number is another, or is not
 pub same_or : {P : Type 0} (m n : ℕ) → (m ≡ n → P) → ((m ≡ n → ⊥) → P) → P
@@ -21,16 +22,14 @@ same_or {P} m n f g = pick (eqb m n) refl
     pick false t = g (eqb-false m n t)
 
 module _ (asks : List ℕ) (priority : ℕ) where
-  -- the units of the code's test, one at a time
-  pub some_next : (i : ℕ) (some : Bool) → i < 32 → (some || some_asks asks priority (drop i units)) ≡ ((some || asks_at asks priority i) || some_asks asks priority (drop (i + 1) units))
-  unfolding some_asks
-  some_next i some h =
-      let l = units_length in
-      rw (add-one, drop-cons units i 0 (omega arith), unit_at_lem i h) (sym (or_assoc some (asks_at asks priority i) (some_asks asks priority (drop (suc i) units))))
+  -- some unit asks exactly where one of the requests is the priority
+  any_run : (n count : ℕ) → n + count ≤ length asks → list_any (λ ask. eqb ask priority) (take count (drop n asks)) ≡ some_asks asks priority (run n count)
+  unfolding some_asks run
+  any_run n zero h = refl
+  any_run n (suc count) h = rw (drop-cons asks n 0 (omega arith)) (ap (λ t. asks_at asks priority n || t) (any_run (suc n) count (omega arith)))
 
-  pub some_last : (i : ℕ) (some : Bool) → 32 ≤ i → (some || some_asks asks priority (drop i units)) ≡ some
-  unfolding some_asks
-  some_last i some h = let l = units_length in rw (drop_of_length-le units {i = i} (omega arith)) (or-false some)
+  pub any_unit : length asks ≡ 32 → list_any (λ ask. eqb ask priority) asks ≡ some_asks asks priority units
+  any_unit l = ap (list_any (λ ask. eqb ask priority)) (sym (take_all 32 asks (omega arith))) ∙ any_run 0 32 (omega arith)
 
   -- the units of the code's search, one at a time
   module _ (last k unit : ℕ) (h : k < 32) (u : unit ≡ get_or (cyclic last) k 0) where

@@ -22,7 +22,7 @@ pub struct Grant {
     pub asks: [u8; 32],
 }
 
-// What a grant answers: the new arbiter, and the unit granted, or NOBODY.
+// What a grant answers: the new arbiter, and the unit granted, or NOBODY. Beside Grant, since `granting` in crates/document says it so.
 #[derive(Clone, Copy)]
 pub struct Granted {
     pub arbiter: Arbiter,
@@ -30,29 +30,21 @@ pub struct Granted {
 }
 
 // Whether the request of the unit with this number is renewed in this frame.
+#[tactic(auto, using(std::proofs::lemmas::Bool::Decides::nat_tests), unfolding(crate::specs::Arbitration::due))]
 pub fn due(bus: u8, frame: u16, number: u8) -> bool
     ensures { result ≡ is_due bus frame number }
 {
-    if bus == 32 {
-        if number < 16 {
-            frame % 2 == 0
-        } else {
-            frame % 2 == 1
-        }
-    } else {
-        true
-    }
+    let half = (number < 16) == (frame % 2 == 0);
+    bus != 32 || half
 }
 
 // The priority that a unit with so many cells in its inlet asks at, 0 for none; whether the oldest of them is granted.
+#[tactic(auto, using(std::proofs::lemmas::Bool::Decides::nat_tests), unfolding(crate::specs::Arbitration::asking))]
 pub fn asking(priority: u8, cells: u16, granted: bool) -> u8
     ensures { result ≡ asks_for priority cells granted }
 {
-    if granted {
-        if 1 < cells { priority } else { 0 }
-    } else {
-        if 0 < cells { priority } else { 0 }
-    }
+    let besides = cells.saturating_sub(u16::from(granted));
+    if 0 < besides { priority } else { 0 }
 }
 
 // A request after its renewal: what the unit asks now, if it is due; else it stands.
@@ -63,6 +55,7 @@ fn ask_after(due: bool, now: u8, before: u8) -> u8
 }
 
 // The unit after this one in cyclic order; after nobody unit 0.
+#[tactic(auto, using(std::proofs::lemmas::Bool::Decides::nat_tests), unfolding(crate::specs::Arbitration::next))]
 fn next(unit: u8) -> u8
     ensures { result ≡ next_to unit }
 {
@@ -73,13 +66,7 @@ fn next(unit: u8) -> u8
 fn some_asks(asks: [u8; 32], priority: u8) -> bool
     ensures { result ≡ some_asks asks priority units }
 {
-    let mut some = false;
-    let mut n: usize = 0;
-    while n < 32 {
-        some = some | (asks[n] == priority);
-        n += 1;
-    }
-    some
+    asks.contains(&priority)
 }
 
 // The highest priority asking, 0 where nobody asks.
@@ -103,13 +90,11 @@ fn first_after(asks: [u8; 32], priority: u8, last: u8) -> u8
     ensures { result ≡ first asks priority (cyclic last) }
 {
     let mut unit = next(last);
-    let mut passed: u8 = 0;
-    while passed < 32 {
+    for _passed in 0..32u8 {
         if asks[unit as usize] == priority {
             return unit;
         }
         unit = next(unit);
-        passed += 1;
     }
     NOBODY
 }
@@ -149,29 +134,24 @@ impl Arbiter {
         ensures { result ≡ renewed self bus frame now }
     {
         let mut asks = self.asks;
-        let mut number: u8 = 0;
-        while number < 32 {
+        for number in 0..32u8 {
             let n = number as usize;
             asks[n] = ask_after(due(bus, frame, number), now[n], asks[n]);
-            number += 1;
         }
         self.asks = asks;
         self
     }
 
     // A unit is granted, if one asks.
-    pub fn grant(mut self) -> Granted
+    pub fn grant(self) -> Granted
         ensures { result ≡ granted_by self }
     {
-        let last = self.last;
-        let asks = self.asks;
-        let g = grant_rule(last, asks);
-        let newlast = g.last;
-        let newasks = g.asks;
-        self.last = newlast;
-        self.asks = newasks;
+        let g = grant_rule(self.last, self.asks);
+        let last = g.last;
+        let asks = g.asks;
+        let arbiter = Arbiter { last, asks };
         Granted {
-            arbiter: self,
+            arbiter,
             unit: g.unit,
         }
     }

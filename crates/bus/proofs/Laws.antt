@@ -10,7 +10,9 @@ use borrow.Author.Tests.{eq-eqb, ne_eqb}
 use Rattle.octets.specs.Octets.{be2, be4, splice}
 use Rattle.octets.proofs.Parts.{written}
 use Rattle.bus.specs.Routing.{controlling}
-use Rattle.bus.specs.Frame.{cell, parity, sealed, carried, heard, returned}
+use Rattle.std.specs.List.{fold}
+use Rattle.std.specs.Int.Bits.{bit_xor}
+use Rattle.bus.specs.Frame.{cell, exclusive_or, parity, sealed, carried, heard, returned}
 use Rattle.bus.specs.Heard.{Length, Damaged}
 
 -- what is written one after the other is the cell
@@ -26,6 +28,12 @@ composed r h payload b lp lb =
     let nothing : drop (length payload) b₈ ≡ [] = drop_of_length-le b₈ {i = length payload} (simp length-drop (omega arith)) in
     written (splice (splice (splice b 0 (be2 r)) 2 (be2 0)) 4 (be4 h)) (be2 r ++ be2 0 ++ be4 h) b₈ payload 8 w₃ refl
     ∙ ap (λ l. be2 r ++ be2 0 ++ be4 h ++ payload ++ l) nothing ∙ append-nil (be2 r ++ be2 0 ++ be4 h ++ payload)
+
+-- the exclusive-or of bytes is a fold
+pub folded : (p : ℕ) (bytes : List ℕ) → fold bit_xor p bytes ≡ exclusive_or p bytes
+unfolding exclusive_or
+folded p [] = refl
+folded p (b ∷ bytes) = folded (bit_xor p b) bytes
 
 -- a cell and its parity, written into 57 bytes
 pub sealed_by : (bytes frame : List ℕ) → length bytes ≡ 56 → length frame ≡ 57 → set (splice frame 0 bytes) 56 (parity bytes) ≡ sealed bytes

@@ -37,15 +37,14 @@ pub fn check(upper: u16) -> u8
     ensures { result ≡ check_of upper }
 {
     let mut rest: u8 = 0;
-    let mut left: u16 = 12;
-    while 0 < left {
-        left -= 3;
-        rest = pass(rest, ((upper >> left) % 8) as u8);
+    for turn in 0..4u16 {
+        rest = pass(rest, ((upper >> (9 - 3 * turn)) % 8) as u8);
     }
     rest
 }
 
 // The upper 12 bits of a routing header. A class keeps its two low bits.
+#[tactic(auto, unfolding(crate::specs::Routing::upper))]
 fn upper(target: Target, class: u8) -> u16
     ensures value { result ≡ upper_of target class }
     ensures small { result < 4096 }
@@ -75,6 +74,7 @@ fn control_to(unit: u8) -> u16
 }
 
 // What a routing header says.
+#[tactic(auto, using(std::proofs::lemmas::Bool::Decides::nat_tests), unfolding(crate::specs::Routing::address))]
 pub fn read(routing: u16) -> Address
     ensures { result ≡ address_of routing }
 {
@@ -83,39 +83,21 @@ pub fn read(routing: u16) -> Address
     if (check(routing / 16) as u16) != routing % 16 {
         return Address::Bad;
     }
-    let kind = routing / 16384 % 4;
-    if kind == 0 {
-        if number <= 31 {
-            let target = Target::Unit(number);
-            return Address::To { target, class };
-        }
-        return Address::Bad;
-    }
-    if kind == 1 {
-        let target = Target::Session(number);
-        return Address::To { target, class };
-    }
-    if kind == 2 {
-        if number == 0 {
-            let target = Target::All;
-            return Address::To { target, class };
-        }
-        return Address::Bad;
-    }
-    Address::Third { class, number }
+    let target = match (routing / 16384 % 4, number) {
+        (0, 0..=31) => Target::Unit(number),
+        (1, _) => Target::Session(number),
+        (2, 0) => Target::All,
+        (3, _) => return Address::Third { class, number },
+        _ => return Address::Bad,
+    };
+    Address::To { target, class }
 }
 
 // The exclusive-or of some bytes.
 pub fn parity(bytes: &[u8]) -> u8
     ensures { result ≡ parity_of bytes.now }
 {
-    let mut p: u8 = 0;
-    let mut i: usize = 0;
-    while i < bytes.len() {
-        p = p ^ bytes[i];
-        i += 1;
-    }
-    p
+    bytes.iter().fold(0, |p, b| p ^ *b)
 }
 
 // Writes the 56 bytes of a cell as it goes on the bus, before parity. The tandem header is zero.

@@ -21,6 +21,7 @@ pub enum Ask {
 }
 
 // Whether the card can hold it.
+#[tactic(auto, unfolding(crate::specs::Cards::holds))]
 pub fn holds(card: Card, ask: Ask) -> bool
     ensures { result ≡ holds_it card ask }
 {
@@ -30,15 +31,14 @@ pub fn holds(card: Card, ask: Ask) -> bool
     }
 }
 
+#[tactic(auto, unfolding(crate::specs::Cards::narrow_holds))]
 fn narrow_holds(ask: Ask) -> bool
     ensures { result ≡ narrow_holds ask }
 {
     match ask {
         Ask::Bus(units) => units != 32,
-        Ask::On(link) => match link {
-            Link::Uni => true,
-            Link::Nni => false,
-        },
+        Ask::On(Link::Uni) => true,
+        Ask::On(Link::Nni) => false,
         Ask::Out(vpi) => vpi <= 255,
     }
 }

@@ -33,6 +33,7 @@ pub fn highest(link: Link) -> u16
 }
 
 // The VPI, as the link reads it.
+#[tactic(auto, unfolding(crate::specs::Fields::fields))]
 pub fn path(link: Link, word: u32) -> u16
     ensures { result ≡ (fields link word).vpi }
 {
@@ -43,6 +44,7 @@ pub fn path(link: Link, word: u32) -> u16
 }
 
 // The GFC, of which an NNI has none.
+#[tactic(auto, unfolding(crate::specs::Fields::fields))]
 fn flow(link: Link, word: u32) -> u8
     ensures { result ≡ (fields link word).gfc }
 {
@@ -53,6 +55,7 @@ fn flow(link: Link, word: u32) -> u8
 }
 
 // The fields of a header, as the link reads them.
+#[tactic(auto, unfolding(crate::specs::Fields::fields))]
 pub fn read(link: Link, word: u32) -> Header
     ensures { result ≡ fields link word }
 {
@@ -66,6 +69,7 @@ pub fn read(link: Link, word: u32) -> Header
 }
 
 // The twelve bits above the VCI.
+#[tactic(auto, unfolding(crate::specs::Fields::top_of))]
 fn top(link: Link, gfc: u8, vpi: u16) -> u32
     ensures { result ≡ top_of link gfc vpi }
 {
@@ -100,10 +104,8 @@ pub fn check(word: u32) -> u8
     ensures { result ≡ check_of word }
 {
     let mut rest: u8 = 0;
-    let mut left: u32 = 36;
-    while 0 < left {
-        left -= 6;
-        rest = pass(rest, ((word >> left) % 64) as u8);
+    for turn in 0..6u32 {
+        rest = pass(rest, ((word >> (30 - 6 * turn)) % 64) as u8);
     }
     rest ^ 0x55
 }

@@ -9,7 +9,7 @@ pub fn two(b: &[u8], k: usize) -> u16
     requires { k + 2 ≤ length b.now }
     ensures { result ≡ two_of b.now k }
 {
-    (b[k] as u16) * 256 + (b[k + 1] as u16)
+    u16::from_be_bytes([b[k], b[k + 1]])
 }
 
 // The number that four bytes say.
@@ -17,7 +17,7 @@ pub fn four(b: &[u8], k: usize) -> u32
     requires { k + 4 ≤ length b.now }
     ensures { result ≡ four_of b.now k }
 {
-    (two(b, k) as u32) * 65536 + (two(b, k + 2) as u32)
+    u32::from_be_bytes([b[k], b[k + 1], b[k + 2], b[k + 3]])
 }
 
 // Copies all of v into b, from place k on.
@@ -25,11 +25,7 @@ pub fn copy(v: &[u8], b: &mut [u8], k: usize)
     requires { k + length v.now ≤ length b.old }
     ensures { b.new ≡ splice b.old k v.now }
 {
-    let mut i: usize = 0;
-    while i < v.len() {
-        b[k + i] = v[i];
-        i += 1;
-    }
+    b[k..k + v.len()].copy_from_slice(v);
 }
 
 // Writes a number's two bytes.
@@ -37,8 +33,7 @@ pub fn put_two(b: &mut [u8], k: usize, n: u16)
     requires { k + 2 ≤ length b.old }
     ensures { b.new ≡ splice b.old k (be2 n) }
 {
-    let bytes = [(n / 256 % 256) as u8, (n % 256) as u8];
-    copy(&bytes, b, k);
+    b[k..k + 2].copy_from_slice(&n.to_be_bytes());
 }
 
 // Writes a number's four bytes.
@@ -46,13 +41,5 @@ pub fn put_four(b: &mut [u8], k: usize, n: u32)
     requires { k + 4 ≤ length b.old }
     ensures { b.new ≡ splice b.old k (be4 n) }
 {
-    let high = n / 65536;
-    let low = n % 65536;
-    let bytes = [
-        (high / 256 % 256) as u8,
-        (high % 256) as u8,
-        (low / 256 % 256) as u8,
-        (low % 256) as u8,
-    ];
-    copy(&bytes, b, k);
+    b[k..k + 4].copy_from_slice(&n.to_be_bytes());
 }

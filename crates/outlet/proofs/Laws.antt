@@ -3,10 +3,10 @@ use mathlib.Core.Path.{◌≡◌, refl, sym, subst, ◌∙◌}
 use mathlib.Core.Bool.{Bool, true, false, ◌&&◌}
 use mathlib.Core.Logic.{◌↔◌}
 use mathlib.Core.List.{List, map}
-use Prim.Native.Nat.{ℕ, zero, suc, ◌+◌, ◌-◌, ◌≤◌, ◌<◌}
+use Prim.Native.Nat.{ℕ, zero, suc, ◌+◌, ◌-◌, ◌<◌}
 use native.Mathlib.Omega.{arith}
 use lib.Dec.{leb, ltb, eqb-suc-zero}
-use lib.ListN.{length, get_or, length-map, get_or-eq_default}
+use lib.ListN.{length, get_or, length-map}
 use borrow.Author.Tests.{ne_eqb}
 use Rattle.outlet.proofs.Truth.{le_iff, lt_iff, eq_iff, and_iff}
 use Rattle.outlet.specs.Outlets.{capacities, capacity, given_in, given, GivenIn, Given, within, nothing, ring_fits, RingFits, queue_fits, rings_fit, outlet_fits, RingsFit, empty, queue, fresh, one, four}
@@ -27,10 +27,6 @@ one_other l (suc zero) h = refl
 one_other l (suc (suc zero)) h = refl
 one_other l (suc (suc (suc zero))) h = refl
 one_other l (suc (suc (suc (suc q)))) h = refl
-
-pub past_four : (mode : Mode) (l q : ℕ) → 4 ≤ q → get_or (capacities mode l) q 0 ≡ 0
-past_four One l q h = one_other l q (λ e. omega arith)
-past_four Four l q h = get_or-eq_default (capacities Four l) 0 {n = q} h
 
 -- the limits that a `unit` line gives
 given_in_iff : (mode : Mode) (l c v : ℕ) → (given_in mode l c v ≡ true) ↔ GivenIn mode l c v

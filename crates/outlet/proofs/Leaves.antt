@@ -2,11 +2,11 @@
 use Rattle.std.specs.Prelude.{None, Option, Some}
 use mathlib.Core.Path.{◌≡◌, refl, ap, subst, ◌∙◌}
 use mathlib.Core.Logic.{◌↔◌, inr}
-use mathlib.Core.Bool.{Bool, true, false, ◌&&◌, cond}
-use Prim.Native.Nat.{ℕ, zero, suc, ◌+◌, ◌≤◌, ◌<◌}
+use mathlib.Core.Bool.{Bool, true, false, cond}
+use Prim.Native.Nat.{ℕ, zero, suc, ◌+◌, ◌-◌, ◌≤◌, ◌<◌}
 use native.Mathlib.Omega.{arith}
 use lib.Dec.{eqb, ltb}
-use borrow.Author.Tests.{eqb-true, eqb-false, ltb-true, ltb-false, lt-ltb}
+use borrow.Author.Tests.{eqb-true, eqb-false, ltb-true, ltb-false, lt-ltb, le-ltb}
 use Rattle.outlet.proofs.Truth.{le_iff, and_iff, or_iff}
 use Rattle.outlet.specs.declared.Mode.{Mode}
 use Rattle.outlet.specs.declared.Mode.TheVariants.{One, Four}
@@ -15,15 +15,6 @@ use Rattle.outlet.specs.Hearing.{limit, held, at_limit}
 use Rattle.outlet.specs.Taking.{queues, lowest, leaving, LeavingOf, congested_in, marks, CongestedIn}
 use Rattle.outlet.proofs.Fates.{limit_in}
 
--- in each mode
-pub leaving_in : (outlet : Outlet) (mode : Mode) → outlet.limits.mode ≡ mode → leaving outlet ≡ lowest (held outlet) 0 (queues mode)
-unfolding leaving
-leaving_in outlet mode e = ap (λ m. lowest (held outlet) 0 (queues m)) e
-
-pub marks_in : (outlet : Outlet) (mode : Mode) → outlet.limits.mode ≡ mode → marks outlet ≡ (outlet.limits.mark && congested_in mode outlet)
-unfolding marks
-marks_in outlet mode e = ap (λ m. outlet.limits.mark && congested_in m outlet) e
-
 pub leaving_first : (outlet : Outlet) → 0 < held outlet 0 → leaving outlet ≡ Some 0
 unfolding leaving lowest
 leaving_first outlet h = go outlet.limits.mode
@@ -31,6 +22,24 @@ leaving_first outlet h = go outlet.limits.mode
     go : (mode : Mode) → lowest (held outlet) 0 (queues mode) ≡ Some 0
     go One = rw (lt-ltb 0 (held outlet 0) h)
     go Four = rw (lt-ltb 0 (held outlet 0) h)
+
+-- the search goes from queue to queue
+module _ (cells : ℕ → ℕ) (q many : ℕ) where
+  pub lowest_here : q < many → 0 < cells q → lowest cells q (many - q) ≡ Some q
+  unfolding lowest
+  lowest_here h n = let e : many - q ≡ suc (many - (q + 1)) = omega arith in rw (e, lt-ltb 0 (cells q) n)
+
+  pub lowest_on : q < many → cells q ≤ 0 → lowest cells q (many - q) ≡ lowest cells (q + 1) (many - (q + 1))
+  unfolding lowest
+  lowest_on h n = let e : many - q ≡ suc (many - (q + 1)) = omega arith in rw (e, le-ltb 0 (cells q) n)
+
+  pub lowest_past : many ≤ q → lowest cells q (many - q) ≡ None
+  unfolding lowest
+  lowest_past h = let e : many - q ≡ 0 = omega arith in rw e
+
+pub leaving_start : (outlet : Outlet) → leaving outlet ≡ lowest (held outlet) 0 (queues outlet.limits.mode - 0)
+unfolding leaving
+leaving_start outlet = let e : queues outlet.limits.mode ≡ queues outlet.limits.mode - 0 = omega arith in ap (lowest (held outlet) 0) e
 
 -- the lowest of some queues, as a fact
 From : (ℕ → ℕ) → ℕ → ℕ → Option ℕ → Type 0

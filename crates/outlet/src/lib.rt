@@ -5,7 +5,7 @@
 ghost use Rattle.std.specs.Prelude.{◌≡◌, ◌-◌};
 ghost use Rattle.outlet.specs.Outlets.{empty as empty_of, fresh as fresh_of, one as one_of, four as four_of, capacity as capacity_of, queue as ring_of, Given};
 ghost use Rattle.outlet.specs.Hearing.{queue_of, limit as limit_in, held as held_in, at_limit, too_wide, fate_at, fate_in};
-ghost use Rattle.outlet.specs.Taking.{leaving, marks as marks_it, marked as marked_of, outgoing as outgoing_of};
+ghost use Rattle.outlet.specs.Taking.{queues as queues_in, leaving, marks as marks_it, marked as marked_of, outgoing as outgoing_of};
 
 use header::{Header, Link};
 
@@ -113,18 +113,8 @@ impl Outlet {
     }
 }
 
-// What the VBR queue of mode four holds.
-fn rest(cbrlength: u8) -> u8
-    ensures { result ≡ 89 - cbrlength }
-{
-    if cbrlength <= Outlet::SHARED {
-        Outlet::SHARED - cbrlength
-    } else {
-        0
-    }
-}
-
 // How many cells a queue holds; 0 where there is no such queue.
+#[tactic(auto, unfolding(crate::specs::Outlets::capacity))]
 pub fn capacity(limits: Limits, queue: u8) -> u8
     ensures { result ≡ capacity_of limits queue }
 {
@@ -137,7 +127,7 @@ pub fn capacity(limits: Limits, queue: u8) -> u8
         Mode::Four => match queue {
             0 => Outlet::CONTROL,
             1 => limits.cbrlength,
-            2 => rest(limits.cbrlength),
+            2 => Outlet::SHARED.saturating_sub(limits.cbrlength),
             3 => Outlet::ABR,
             _ => 0,
         },
@@ -169,6 +159,7 @@ pub enum Fate {
 }
 
 // The queue that holds a class; a class has two bits.
+#[tactic(auto, unfolding(crate::specs::Hearing::queue_of))]
 pub fn queue_of(limits: Limits, class: u8) -> u8
     ensures { result ≡ queue_of limits class }
 {
@@ -180,6 +171,7 @@ pub fn queue_of(limits: Limits, class: u8) -> u8
 }
 
 // From how many cells on a queue takes none with CLP 1: its limit, or its capacity where it has no limit.
+#[tactic(auto, using(std::proofs::lemmas::Bool::Decides::nat_tests), unfolding(crate::specs::Hearing::limit))]
 pub fn limit(limits: Limits, queue: u8) -> u8
     ensures { result ≡ limit_in limits queue }
 {
@@ -206,6 +198,7 @@ pub fn held(outlet: Outlet, queue: u8) -> u8
 }
 
 // Whether a queue is at its limit or above.
+#[tactic(auto, unfolding(crate::specs::Hearing::at_limit))]
 pub fn at_limit(outlet: Outlet, queue: u8) -> bool
     ensures { result ≡ at_limit outlet queue }
 {
@@ -213,6 +206,7 @@ pub fn at_limit(outlet: Outlet, queue: u8) -> bool
 }
 
 // Whether the VPI of a bus header is above what a UNI unit can write.
+#[tactic(auto, unfolding(crate::specs::Hearing::too_wide))]
 fn too_wide(link: Link, header: u32) -> bool
     ensures { result ≡ too_wide link header }
 {
@@ -223,6 +217,7 @@ fn too_wide(link: Link, header: u32) -> bool
 }
 
 // What befalls a copy with this CLP at a queue that holds so many cells.
+#[tactic(auto, using(std::proofs::lemmas::Bool::Decides::nat_tests), unfolding(crate::specs::Hearing::fate_at))]
 pub fn fate_at(held: u8, capacity: u8, limit: u8, clp: u8) -> Fate
     ensures { result ≡ fate_at held capacity limit clp }
 {
@@ -246,31 +241,30 @@ pub fn fate_in(capacity: u8, limit: u8, held: u8, link: Link, header: u32) -> Fa
     fate_at(held, capacity, limit, clp)
 }
 
+// How many queues there are in a mode.
+fn queues(mode: Mode) -> u8
+    ensures { result ≡ queues_in mode }
+{
+    match mode {
+        Mode::One => 1,
+        Mode::Four => 4,
+    }
+}
+
 // Which queue's oldest cell leaves next, if there is one.
 pub fn leaving_of(outlet: Outlet) -> Option<u8>
     ensures { result ≡ leaving outlet }
 {
-    let limits = outlet.limits;
-    let mode = limits.mode;
-    if 0 < held(outlet, 0) {
-        return Some(0);
-    }
-    let Mode::Four = mode else {
-        return None;
-    };
-    if 0 < held(outlet, 1) {
-        return Some(1);
-    }
-    if 0 < held(outlet, 2) {
-        return Some(2);
-    }
-    if 0 < held(outlet, 3) {
-        return Some(3);
+    for q in 0..queues(outlet.limits.mode) {
+        if 0 < held(outlet, q) {
+            return Some(q);
+        }
     }
     None
 }
 
 // Whether the outlet marks the user cell that leaves next.
+#[tactic(auto, unfolding(crate::specs::Taking::marks))]
 pub fn marks(outlet: Outlet) -> bool
     ensures { result ≡ marks_it outlet }
 {
@@ -283,6 +277,7 @@ pub fn marks(outlet: Outlet) -> bool
 }
 
 // A PT with its middle bit set, where it is marked.
+#[tactic(auto, unfolding(crate::specs::Taking::marked))]
 fn marked(mark: bool, pt: u8) -> u8
     ensures { result ≡ marked_of mark pt }
 {

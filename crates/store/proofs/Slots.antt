@@ -7,7 +7,7 @@ use Prim.Native.Nat.{ℕ, zero, suc, ◌+◌, ◌*◌, ◌-◌, ◌≤◌, ◌<�
 use native.Mathlib.Nat.{add-zero, add-suc}
 use native.Mathlib.Omega.{arith}
 use lib.Dec.{ltb}
-use lib.ListN.{length, get_or, drop, get_or-eq_default, length-drop}
+use lib.ListN.{length, get_or, drop, length-drop}
 use lib.Seq.{length-take-le}
 use borrow.Author.Tests.{ltb-true, ltb-false}
 use Rattle.outlet.specs.Outlets.{capacity, capacities, GivenIn, Given}
@@ -17,18 +17,6 @@ use Rattle.outlet.specs.declared.Mode.{Mode}
 use Rattle.outlet.specs.declared.Mode.TheVariants.{One, Four}
 use Rattle.outlet.specs.declared.Limits.{Limits}
 use Rattle.store.specs.Places.{part_of, slot_at, Inside, starts, start, outlet_slot, Cell, cell_at, put_at}
-
--- a queue's ring in each mode
-pub start_in : (limits : Limits) (q : ℕ) (mode : Mode) → limits.mode ≡ mode → start limits q ≡ get_or (starts mode limits.cbrlength) q 123
-unfolding start
-start_in limits q mode e = ap (λ m. get_or (starts m limits.cbrlength) q 123) e
-
-pub one_rest : (l q : ℕ) → (q ≡ 0 → ⊥) → get_or (starts One l) q 123 ≡ 123
-one_rest l zero h = absurd (h refl)
-one_rest l (suc q) h = refl
-
-pub four_rest : (l q : ℕ) → 4 ≤ q → get_or (starts Four l) q 123 ≡ 123
-four_rest l q h = get_or-eq_default (starts Four l) 123 {n = q} h
 
 starts_le : (mode : Mode) (l q : ℕ) → get_or (starts mode l) q 123 ≤ 123 + l
 starts_le One l zero = omega arith

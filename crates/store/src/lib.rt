@@ -31,6 +31,7 @@ const CONTROL_OUT: u16 = 129;
 pub const LOOPBACK_OUT: u16 = 133;
 
 // Where the part of the unit in a place starts.
+#[tactic(auto, unfolding(crate::specs::Places::part_of))]
 pub fn part_of(place: usize) -> usize
     requires { place < 32 }
     ensures { result ≡ part_of place }
@@ -47,6 +48,7 @@ pub fn slot_at(place: usize, slot: u16) -> usize
 }
 
 // The slot where a queue's ring starts.
+#[tactic(auto, unfolding(crate::specs::Places::start))]
 pub fn start(limits: Limits, queue: u8) -> u16
     ensures { result ≡ start_of limits queue }
 {
@@ -106,65 +108,47 @@ pub fn get_cell(store: &[u8], at: usize) -> &[u8]
     requires { at + 56 ≤ length store.now }
     ensures { result.now ≡ part store.now at 56 }
 {
-    let end = at + CELL;
-    &store[at..end]
-}
-
-// A number in a byte, as far as it goes.
-fn small(n: u16) -> u8
-    ensures { result ≡ min n 255 }
-{
-    if n < 255 { n as u8 } else { 255 }
-}
-
-// One less, if there is one.
-fn less(n: u8) -> u8
-    ensures { result ≡ n - 1 }
-{
-    if 0 < n { n - 1 } else { 0 }
+    &store[at..at + CELL]
 }
 
 // The place after a place of a ring.
+#[tactic(auto, using(std::proofs::lemmas::Bool::Decides::nat_tests), unfolding(crate::specs::Rings::next))]
 fn next(place: u8, capacity: u8) -> u8
     ensures { result ≡ next_of capacity place }
 {
-    let after = (place as u16) + 1;
-    if after < (capacity as u16) {
-        place + 1
-    } else {
-        0
-    }
+    let after = place.saturating_add(1);
+    if after < capacity { after } else { 0 }
 }
 
 // The place past the newest cell of a ring: where the next one goes.
+#[tactic(auto, using(std::proofs::lemmas::Bool::Decides::nat_tests), unfolding(crate::specs::Rings::tail, crate::specs::Rings::back))]
 pub fn tail(ring: Ring, capacity: u8) -> u8
     ensures { result ≡ tail_of ring capacity }
 {
-    let past = (ring.head as u16) + (ring.count as u16);
-    let end = capacity as u16;
-    if past < end {
-        small(past)
-    } else {
-        small(past - end)
-    }
+    let past = u16::from(ring.head) + u16::from(ring.count);
+    let end = u16::from(capacity);
+    let place = if past < end { past } else { past - end };
+    place.min(255) as u8
 }
 
 // A ring with one cell more.
+#[tactic(auto, unfolding(crate::specs::Rings::pushed))]
 pub fn pushed(ring: Ring) -> Ring
     ensures { result ≡ pushed_of ring }
 {
     Ring {
         head: ring.head,
-        count: small((ring.count as u16) + 1),
+        count: ring.count.saturating_add(1),
     }
 }
 
 // A ring without its oldest cell.
+#[tactic(auto, unfolding(crate::specs::Rings::popped))]
 pub fn popped(ring: Ring, capacity: u8) -> Ring
     ensures { result ≡ popped_of ring capacity }
 {
     Ring {
         head: next(ring.head, capacity),
-        count: less(ring.count),
+        count: ring.count.saturating_sub(1),
     }
 }

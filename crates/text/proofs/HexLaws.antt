@@ -1,64 +1,43 @@
 -- Hex digits and pairs, digit by digit. Assumes nothing.
 use mathlib.Core.Path.{◌≡◌, refl, sym, ap, ap₂, ◌∙◌}
-use mathlib.Core.Bool.{true, false}
+use mathlib.Core.Bool.{true, false, ◌&&◌}
 use mathlib.Core.List.{List, [], ◌∷◌}
 use Prim.Native.Nat.{ℕ, zero, suc, ◌+◌, ◌*◌, ◌-◌, ◌/◌, ◌%◌, ◌≤◌, ◌<◌}
 use native.Mathlib.Nat.{le_of_suc-le-suc}
 use native.Mathlib.Numerals.{add-one}
 use native.Mathlib.Omega.{arith}
 use lib.Dec.{ltb, eqb}
-use lib.ListN.{length, get_or, drop, set, drop_of_length-le}
-use lib.Seq.{drop-cons, paste, paste-suc}
-use borrow.Author.Tests.{ltb-true, le-leb, lt-leb, le-ltb, lt-ltb, eq-eqb, ne_eqb}
+use lib.ListN.{length, get_or, set}
+use lib.Seq.{paste, paste-suc}
+use Rattle.std.specs.List.{list_all}
+use Rattle.std.specs.Char.{is_ascii_hexdigit}
+use Rattle.std.proofs.lemmas.Bool.Decides.{nat_tests}
+use borrow.Author.Tests.{ltb-true, le-leb, lt-leb, eq-eqb, ne_eqb}
 use Rattle.octets.specs.Octets.{cat}
 use Rattle.octets.proofs.Parts.{cat_length}
 use Rattle.text.proofs.Numbers.{first, second}
 use Rattle.text.proofs.Splices.{paste_two}
 use Rattle.text.specs.Hex.{hex_digit, hex_digits, is_hex, unhex, capital, hex_pair, hex_of}
 
--- each answer of the digit's reader
+-- two answers of the digit's reader
 module _ (b : ℕ) where
-  pub before_0 : b < 48 → 16 ≡ hex_digit b
-  unfolding hex_digit
-  before_0 h = simp (lt-leb 48 b h, lt-leb 65 b (omega arith), lt-leb 97 b (omega arith))
-
   pub decimal_digit : 48 ≤ b → b ≤ 57 → b - 48 ≡ hex_digit b
   unfolding hex_digit
   decimal_digit h k = simp (le-leb 48 b h, le-leb b 57 k)
-
-  pub before_capital_a : 57 < b → b < 65 → 16 ≡ hex_digit b
-  unfolding hex_digit
-  before_capital_a h k = simp (le-leb 48 b (omega arith), lt-leb b 57 h, lt-leb 65 b k, lt-leb 97 b (omega arith))
 
   pub capital_digit : 65 ≤ b → b ≤ 70 → b - 55 ≡ hex_digit b
   unfolding hex_digit
   capital_digit h k = simp (le-leb 48 b (omega arith), lt-leb b 57 (omega arith), le-leb 65 b h, le-leb b 70 k)
 
-  pub before_small_a : 70 < b → b < 97 → 16 ≡ hex_digit b
-  unfolding hex_digit
-  before_small_a h k = simp (le-leb 48 b (omega arith), lt-leb b 57 (omega arith), le-leb 65 b (omega arith), lt-leb b 70 h, lt-leb 97 b k)
+-- what `is_ascii_hexdigit` says, and `all`
+digit_is : (b : ℕ) → is_ascii_hexdigit b ≡ ltb (hex_digit b) 16
+unfolding hex_digit
+digit_is b = grind (arith, nat_tests)
 
-  pub small_digit : 97 ≤ b → b ≤ 102 → b - 87 ≡ hex_digit b
-  unfolding hex_digit
-  small_digit h k = simp (le-leb 48 b (omega arith), lt-leb b 57 (omega arith), le-leb 65 b (omega arith), lt-leb b 70 (omega arith), le-leb 97 b h, le-leb b 102 k)
-
-  pub past_f : 102 < b → 16 ≡ hex_digit b
-  unfolding hex_digit
-  past_f h = simp (le-leb 48 b (omega arith), lt-leb b 57 (omega arith), le-leb 65 b (omega arith), lt-leb b 70 (omega arith), le-leb 97 b (omega arith), lt-leb b 102 h)
-
--- all digits, byte by byte
-module _ (s : List ℕ) (i : ℕ) (h : i < length s) where
-  pub hex_stop : 15 < hex_digit (get_or s i 0) → hex_digits (drop i s) ≡ false
-  unfolding hex_digits
-  hex_stop e = rw (drop-cons s i 0, le-ltb (hex_digit (get_or s i 0)) 16 e)
-
-  pub hex_on : hex_digit (get_or s i 0) ≤ 15 → hex_digits (drop i s) ≡ hex_digits (drop (i + 1) s)
-  unfolding hex_digits
-  hex_on e = rw (add-one, drop-cons s i 0, lt-ltb (hex_digit (get_or s i 0)) 16 (omega arith))
-
-pub hex_end : (s : List ℕ) (i : ℕ) → length s ≤ i → hex_digits (drop i s) ≡ true
+pub all_hex : (s : List ℕ) → list_all is_ascii_hexdigit s ≡ hex_digits s
 unfolding hex_digits
-hex_end s i h = rw (drop_of_length-le s h)
+all_hex [] = refl
+all_hex (b ∷ r) = ap₂ (λ d t. d && t) (digit_is b) (all_hex r)
 
 pub odd : (s : List ℕ) → (length s % 2 ≡ 0 → ⊥) → false ≡ is_hex s
 unfolding is_hex

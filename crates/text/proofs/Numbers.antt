@@ -1,23 +1,26 @@
 -- The laws of digits that the readers cite: what a byte and a text have, and one turn of each loop. Assumes nothing.
-use mathlib.Core.Path.{◌≡◌, refl}
-use mathlib.Core.Bool.{Bool, true, false, ◌&&◌, and-false}
+use mathlib.Core.Path.{◌≡◌, refl, ap}
+use mathlib.Core.Bool.{Bool, true, false, ◌&&◌}
 use mathlib.Core.List.{List, [], ◌∷◌}
-use Prim.Native.Nat.{ℕ, ◌+◌, ◌*◌, ◌-◌, ◌≤◌, ◌<◌}
+use Prim.Native.Nat.{ℕ, suc, ◌+◌, ◌*◌, ◌-◌, ◌≤◌, ◌<◌}
 use native.Mathlib.Nat.{le_refl, le_trans}
 use native.Mathlib.Numerals.{add-one}
 use native.Mathlib.Omega.{arith}
-use lib.Dec.{leb}
+use lib.Dec.{leb, eqb}
 use lib.ListN.{length, get_or, drop, drop_of_length-le}
 use lib.Seq.{drop-cons}
-use borrow.Author.Tests.{leb-true, le-leb, lt-leb, eq-eqb, ne_eqb}
+use Rattle.std.specs.List.{list_all}
+use borrow.Author.Tests.{leb-true, le-leb, eq-eqb, ne_eqb}
 use Rattle.text.specs.Digits.{digit, digits, plain, decimal_of, value}
+
+-- what `all` says
+pub all_digits : (s : List ℕ) → list_all digit s ≡ digits s
+unfolding digits
+all_digits [] = refl
+all_digits (b ∷ r) = ap (λ t. digit b && t) (all_digits r)
 
 -- digits, byte by byte
 module _ (s : List ℕ) (i : ℕ) (h : i < length s) where
-  pub digits_stop : digit (get_or s i 0) ≡ false → digits (drop i s) ≡ false
-  unfolding digits
-  digits_stop e = rw (drop-cons s i 0, e)
-
   pub digits_on : digit (get_or s i 0) ≡ true → digits (drop i s) ≡ digits (drop (i + 1) s)
   unfolding digits
   digits_on e = rw (add-one, drop-cons s i 0, e)
@@ -26,21 +29,9 @@ module _ (s : List ℕ) (i : ℕ) (h : i < length s) where
   unfolding value
   value_on v = rw (add-one, drop-cons s i 0)
 
-pub digits_end : (s : List ℕ) (i : ℕ) → length s ≤ i → digits (drop i s) ≡ true
-unfolding digits
-digits_end s i h = rw (drop_of_length-le s h)
-
 pub value_end : (v : ℕ) (s : List ℕ) (i : ℕ) → length s ≤ i → value v (drop i s) ≡ v
 unfolding value
 value_end v s i h = rw (drop_of_length-le s h)
-
-pub below : (b : ℕ) → b < 48 → digit b ≡ false
-unfolding digit
-below b h = simp (lt-leb _ _ h)
-
-pub above : (b : ℕ) → 57 < b → digit b ≡ false
-unfolding digit
-above b h = simp (lt-leb _ _ h, and-false)
 
 pub within : (b : ℕ) → 48 ≤ b → b ≤ 57 → digit b ≡ true
 unfolding digit
@@ -52,11 +43,11 @@ unfolding decimal_of plain
 empty [] h = refl
 empty (b ∷ r) h = absurd (omega arith)
 
-pub needless : (s : List ℕ) → get_or s 0 0 ≡ 48 → 1 < length s → false ≡ decimal_of s
-unfolding decimal_of plain
-needless [] e h = absurd (omega arith)
-needless (b ∷ []) e h = absurd (omega arith)
-needless (b ∷ c ∷ r) e h = simp (eq-eqb _ _ e)
+pub zero_alone : (s : List ℕ) → get_or s 0 0 ≡ 48 → eqb (length s) 1 ≡ decimal_of s
+unfolding decimal_of plain digits digit
+zero_alone [] e = absurd (omega arith)
+zero_alone (b ∷ []) e = rw e
+zero_alone (b ∷ c ∷ r) e = simp (eq-eqb _ _ e, ne_eqb _ _ (λ (h : suc (suc (length r)) ≡ 1). absurd (omega arith)))
 
 pub one_digit : (s : List ℕ) → (length s ≡ 0 → ⊥) → length s ≤ 1 → digits s ≡ decimal_of s
 unfolding decimal_of plain

@@ -1,36 +1,22 @@
 -- The laws of `same` that `is` cites. Assumes nothing.
 use mathlib.Core.Path.{◌≡◌, refl, ap}
-use mathlib.Core.Bool.{true, false, and-false}
+use mathlib.Core.Bool.{true, ◌&&◌}
 use mathlib.Core.List.{List, [], ◌∷◌}
-use Prim.Native.Nat.{ℕ, suc, ◌+◌, ◌≤◌, ◌<◌}
-use native.Mathlib.Numerals.{add-one}
+use Prim.Native.Nat.{ℕ}
 use native.Mathlib.Omega.{arith}
 use lib.Dec.{eqb}
-use lib.ListN.{length, get_or, drop, drop_of_length-le}
-use lib.Seq.{drop-cons}
-use borrow.Author.Tests.{eqb-true, eq-eqb, ne_eqb}
+use borrow.Author.Tests.{eqb-true, eq-eqb}
 use Rattle.text.proofs.Numbers.{first, second}
+use Rattle.std.specs.Str.{bytes_eq}
 use Rattle.text.specs.Text.{same}
 
-pub lengths_differ : (s w : List ℕ) → (length s ≡ length w → ⊥) → false ≡ same s w
+-- what `==` says
+pub same_is : (s w : List ℕ) → same s w ≡ bytes_eq s w
 unfolding same
-lengths_differ [] [] h = absurd (h refl)
-lengths_differ [] (c ∷ w) h = refl
-lengths_differ (b ∷ s) [] h = refl
-lengths_differ (b ∷ s) (c ∷ w) h = rw (← lengths_differ s w (λ e. h (ap suc e)), and-false)
-
-module _ (s w : List ℕ) (i : ℕ) (h : i < length s) (k : i < length w) where
-  pub bytes_differ : (get_or s i 0 ≡ get_or w i 0 → ⊥) → same (drop i s) (drop i w) ≡ false
-  unfolding same
-  bytes_differ e = rw (drop-cons s i 0, drop-cons w i 0, ne_eqb _ _ e)
-
-  pub bytes_agree : get_or s i 0 ≡ get_or w i 0 → same (drop i s) (drop i w) ≡ same (drop (i + 1) s) (drop (i + 1) w)
-  unfolding same
-  bytes_agree e = rw (add-one, drop-cons s i 0, drop-cons w i 0, eq-eqb _ _ e)
-
-pub both_end : (s w : List ℕ) (i : ℕ) → length s ≤ i → length w ≤ i → same (drop i s) (drop i w) ≡ true
-unfolding same
-both_end s w i h k = rw (drop_of_length-le s h, drop_of_length-le w k)
+same_is [] [] = refl
+same_is [] (c ∷ w) = refl
+same_is (b ∷ s) [] = refl
+same_is (b ∷ s) (c ∷ w) = ap (λ t. eqb b c && t) (same_is s w)
 
 -- `same` says whether two texts are equal
 pub same_eq : (s w : List ℕ) → same s w ≡ true → s ≡ w

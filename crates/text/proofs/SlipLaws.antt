@@ -1,30 +1,24 @@
 -- The laws of a byte in a line and at its end. Assumes nothing.
-use mathlib.Core.Path.{◌≡◌, refl, ap, ◌∙◌}
-use mathlib.Core.Bool.{Bool, true, false, ◌||◌, cond}
+use mathlib.Core.Path.{◌≡◌, refl, sym, ap, ◌∙◌}
+use mathlib.Core.Bool.{◌||◌}
 use mathlib.Core.List.{List, [], ◌∷◌}
-use Prim.Native.Nat.compare
-use Prim.Native.Nat.{ℕ, suc, ◌+◌, ◌-◌}
+use Prim.Native.Nat.{ℕ, ◌-◌}
 use native.Mathlib.Numerals.{unary_clauses}
-use borrow.Author.Tests.{lt-ltb}
-use native.Mathlib.Nat.{zero-add}
 use native.Mathlib.Omega.{arith}
-use lib.Dec.{eqb, ltb}
+use lib.Dec.{eqb}
 use lib.ListN.{length, get_or}
-use Rattle.text.specs.Text.{at, push, split}
+use denote.Ref.{Bor}
+use Rattle.std.specs.Prelude.{Option, None, Some}
+use Rattle.std.specs.Option.{option_copied, option_eq}
+use Rattle.std.specs.List.{list_any, slice_get}
+use Rattle.std.proofs.lemmas.Option.{none-some, get_or_from_slice_get, slice_get-get_or}
 use Rattle.text.specs.Slips.{has, ends_in}
 
--- a byte stands in a text that it parts
-parted : (byte : ℕ) (s : List ℕ) → ltb (length (at (split byte s) 0)) (length s) ≡ has byte s
-unfolding split has
-parted byte [] = refl
-parted byte (b ∷ r) = go (eqb b byte) (parted byte r)
-  where
-    go : (t : Bool) → ltb (length (at (split byte r) 0)) (length r) ≡ has byte r → ltb (length (at (cond t ([] ∷ split byte r) (push b (split byte r))) 0)) (suc (length r)) ≡ (t || has byte r)
-    go true ih = lt-ltb 0 (suc (length r)) (omega arith)
-    go false ih = rw (compare.suc-suc) ih
-
-pub has_parted : (byte : ℕ) (s : List ℕ) (e : ℕ) → e ≡ 0 + length (at (split byte s) 0) → ltb e (length s) ≡ has byte s
-has_parted byte s e h = ap (λ k. ltb k (length s)) (h ∙ zero-add _) ∙ parted byte s
+-- what `contains` says
+pub any_has : (byte : ℕ) (s : List ℕ) → list_any (λ b. eqb b byte) s ≡ has byte s
+unfolding has
+any_has byte [] = refl
+any_has byte (b ∷ r) = ap (λ t. eqb b byte || t) (any_has byte r)
 
 -- the last byte by its place
 last_of : (byte b : ℕ) (r : List ℕ) → eqb (get_or (b ∷ r) (length r) 0) byte ≡ ends_in byte (b ∷ r)
@@ -36,7 +30,10 @@ pub ends_last : (byte : ℕ) (s : List ℕ) → (length s ≡ 0 → ⊥) → eqb
 ends_last byte [] h = absurd (h refl)
 ends_last byte (b ∷ r) h = simp unary_clauses (last_of byte b r)
 
-pub ends_none : (byte : ℕ) (s : List ℕ) → length s ≡ 0 → false ≡ ends_in byte s
+-- and what `last` says
+pub last_is : (y : Bor ℕ) (o : Option (Bor ℕ)) (s : List ℕ) → option_copied o ≡ slice_get s (length s - 1) → option_eq (λ x y. eqb x.now y.now) o (Some y) ≡ ends_in y.now s
 unfolding ends_in
-ends_none byte [] h = refl
-ends_none byte (b ∷ r) h = absurd (omega arith)
+last_is y None [] h = refl
+last_is y (Some x) [] h = absurd (none-some _ (sym h))
+last_is y None (b ∷ r) h = absurd (none-some _ (h ∙ slice_get-get_or (b ∷ r) (length (b ∷ r) - 1) 0 (omega arith)))
+last_is y (Some x) (b ∷ r) h = ap (λ n. eqb n y.now) (sym (get_or_from_slice_get (b ∷ r) (length (b ∷ r) - 1) x.now 0 (sym h))) ∙ ends_last y.now (b ∷ r) (λ e. absurd (omega arith))

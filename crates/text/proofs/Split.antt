@@ -1,16 +1,67 @@
 -- The laws of `split`: at one byte, at the end, and of its first field and the others. Assumes nothing.
 use mathlib.Core.Path.{◌≡◌, refl, sym, ap, ◌∙◌}
-use mathlib.Core.Bool.{Bool, true, false, cond}
+use mathlib.Core.Bool.{Bool, true, false, cond, not}
 use mathlib.Core.List.{List, [], ◌∷◌, tail}
 use Prim.Native.Nat.{ℕ, zero, suc, ◌+◌, ◌-◌, ◌≤◌, ◌<◌}
 use native.Mathlib.Nat.{le_of_suc-le-suc}
 use native.Mathlib.Numerals.{add-one, sub-one}
 use native.Mathlib.Omega.{arith}
 use lib.Dec.{eqb, leb}
+use Rattle.std.proofs.lemmas.List.{get_or-drop}
 use lib.ListN.{length, get_or, take, drop, drop_of_length-le, length-drop}
 use lib.Seq.{drop-cons, drop-drop, take_all}
-use borrow.Author.Tests.{eq-eqb, ne_eqb, leb-true, leb-false}
+use denote.Ref.{Bor}
+use Rattle.std.specs.Prelude.{Option, None, Some}
+use Rattle.std.specs.Option.{option_map, unwrap_or}
+use Rattle.std.specs.List.{slice_split, onto_first, position, position_or_len}
+use Rattle.std.proofs.lemmas.Option.{cond_some, none-some}
+use Rattle.std.proofs.lemmas.List.Sums.{prefix_len-le-length}
+use Rattle.std.proofs.lemmas.List.Recursion.{is_position_or_len}
+use borrow.Author.Tests.{eq-eqb, ne_eqb, leb-true, leb-false, ltb-true, ltb-false}
 use Rattle.text.specs.Text.{split, push, at, line_from, after_of}
+
+-- what the library's `split` and `position` say
+onto_push : (b : ℕ) (fs : List (List ℕ)) → onto_first b fs ≡ push b fs
+onto_push b [] = refl
+onto_push b (f ∷ fs) = refl
+
+pub split_is : (tab : ℕ) (s : List ℕ) → slice_split (λ b. eqb b tab) s ≡ split tab s
+unfolding split
+split_is tab [] = refl
+split_is tab (b ∷ r) = simp (split_is tab r, onto_push b (split tab r))
+
+pub end_is : (tab : ℕ) (s : List ℕ) → position_or_len (λ b. eqb b tab) s ≡ length (at (split tab s) 0)
+unfolding split
+end_is tab s = sym (is_position_or_len (λ s. length (at (split tab s) 0)) (λ b. eqb b tab) refl (λ b r. go (eqb b tab) b (split tab r)) s)
+  where
+    go : (t : Bool) (b : ℕ) (fs : List (List ℕ)) → length (at (cond t ([] ∷ fs) (push b fs)) 0) ≡ cond t 0 (1 + length (at fs 0))
+    go true b fs = refl
+    go false b fs = omega arith
+
+no_some : {A : Type 0} (t : Bool) (x : A) → cond t (Some x) None ≡ None → t ≡ false
+no_some true x e = absurd (none-some x (sym e))
+no_some false x e = refl
+
+-- where the field that starts at from ends, by what `position` answers over what stands from there on
+module _ (tab : ℕ) (s : List ℕ) (from : ℕ) (h : from ≤ length s) (r : Option ℕ) (p : r ≡ position (λ b. eqb b tab) (take (length s - from) (drop from s))) where
+  rest : take (length s - from) (drop from s) ≡ drop from s
+  rest = take_all (length s - from) (drop from s) (rw length-drop (omega arith))
+
+  pub found : {n : ℕ} → r ≡ Some n → (from + n ≡ from + length (at (split tab (drop from s)) 0)) × (from + n ≤ length s)
+  found e =
+      let w = cond_some _ _ _ (sym (rw rest at p) ∙ e) in
+      let m = ltb-true _ _ w.0 in
+      omega (arith, end_is tab (drop from s), length-drop from s, w.1)
+
+  pub found_none : r ≡ None → (length s ≡ from + length (at (split tab (drop from s)) 0)) × (length s ≤ length s)
+  found_none e =
+      let m = ltb-false _ _ (no_some _ _ (sym (rw rest at p) ∙ e)) in
+      omega (arith, end_is tab (drop from s), length-drop from s, prefix_len-le-length (λ b. not (eqb b tab)) (drop from s))
+
+-- what `unwrap_or` reads where nothing was found
+pub now_or : {A : Type 0} (o : Option (Bor A)) (d : Bor A) → (unwrap_or o d).now ≡ unwrap_or (option_map (λ x. x.now) o) d.now
+now_or None d = refl
+now_or (Some x) d = refl
 
 -- one byte
 module _ (tab : ℕ) (s : List ℕ) (i : ℕ) (h : i < length s) where
@@ -90,17 +141,8 @@ module _ (tab : ℕ) (s : List ℕ) (i : ℕ) (h : i < length s) where
   pub end_byte : (get_or s i 0 ≡ tab → ⊥) → length (at (split tab (drop i s)) 0) ≡ suc (length (at (split tab (drop (i + 1) s)) 0))
   end_byte e = rw (split_byte tab s i h e)
 
-  pub count_tab : get_or s i 0 ≡ tab → length (split tab (drop i s)) ≡ suc (length (split tab (drop (i + 1) s)))
-  count_tab e = rw (split_tab tab s i h e)
-
-  pub count_byte : (get_or s i 0 ≡ tab → ⊥) → length (split tab (drop i s)) ≡ length (split tab (drop (i + 1) s))
-  count_byte e = rw (split_byte tab s i h e) (length_push (get_or s i 0) tab (drop (i + 1) s))
-
 pub end_end : (tab : ℕ) (s : List ℕ) (i : ℕ) → length s ≤ i → length (at (split tab (drop i s)) 0) ≡ 0
 end_end tab s i h = rw (split_end tab s i h)
-
-pub count_end : (tab : ℕ) (s : List ℕ) (i : ℕ) → length s ≤ i → length (split tab (drop i s)) ≡ 1
-count_end tab s i h = rw (split_end tab s i h)
 
 -- how many fields the line from here on has, byte by byte
 module _ (s : List ℕ) (i : ℕ) (h : i < length s) where
@@ -119,6 +161,19 @@ module _ (s : List ℕ) (i : ℕ) (h : i < length s) where
 pub line_none : (s : List ℕ) (i : ℕ) → length s ≤ i → length (split 9 (line_from s i)) ≡ 1
 unfolding split
 line_none s i h = rw (split_end 10 s i h)
+
+-- a byte of what stands from here on
+pub byte_from : (s : List ℕ) (from n : ℕ) → n < length (take (length s - from) (drop from s)) → (from + n < length s) × (get_or (take (length s - from) (drop from s)) n 0 ≡ get_or s (from + n) 0)
+byte_from s from n h =
+    let r : take (length s - from) (drop from s) ≡ drop from s = take_all (length s - from) (drop from s) (rw length-drop (omega arith)) in
+    let k = rw r at h in
+    (omega (arith, length-drop from s), ap (λ l. get_or l n 0) r ∙ get_or-drop from s n 0)
+
+pub none_from : (s : List ℕ) (from n : ℕ) → length (take (length s - from) (drop from s)) ≤ n → length s ≤ from + n
+none_from s from n h =
+    let r : take (length s - from) (drop from s) ≡ drop from s = take_all (length s - from) (drop from s) (rw length-drop (omega arith)) in
+    let k = rw r at h in
+    omega (arith, length-drop from s)
 
 -- the same of a field that starts at from and ends at e
 module _ (tab : ℕ) (s : List ℕ) (from e : ℕ) (q : e ≡ from + length (at (split tab (drop from s)) 0)) where

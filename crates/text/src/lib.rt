@@ -2,8 +2,7 @@
 // what a person may have got wrong in a line.
 #![tactic(auto)]
 
-ghost use Rattle.std.specs.Prelude.{◌≡◌, ◌+◌, ◌≤◌, ◌*◌, ◌/◌, length, drop, true};
-ghost use Rattle.std.specs.Int.Bits.{bit_xor};
+ghost use Rattle.std.specs.Prelude.{◌≡◌, ◌+◌, ◌<◌, ◌≤◌, ◌*◌, ◌/◌, length, drop, true};
 ghost use Rattle.octets.specs.Octets.{splice};
 ghost use Rattle.text.specs.Text.{line_from, at, split, fields_of, field_of, after_of, same};
 ghost use Rattle.text.specs.Digits.{digits as digits_of, decimal_of};
@@ -22,32 +21,25 @@ pub fn field_end(s: &[u8], from: usize, parting: u8) -> usize
     requires { from ≤ length s.now }
     ensures { (result ≡ from + length (at (split parting (drop from s.now)) 0)) × (result ≤ length s.now) }
 {
-    let mut i = from;
-    while i < s.len() {
-        if s[i] == parting {
-            return i;
-        }
-        i += 1;
+    match s[from..].iter().position(move |b| *b == parting) {
+        Some(n) => from + n,
+        None => s.len(),
     }
-    i
+}
+
+// Part f of a text, counted as 1 from the first, and an empty one where there is none.
+pub fn part(s: &[u8], f: u64, parting: u8) -> &[u8]
+    ensures { result.now ≡ field_of f (split parting s.now) }
+{
+    let before = f.saturating_sub(1) as usize;
+    s.split(move |b| *b == parting).nth(before).unwrap_or(&[])
 }
 
 // Field f, counted from the word as 1, and an empty one where there is none.
 pub fn field(s: &[u8], f: u8) -> &[u8]
     ensures { result.now ≡ field_of f (fields_of s.now) }
 {
-    let mut from: usize = 0;
-    let mut left = f;
-    while 1 < left {
-        let e = field_end(s, from, TAB);
-        if s.len() <= e {
-            return &s[e..e];
-        }
-        from = e + 1;
-        left -= 1;
-    }
-    let e = field_end(s, from, TAB);
-    &s[from..e]
+    part(s, u64::from(f), TAB)
 }
 
 // What stands after the first field, and the empty text where nothing does.
@@ -65,15 +57,7 @@ pub fn after(s: &[u8]) -> &[u8]
 pub fn count(s: &[u8]) -> usize
     ensures { result ≡ length (fields_of s.now) }
 {
-    let mut n: usize = 1;
-    let mut i: usize = 0;
-    while i < s.len() {
-        if s[i] == TAB {
-            n += 1;
-        }
-        i += 1;
-    }
-    n
+    s.split(|b| *b == TAB).count()
 }
 
 // Where a line ends, and how many fields it has.
@@ -89,109 +73,68 @@ pub fn line_at(s: &[u8], from: usize) -> Stretch
     ensures { (result.end ≡ from + length (line_from s.now from)) × (result.end ≤ length s.now) × (result.fields ≡ length (fields_of (line_from s.now from))) }
 {
     let mut fields: usize = 1;
-    let mut end = from;
-    while end < s.len() {
-        if s[end] == NEWLINE {
-            return Stretch { end, fields };
+    for (n, b) in s[from..].iter().enumerate() {
+        match *b {
+            NEWLINE => {
+                return Stretch {
+                    end: from + n,
+                    fields,
+                };
+            }
+            TAB => fields += 1,
+            _ => {}
         }
-        if s[end] == TAB {
-            fields += 1;
-        }
-        end += 1;
     }
-    Stretch { end, fields }
+    Stretch {
+        end: s.len(),
+        fields,
+    }
 }
 
 // Whether two texts are the same.
 pub fn is(s: &[u8], w: &[u8]) -> bool
     ensures { result ≡ same s.now w.now }
 {
-    if s.len() != w.len() {
-        return false;
-    }
-    let mut i: usize = 0;
-    while i < s.len() {
-        if s[i] != w[i] {
-            return false;
-        }
-        i += 1;
-    }
-    true
+    s == w
 }
 
 // Whether all bytes are digits.
 fn digits(s: &[u8]) -> bool
     ensures { result ≡ digits_of s.now }
 {
-    let mut i: usize = 0;
-    while i < s.len() {
-        let b = s[i];
-        if b < b'0' {
-            return false;
-        }
-        if b'9' < b {
-            return false;
-        }
-        i += 1;
-    }
-    true
+    s.iter().all(|b| b.is_ascii_digit())
 }
 
 // Whether s is a decimal number without needless zeros.
 pub fn decimal(s: &[u8]) -> bool
     ensures { result ≡ decimal_of s.now }
 {
-    if s.len() == 0 {
-        return false;
+    match s.first() {
+        None => false,
+        Some(b'0') => s.len() == 1,
+        Some(_) => digits(s),
     }
-    if s[0] == b'0' {
-        if 1 < s.len() {
-            return false;
-        }
-    }
-    digits(s)
 }
 
-// The value of a hex digit; 16 of what is none.
+// The value of a hex digit.
+#[tactic(auto, using(std::proofs::lemmas::Bool::Decides::nat_tests), unfolding(crate::specs::Hex::hex_digit))]
 fn hex_digit(b: u8) -> u8
+    requires { hex_digit b < 16 }
     ensures { result ≡ hex_digit b }
 {
-    if b < b'0' {
-        return 16;
+    match b {
+        b'0'..=b'9' => b - b'0',
+        b'A'..=b'F' => b - b'A' + 10,
+        _ => b - b'a' + 10,
     }
-    if b <= b'9' {
-        return b - 48;
-    }
-    if b < b'A' {
-        return 16;
-    }
-    if b <= b'F' {
-        return b - 55;
-    }
-    if b < b'a' {
-        return 16;
-    }
-    if b <= b'f' {
-        return b - 87;
-    }
-    16
 }
 
 // Whether s is pairs of hex digits.
 pub fn is_hex(s: &[u8]) -> bool
     ensures { result ≡ is_hex s.now }
 {
-    if s.len() % 2 != 0 {
-        return false;
-    }
-    let mut i: usize = 0;
-    while i < s.len() {
-        if 15 < hex_digit(s[i]) {
-            return false;
-        }
-        i += 1;
-    }
-    true
+    let even = s.len() % 2 == 0;
+    even && s.iter().all(|b| b.is_ascii_hexdigit())
 }
 
 // Writes the bytes that the pairs of s say, from place at on.
@@ -199,15 +142,13 @@ pub fn unhex(s: &[u8], out: &mut [u8], at: usize)
     requires { (is_hex s.now ≡ true) × (at + length s.now / 2 ≤ length out.old) }
     ensures { out.new ≡ splice out.old at (unhexed s.now) }
 {
-    let n = s.len() / 2;
-    let mut i: usize = 0;
-    while i < n {
+    for i in 0..s.len() / 2 {
         out[at + i] = hex_digit(s[2 * i]) * 16 + hex_digit(s[2 * i + 1]);
-        i += 1;
     }
 }
 
 // A capital hex digit.
+#[tactic(auto, using(std::proofs::lemmas::Bool::Decides::nat_tests), unfolding(crate::specs::Hex::capital))]
 fn capital(d: u8) -> u8
     requires { d ≤ 15 }
     ensures { result ≡ capital_of d }
@@ -220,12 +161,9 @@ pub fn put_hex(out: &mut [u8], at: usize, bytes: &[u8]) -> usize
     requires { at + 2 * length bytes.now ≤ length out.old }
     ensures { Wrote out.old at (hex_of bytes.now) result out.new × (result ≡ at + 2 * length bytes.now) }
 {
-    let mut i: usize = 0;
-    while i < bytes.len() {
-        let b = bytes[i];
-        out[at + 2 * i] = capital(b / 16);
-        out[at + 2 * i + 1] = capital(b % 16);
-        i += 1;
+    for (i, b) in bytes.iter().enumerate() {
+        out[at + 2 * i] = capital(*b / 16);
+        out[at + 2 * i + 1] = capital(*b % 16);
     }
     at + 2 * bytes.len()
 }
@@ -256,6 +194,7 @@ pub fn put_decimal(out: &mut [u8], at: usize, n: u64) -> usize
     let mut digits = [0u8; 20];
     let mut left = n;
     let mut k: usize = 20;
+    // No count: it ends where no digits are left.
     while 9 < left {
         k -= 1;
         digits[k] = 48 + (left % 10) as u8;
@@ -281,10 +220,8 @@ pub fn put_numbers(out: &mut [u8], at: usize, numbers: &[u64]) -> usize
     ensures { Wrote out.old at (number_fields numbers.now) result out.new × (result ≤ at + 21 * length numbers.now) }
 {
     let mut next = at;
-    let mut i: usize = 0;
-    while i < numbers.len() {
-        next = put_number(out, next, numbers[i]);
-        i += 1;
+    for n in numbers {
+        next = put_number(out, next, *n);
     }
     next
 }
@@ -313,20 +250,11 @@ pub fn number(s: &[u8], most: u64) -> Numeral
     Numeral::Is(v)
 }
 
-// A call, so that its result is known to be a byte.
-fn mix(byte: u8, low: u8) -> u8
-    ensures { result ≡ bit_xor byte low }
-{
-    byte ^ low
-}
-
 // The sum after one byte more.
 fn step(sum: u32, byte: u8) -> u32
     ensures { result ≡ stepped sum byte }
 {
-    let low = mix(byte, (sum % 256) as u8);
-    let mixed = (sum / 256) as u64 * 256 + (low as u64);
-    (mixed * 16777619 % 4294967296) as u32
+    (sum ^ u32::from(byte)).wrapping_mul(16777619)
 }
 
 // The sum of all bytes.
@@ -334,10 +262,8 @@ pub fn fnv(bytes: &[u8]) -> u32
     ensures { result ≡ sum_of bytes.now }
 {
     let mut sum: u32 = 2166136261;
-    let mut i: usize = 0;
-    while i < bytes.len() {
-        sum = step(sum, bytes[i]);
-        i += 1;
+    for byte in bytes {
+        sum = step(sum, *byte);
     }
     sum
 }
@@ -359,17 +285,14 @@ const RETURN: u8 = b'\r';
 fn has(s: &[u8], byte: u8) -> bool
     ensures { result ≡ has_byte byte s.now }
 {
-    field_end(s, 0, byte) < s.len()
+    s.contains(&byte)
 }
 
 // Whether a byte stands at the end of s.
 fn ends_in(s: &[u8], byte: u8) -> bool
     ensures { result ≡ ends_in byte s.now }
 {
-    if s.len() == 0 {
-        return false;
-    }
-    s[s.len() - 1] == byte
+    s.last() == Some(&byte)
 }
 
 // Blanks where tabs should be, or a line end of two bytes.

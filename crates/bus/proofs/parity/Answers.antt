@@ -1,26 +1,11 @@
-use mathlib.Core.Path.{refl, sym, ◌∙◌}
-use Prim.Native.Nat.{◌<◌, ◌-◌}
-use native.Mathlib.Numerals.{add-one}
-use lib.ListN.{length, drop, drop_of_length-le}
-use lib.Seq.{drop-cons}
-use Rattle.bus.specs.Frame.{exclusive_or}
-use native.Mathlib.Omega.{arith}
+use Rattle.std.proofs.Common.{◌∙◌, rules, tests}
+use Rattle.std.specs.Int.Bits.{bit_xor}
+use Rattle.std.proofs.lemmas.Iterator.{YieldsList-from_slice}
+use Rattle.std.proofs.lemmas.Iterator.Consumers.{fold_from_yields_List}
+use Rattle.bus.proofs.Laws.{folded}
 use Rattle.bus.proofs.parity.Goals as goal
 
-pub loop-i-init : goal.loop-i-init
-loop-i-init c = (omega arith, refl)
-
-pub loop-i-preserved : goal.loop-i-preserved
-unfolding exclusive_or
-loop-i-preserved c =
-    let l = c in
-    let b = l.args.bytes.now in
-    let h : l.loop-i.i < length b = omega arith in
-    (omega arith, l.loop-i.invariant.1 ∙ rw (add-one, drop-cons b l.loop-i.i 0))
-
 pub returns : goal.returns
-unfolding exclusive_or
 returns c =
-    let l = c in
-    let b = l.args.bytes.now in
-    sym (l.loop-i.invariant.1 ∙ rw (drop_of_length-le b {i = l.loop-i.i} (omega arith)))
+    let bytes = c.args.bytes.now in
+    fold_from_yields_List _ bit_xor 0 _ c.fold.ensures.ran (YieldsList-from_slice bytes cc) (λ a x b q k. search (rules, tests)) ∙ folded 0 bytes

@@ -1,39 +1,16 @@
 use mathlib.Core.Path.{sym, ◌∙◌}
-use borrow.Author.Tests.{lt-ltb, le-ltb}
-use Rattle.outlet.specs.Taking.{lowest}
-use Rattle.outlet.specs.declared.Mode.TheVariants.{One, Four}
-use Rattle.outlet.proofs.Leaves.{leaving_in, leaving_first}
+use Rattle.outlet.specs.Hearing.{held}
+use Rattle.outlet.proofs.Leaves.{lowest_here, lowest_on, lowest_past, leaving_start}
 use Rattle.outlet.proofs.leaving_of.Goals as goal
 
+pub loop-q-init : goal.loop-q-init
+loop-q-init c = leaving_start c.args.outlet
+
 pub returns-then-held-gt0 : goal.returns-then-held-gt0
-returns-then-held-gt0 c = sym (leaving_first c.args.outlet (rw c.held.ensures at c.if-held-gt0.true))
+returns-then-held-gt0 c = sym (c.loop-q.invariant ∙ lowest_here (held c.args.outlet) c.loop-q.q _ (rw c.queues-q-end.ensures at c.loop-q-test.true) (rw c.held.ensures at c.if-held-gt0.true))
 
-pub returns-in_default : goal.returns-in_default
-unfolding lowest
-returns-in_default c =
-    let o = c.args.outlet in
-    sym (leaving_in o One c.in_default.is ∙ rw (le-ltb _ _ (rw c.held.ensures at c.if-held-gt0.false)))
-
-pub returns-then-held-gt0-2 : goal.returns-then-held-gt0-2
-unfolding lowest
-returns-then-held-gt0-2 c =
-    let o = c.args.outlet in
-    sym (leaving_in o Four c.in-Four.is ∙ rw (le-ltb _ _ (rw c.held.ensures at c.if-held-gt0.false), lt-ltb _ _ (rw c.held-2.ensures at c.if-held-gt0-2.true)))
-
-pub returns-then-held-gt0-3 : goal.returns-then-held-gt0-3
-unfolding lowest
-returns-then-held-gt0-3 c =
-    let o = c.args.outlet in
-    sym (leaving_in o Four c.in-Four.is ∙ rw (le-ltb _ _ (rw c.held.ensures at c.if-held-gt0.false), le-ltb _ _ (rw c.held-2.ensures at c.if-held-gt0-2.false), lt-ltb _ _ (rw c.held-3.ensures at c.if-held-gt0-3.true)))
-
-pub returns-then-held-gt0-4 : goal.returns-then-held-gt0-4
-unfolding lowest
-returns-then-held-gt0-4 c =
-    let o = c.args.outlet in
-    sym (leaving_in o Four c.in-Four.is ∙ rw (le-ltb _ _ (rw c.held.ensures at c.if-held-gt0.false), le-ltb _ _ (rw c.held-2.ensures at c.if-held-gt0-2.false), le-ltb _ _ (rw c.held-3.ensures at c.if-held-gt0-3.false), lt-ltb _ _ (rw c.held-4.ensures at c.if-held-gt0-4.true)))
+pub loop-q-preserved : goal.loop-q-preserved
+loop-q-preserved c = c.loop-q.invariant ∙ lowest_on (held c.args.outlet) c.loop-q.q _ (rw c.queues-q-end.ensures at c.loop-q-test.true) (rw c.held.ensures at c.if-held-gt0.false)
 
 pub returns : goal.returns
-unfolding lowest
-returns c =
-    let o = c.args.outlet in
-    sym (leaving_in o Four c.in-Four.is ∙ rw (le-ltb _ _ (rw c.held.ensures at c.if-held-gt0.false), le-ltb _ _ (rw c.held-2.ensures at c.if-held-gt0-2.false), le-ltb _ _ (rw c.held-3.ensures at c.if-held-gt0-3.false), le-ltb _ _ (rw c.held-4.ensures at c.if-held-gt0-4.false)))
+returns c = sym (c.loop-q.invariant ∙ lowest_past (held c.args.outlet) c.loop-q.q _ (rw c.queues-q-end.ensures at c.loop-q-test.false))

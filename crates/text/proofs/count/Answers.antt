@@ -1,19 +1,11 @@
-use mathlib.Core.Path.{refl}
-use Prim.Native.Nat.{◌-◌}
-use Rattle.text.proofs.Split.{count_tab, count_byte, count_end}
-use native.Mathlib.Omega.{arith}
+use Rattle.std.proofs.Common.{◌∙◌, ap, eqb, length, rules, tests}
+use Rattle.std.proofs.lemmas.Iterator.Consumers.{count_from_yields_List}
+use Rattle.std.proofs.lemmas.Iterator.Splits.{YieldsList-from_slice_split}
+use Rattle.text.proofs.Split.{split_is}
 use Rattle.text.proofs.count.Goals as goal
-use Rattle.text.proofs.count.Goals.{else-s-i-eq-TAB, then-s-i-eq-TAB}
-
-pub loop-i-init : goal.loop-i-init
-loop-i-init c = (omega arith, omega arith, refl)
-
-pub loop-i-preserved : goal.loop-i-preserved
-loop-i-preserved c =
-    let h = c.loop-i-test.true in
-    let l = c in
-    let s = l.args.s.now in
-    elim c.if-s-i-eq-TAB.branch [ then-s-i-eq-TAB w ↦ omega (arith, count_tab 9 s l.loop-i.i h w.if-s-i-eq-TAB.true) | else-s-i-eq-TAB w ↦ omega (arith, count_byte 9 s l.loop-i.i h w.if-s-i-eq-TAB.false) ]
 
 pub returns : goal.returns
-returns c = let l = c in omega (arith, count_end 9 l.args.s.now l.loop-i.i c.loop-i-test.false)
+returns c =
+    let s = c.args.s.now in
+    count_from_yields_List c.split.result _ c.count.ensures.ran (YieldsList-from_slice_split _ (λ b. eqb b 9) s c.split.ensures.rest c.split.ensures.done c.split.ensures.closure (λ x b q k. search (rules, tests)))
+    ∙ ap length (split_is 9 s)

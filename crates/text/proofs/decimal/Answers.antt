@@ -1,15 +1,21 @@
-use mathlib.Core.Path.{◌∙◌}
-use Rattle.text.proofs.Numbers.{empty, needless, one_digit, no_zero}
+use Rattle.std.proofs.Common.{◌≡◌, ◌≢◌, ◌∙◌, get_or, length, arith}
+use Rattle.std.proofs.lemmas.Grind.{common_steps}
+use Rattle.std.proofs.lemmas.Option.{gets}
+use Rattle.text.proofs.Numbers.{empty, zero_alone, no_zero}
 use Rattle.text.proofs.decimal.Goals as goal
-use Rattle.text.proofs.decimal.Goals.{then-s-eq48+else-s-gt1, else-s-eq48}
 
-pub returns-then-s-eq0 : goal.returns-then-s-eq0
-returns-then-s-eq0 c = empty _ c.if-s-eq0.true
+pub returns-in-None : goal.returns-in-None
+returns-in-None c =
+    let z : length c.args.s.now ≡ 0 = grind (arith, common_steps, gets) in
+    empty _ z
 
-pub returns-then-s-gt1 : goal.returns-then-s-gt1
-returns-then-s-gt1 c = needless _ c.if-s-eq48.true c.if-s-gt1.true
+pub returns-in-Some-eq48 : goal.returns-in-Some-eq48
+returns-in-Some-eq48 c =
+    let z : get_or c.args.s.now 0 0 ≡ 48 = grind (arith, common_steps, gets) in
+    zero_alone _ z
 
-pub returns : goal.returns
-returns c =
-    c.digits.ensures
-    ∙ elim c.if-s-eq48.branch [ then-s-eq48+else-s-gt1 w ↦ one_digit _ c.if-s-eq0.false w.if-s-gt1.false | else-s-eq48 w ↦ no_zero _ c.if-s-eq0.false w.if-s-eq48.false ]
+pub returns-in-Some : goal.returns-in-Some
+returns-in-Some c =
+    let z : get_or c.args.s.now 0 0 ≢ 48 = grind (arith, common_steps, gets) in
+    let k : length c.args.s.now ≢ 0 = grind (arith, common_steps, gets) in
+    c.digits.ensures ∙ no_zero _ k z

@@ -1,26 +1,17 @@
-use mathlib.Core.Path.{refl}
-use Prim.Native.Nat.{◌-◌}
-use native.Mathlib.Omega.{arith}
-use Rattle.text.proofs.Split.{end_tab, end_byte, end_end}
+use Rattle.std.proofs.Common.{eqb, rules, tests}
+use Rattle.std.proofs.lemmas.Iterator.{YieldsList-from_slice}
+use Rattle.std.proofs.lemmas.Iterator.Search.{position_from_yields_List}
+use Rattle.text.proofs.Split.{found, found_none}
 use Rattle.text.proofs.field_end.Goals as goal
 
-pub loop-i-init : goal.loop-i-init
-loop-i-init c = (c.requires, refl)
+pub returns-in-Some : goal.returns-in-Some
+returns-in-Some c =
+    let a = c.args in
+    let p = position_from_yields_List (λ b. eqb b a.parting) _ _ c.position.result c.position.ensures.ran (YieldsList-from_slice _ c.iter.ensures.rest) (λ x b q k. search (rules, tests)) in
+    found a.parting a.s.now a.from c.requires c.position.result p c.in-Some.is
 
-pub returns-then-s-i : goal.returns-then-s-i
-returns-then-s-i c =
-    let l = c in
-    let a = l.args in
-    omega (arith, end_tab a.parting a.s.now l.loop-i.i c.loop-i-test.true c.if-s-i.true)
-
-pub loop-i-preserved : goal.loop-i-preserved
-loop-i-preserved c =
-    let l = c in
-    let a = l.args in
-    omega (arith, end_byte a.parting a.s.now l.loop-i.i c.loop-i-test.true c.if-s-i.false)
-
-pub returns : goal.returns
-returns c =
-    let l = c in
-    let a = l.args in
-    omega (arith, end_end a.parting a.s.now l.loop-i.i c.loop-i-test.false)
+pub returns-in-None : goal.returns-in-None
+returns-in-None c =
+    let a = c.args in
+    let p = position_from_yields_List (λ b. eqb b a.parting) _ _ c.position.result c.position.ensures.ran (YieldsList-from_slice _ c.iter.ensures.rest) (λ x b q k. search (rules, tests)) in
+    found_none a.parting a.s.now a.from c.requires c.position.result p c.in-None.is

@@ -1,25 +1,18 @@
-use mathlib.Core.Path.{refl, sym, ◌∙◌}
-use Prim.Native.Nat.{◌<◌, ◌-◌}
-use native.Mathlib.Numerals.{add-one}
-use lib.ListN.{length, drop, drop_of_length-le}
-use lib.Seq.{drop-cons}
+use mathlib.Core.Path.{sym, ap, ◌∙◌}
+use Prim.Native.Nat.{◌+◌}
+use lib.ListN.{drop}
+use Rattle.std.proofs.lemmas.List.{at_drop_more, at_drop_all}
 use Rattle.text.specs.Fnv.{sum_from}
-use native.Mathlib.Omega.{arith}
 use Rattle.text.proofs.fnv.Goals as goal
 
-pub loop-i-init : goal.loop-i-init
-loop-i-init c = (omega arith, refl)
-
-pub loop-i-preserved : goal.loop-i-preserved
+pub loop-byte-preserved : goal.loop-byte-preserved
 unfolding sum_from
-loop-i-preserved c =
-    let l = c in
-    let b = l.args.bytes.now in
-    let h : l.loop-i.i < length b = omega arith in
-    (omega arith, l.loop-i.invariant.1 ∙ rw (add-one, drop-cons b l.loop-i.i 0, c.step-sum.ensures))
+loop-byte-preserved c =
+    let l = c.loop-byte in
+    l.invariant ∙ at_drop_more (sum_from l.sum) c.args.bytes.now l.byte-index 0 c.loop-byte-test.true ∙ ap (λ v. sum_from v (drop (l.byte-index + 1) c.args.bytes.now)) (sym c.step-sum.ensures)
 
 pub returns : goal.returns
 unfolding sum_from
 returns c =
-    let l = c.loop-i in
-    sym (l.invariant.1 ∙ rw (drop_of_length-le c.args.bytes.now c.loop-i-test.false))
+    let l = c.loop-byte in
+    sym (l.invariant ∙ at_drop_all (sum_from l.sum) c.args.bytes.now l.byte-index c.loop-byte-test.false)

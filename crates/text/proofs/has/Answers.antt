@@ -1,5 +1,6 @@
-use Rattle.text.proofs.SlipLaws.{has_parted}
+use Rattle.std.proofs.Common.{◌∙◌}
+use Rattle.text.proofs.SlipLaws.{any_has}
 use Rattle.text.proofs.has.Goals as goal
 
 pub returns : goal.returns
-returns c = has_parted _ _ _ c.field_end.ensures.0
+returns c = c.contains.ensures.value ∙ any_has _ _

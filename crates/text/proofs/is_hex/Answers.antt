@@ -1,24 +1,15 @@
-use mathlib.Core.Path.{sym, ◌∙◌}
-use Prim.Native.Nat.{◌-◌}
-use native.Mathlib.Omega.{arith}
-use Rattle.text.proofs.HexLaws.{hex_stop, hex_on, hex_end, odd, even}
+use Rattle.std.proofs.Common.{◌∙◌, rules, tests}
+use Rattle.std.proofs.lemmas.Iterator.{YieldsList-from_slice}
+use Rattle.std.proofs.lemmas.Iterator.Search.{all_from_yields_List}
+use Rattle.std.specs.Char.{is_ascii_hexdigit}
+use borrow.Author.Tests.{ne_eqb}
+use Rattle.text.proofs.HexLaws.{all_hex, even, odd}
 use Rattle.text.proofs.is_hex.Goals as goal
 
-pub returns-then-s-ne0 : goal.returns-then-s-ne0
-returns-then-s-ne0 c = odd _ c.if-s-ne0.true
+pub returns-then-even : goal.returns-then-even
+returns-then-even c =
+    let s = c.args.s.now in
+    all_from_yields_List is_ascii_hexdigit _ _ _ c.all.ensures.ran (YieldsList-from_slice s cc) (λ x b q k. search (rules, tests)) ∙ all_hex s ∙ even s c.if-even.true
 
-pub loop-i-init : goal.loop-i-init
-loop-i-init c = (omega arith, sym (even _ c.if-s-ne0.false))
-
-pub returns-then-hex_digit-gt15 : goal.returns-then-hex_digit-gt15
-returns-then-hex_digit-gt15 c =
-    let l = c.loop-i in
-    sym (l.invariant.1 ∙ hex_stop _ l.i c.loop-i-test.true (rw c.hex_digit.ensures at c.if-hex_digit-gt15.true))
-
-pub loop-i-preserved : goal.loop-i-preserved
-loop-i-preserved c =
-    let l = c.loop-i in
-    (omega arith, l.invariant.1 ∙ hex_on _ l.i c.loop-i-test.true (rw c.hex_digit.ensures at c.if-hex_digit-gt15.false))
-
-pub returns : goal.returns
-returns c = sym (c.loop-i.invariant.1 ∙ hex_end _ _ c.loop-i-test.false)
+pub returns-else-even : goal.returns-else-even
+returns-else-even c = ne_eqb _ _ c.if-even.false ∙ odd c.args.s.now c.if-even.false

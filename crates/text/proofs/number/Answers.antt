@@ -1,8 +1,5 @@
 use mathlib.Core.Path.{refl, sym, ◌∙◌}
-use mathlib.Core.Bool.{true}
-use Prim.Native.Nat.{◌-◌}
 use native.Mathlib.Omega.{arith}
-use Rattle.text.specs.Digits.{digits, value}
 use Rattle.text.proofs.Numbers.{has_digits, digit_at, at_least, digits_on, value_on, value_end}
 use Rattle.text.proofs.NumberLaws.{past, no_numeral, numeral_above, numeral_is}
 use Rattle.text.proofs.number.Goals as goal

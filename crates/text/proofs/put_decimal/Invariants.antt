@@ -1,6 +1,6 @@
 use mathlib.Core.Path.{◌≡◌}
 use mathlib.Core.List.{◌++◌}
-use Prim.Native.Nat.{◌+◌, ◌<◌, ◌≤◌, ◌-◌, ◌^◌}
+use Prim.Native.Nat.{◌<◌, ◌≤◌, ◌^◌}
 use lib.ListN.{length, drop}
 use Rattle.text.specs.Decimals.{digits_to}
 use Rattle.text.proofs.put_decimal.Given as goal

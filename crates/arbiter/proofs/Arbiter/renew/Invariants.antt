@@ -1,4 +1,3 @@
-use Prim.Native.Nat.{◌-◌, ◌≤◌}
 use mathlib.Core.Path.{◌≡◌}
 use mathlib.Core.List.{◌++◌}
 use lib.ListN.{length, take, drop}
@@ -6,7 +5,4 @@ use Rattle.arbiter.specs.Arbitration.{renewed_from}
 use Rattle.arbiter.proofs.Arbiter.renew.Given as goal
 
 abbrev pub invariant-loop-number : goal.invariant-loop-number
-invariant-loop-number l = (l.number ≤ 32) × ((length l.asks ≡ 32) × (renewed_from l.bus l.frame l.now 0 l.self.asks ≡ take l.number l.asks ++ renewed_from l.bus l.frame l.now l.number (drop l.number l.asks)))
-
-abbrev pub decreases-loop-number : goal.decreases-loop-number
-decreases-loop-number l = 32 - l.number
+invariant-loop-number l = (length l.asks ≡ 32) × (renewed_from l.bus l.frame l.now 0 l.self.asks ≡ take l.number l.asks ++ renewed_from l.bus l.frame l.now l.number (drop l.number l.asks))
