@@ -37,20 +37,20 @@ fn highest_link(card: Card) -> u8
 fn over(n: u8, most: u8) -> u8
     ensures { (result ≡ n - most) × ((result == 0) ≡ nat_le n most) }
 {
-    if most < n { n - most } else { 0 }
+    n.saturating_sub(most)
 }
 
 // The greater of two: 0 where both are.
 fn worse(a: u8, b: u8) -> u8
     ensures { (result == 0) ≡ (a == 0 && b == 0) }
 {
-    if a < b { b } else { a }
+    a.max(b)
 }
 
 fn least(a: u8, b: u8) -> u8
     ensures { result ≡ lesser a b }
 {
-    if a < b { a } else { b }
+    a.min(b)
 }
 
 // What goes with a byte of 0, or with another.
@@ -135,7 +135,7 @@ fn rings_over(s: &[u8], i: usize) -> u8
 fn greater(a: u8, b: u8) -> u8
     ensures { (n : ℕ) → nat_le result n ≡ (nat_le a n && nat_le b n) }
 {
-    if b < a { a } else { b }
+    a.max(b)
 }
 
 // The same of two columns.
@@ -192,12 +192,8 @@ fn units_good(s: &[u8], card: Card, bus: u8, count: u8) -> bool
     let last = over(bus, 1);
     let end = reach(count);
     let mut worst: u8 = 0;
-    let mut k: u8 = 0;
-    let mut i: usize = 0;
-    while i < end {
-        worst = worse(worst, least(over(count, k), lane(s, i, links, last)));
-        k += 1;
-        i += 1;
+    for i in 0..end {
+        worst = worse(worst, least(over(count, i as u8), lane(s, i, links, last)));
     }
     worst == 0
 }
@@ -206,7 +202,7 @@ fn units_good(s: &[u8], card: Card, bus: u8, count: u8) -> bool
 fn taken(number: u8, granted: u8) -> u8
     ensures { result ≡ (if nat_eq number granted then 1 else 0) }
 {
-    if number == granted { 1 } else { 0 }
+    u8::from(number == granted)
 }
 
 // How a unit stands: its priority, or 0 without a cell besides a granted one. By 4, as any byte may stand there until the places are judged.
@@ -247,10 +243,8 @@ fn notes(s: &[u8], granted: u8, count: u8) -> [u8; 32]
     ensures { Notes granted count s.now result }
 {
     let mut each = [0; 32];
-    let mut i: usize = 0;
-    while i < 32 {
-        each[i] = note(s, i, granted, count);
-        i += 1;
+    for (i, noted) in each.iter_mut().enumerate() {
+        *noted = note(s, i, granted, count);
     }
     each
 }
@@ -291,7 +285,7 @@ fn grant_held(s: &[u8], held: &[u8], granted: u8) -> bool
 fn unlike(a: u8, b: u8) -> u8
     ensures { (result == 0) ≡ (a == b) }
 {
-    if a == b { 0 } else { 1 }
+    u8::from(a != b)
 }
 
 // 0 where a number asks for nothing, or at its priority and with a cell besides a granted one: a standing of 0 is no request.
@@ -307,10 +301,8 @@ fn asks_held(held: &[u8], asks: [u8; 32]) -> bool
     ensures { result ≡ asks_held held.now 0 asks }
 {
     let mut worst: u8 = 0;
-    let mut i: usize = 0;
-    while i < 32 {
-        worst = worse(worst, unheld(asks[i], held[i]));
-        i += 1;
+    for (i, ask) in asks.iter().enumerate() {
+        worst = worse(worst, unheld(*ask, held[i]));
     }
     worst == 0
 }
@@ -321,41 +313,18 @@ fn how_many(held: &[u8]) -> u8
     ensures { result ≡ how_many held.now }
 {
     let mut n: u8 = 0;
-    let mut i: usize = 0;
-    while i < 32 {
-        n += held[i] / 128;
-        i += 1;
+    for note in held {
+        n += *note / 128;
     }
     n
 }
 
-// A note as a number of eight bytes.
-fn wide(note: u8) -> u64
-    ensures { (result ≡ note) × (result < 256) }
-{
-    note as u64
-}
-
-// Two notes as one number, the first lowest; so four, and so eight. What was written in words is best read in words: byte by byte each waits for the whole.
-fn two_of(each: &[u8; 32], at: usize) -> u64
-    requires { at ≤ 30 }
-    ensures { Word 2 each.now at result }
-{
-    wide(each[at]) | (wide(each[at + 1]) * 256)
-}
-
-fn four_of(each: &[u8; 32], at: usize) -> u64
-    requires { at ≤ 28 }
-    ensures { Word 4 each.now at result }
-{
-    two_of(each, at) | (two_of(each, at + 2) * 65536)
-}
-
+// Eight notes as one number, the first lowest. What was written in words is best read in words: byte by byte each waits for the whole.
 fn eight_of(each: &[u8; 32], at: usize) -> u64
     requires { at ≤ 24 }
     ensures { Word 8 each.now at result }
 {
-    four_of(each, at) | (four_of(each, at + 4) * 4294967296)
+    u64::from_le_bytes(std::array::from_fn(|k| each[at + k]))
 }
 
 // Notes eight places, each in its number's place, the last of them first. By 32, as the numbers are judged after it: until then the notes have reached
@@ -364,9 +333,7 @@ fn note_8(s: &[u8], word: u64, from: usize, held: &mut [u8; 32])
     requires { (length s.now ≡ 2048) × (from ≤ 24) }
     ensures { (notes : ℕ → ℕ) → ((k : ℕ) → k < 8 → word / 2 ^ (8 * k) % 256 ≡ notes (from + k)) → held.new ≡ noted_by notes s.now held.old from 8 }
 {
-    let mut k: usize = 8;
-    while 0 < k {
-        k -= 1;
+    for k in (0..8).rev() {
         held[(state::at(s, 0, from + k) % 32) as usize] = ((word >> (8 * k)) % 256) as u8;
     }
 }
@@ -377,9 +344,9 @@ fn note_all(s: &[u8], held: &mut [u8; 32])
     ensures { held.new ≡ noted_in s.now }
 {
     let each = notes(s, s[803], s[805]);
-    let mut from = reach(s[805]);
-    while 0 < from {
-        from -= 8;
+    let end = reach(s[805]);
+    for block in (0..end / 8).rev() {
+        let from = 8 * block;
         note_8(s, eight_of(&each, from), from, held);
     }
 }
