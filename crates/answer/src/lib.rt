@@ -1,7 +1,7 @@
 // What an event answers, and which counters of which units rise by it; the counters, and the one function that writes the lent rows.
 #![tactic(auto)]
 
-ghost use Rattle.std.specs.Prelude.{◌≡◌, ◌+◌, ◌<◌, ◌≤◌, length};
+ghost use Rattle.std.specs.Prelude.{◌≡◌, ◌+◌, ◌<◌, ◌≤◌, length, MatchOption};
 ghost use Rattle.answer.specs.Answers.{arrival_rises, hearing_rises, uncounted_with, counted_with, outcome_by, #arrived, #queued, #taken};
 ghost use Rattle.answer.specs.Counting.{zeros, tick as ticked, raised as raised_by, rise_at, row_by, settled, raised_from, place_of, many_of};
 
@@ -161,7 +161,7 @@ pub fn counted(answer: Answer, place: usize, counters: u16) -> Single
 }
 
 #[repr(C)]
-#[derive(Clone, Copy)]
+#[derive(Clone, Copy, Default)]
 pub struct Counters {
     pub arrived: u32,
     pub hec: u32,
@@ -184,7 +184,7 @@ fn tick(bit: u16, counters: u16, value: u32) -> u32
     ensures { result ≡ ticked bit counters value }
 {
     if bit <= counters % (2 * bit) {
-        return std::num::wrapping_add_u32(value, 1);
+        return value.wrapping_add(1);
     }
     value
 }
@@ -193,21 +193,7 @@ impl Counters {
     pub fn zero() -> Counters
         ensures { result ≡ zeros }
     {
-        Counters {
-            arrived: 0,
-            hec: 0,
-            ignored: 0,
-            misrouted: 0,
-            inletfull: 0,
-            sent: 0,
-            unheard: 0,
-            damaged: 0,
-            queued: 0,
-            full: 0,
-            clp: 0,
-            wide: 0,
-            taken: 0,
-        }
+        Counters::default()
     }
 
     // Each of this set of counters one up.
@@ -233,24 +219,27 @@ impl Counters {
 }
 
 // The sets of one counter that rise all the time, each written out: the others are then not looked at.
+#[tactic(auto, unfolding(crate::specs::Counting::raised))]
 fn queued_up(mut c: Counters) -> Counters
     ensures { result ≡ raised_by c #queued }
 {
-    c.queued = std::num::wrapping_add_u32(c.queued, 1);
+    c.queued = c.queued.wrapping_add(1);
     c
 }
 
+#[tactic(auto, unfolding(crate::specs::Counting::raised))]
 fn arrived_up(mut c: Counters) -> Counters
     ensures { result ≡ raised_by c #arrived }
 {
-    c.arrived = std::num::wrapping_add_u32(c.arrived, 1);
+    c.arrived = c.arrived.wrapping_add(1);
     c
 }
 
+#[tactic(auto, unfolding(crate::specs::Counting::raised))]
 fn taken_up(mut c: Counters) -> Counters
     ensures { result ≡ raised_by c #taken }
 {
-    c.taken = std::num::wrapping_add_u32(c.taken, 1);
+    c.taken = c.taken.wrapping_add(1);
     c
 }
 
@@ -270,10 +259,19 @@ pub fn risen(c: Counters, rise: u16) -> Counters
     c.raised(rise)
 }
 
-// By the empty set a row stays as it is. It does nothing: what writes rows calls it where a row is left alone, for what it says.
-fn unraised(_c: Counters)
-    ensures { raised_by _c 0 ≡ _c }
-{}
+// A row with a set of counters one up, None where it stays as it is. Most often a copy is queued.
+#[tactic(auto, unfolding(crate::specs::Counting::raised))]
+fn changed(c: Counters, rise: u16) -> Option<Counters>
+    ensures { MatchOption result (raised_by c rise ≡ c) (λ row. row ≡ raised_by c rise) }
+{
+    if rise == QUEUED {
+        Some(queued_up(c))
+    } else if rise != 0 {
+        Some(risen(c, rise))
+    } else {
+        None
+    }
+}
 
 // A row starts anew: above every set of counters.
 const ANEW: u16 = 8192;
@@ -313,69 +311,33 @@ pub fn answer_of(o: Outcome) -> Answer
     o.answer
 }
 
-// The first place whose row changes, and the place after the last.
-pub fn first(rises: Rises) -> usize
-    ensures { result ≡ rises.from }
-{
-    rises.from
-}
-
-pub fn last(rises: Rises) -> usize
-    ensures { result ≡ rises.to }
-{
-    rises.to
-}
-
-// The counters of a load. It is given no more than the rises, which are read once for each row; a row in which nothing rises is left
-// alone. It and `raise` are all that write rows, and a load only starts them anew.
+// The counters of a load. It is given no more than the rises, which are read once for each row. It and `raise` are all that write rows, and a load only
+// starts them anew.
 pub fn settle(rows: &mut [Counters], rises: Rises)
     requires { (rises.to ≤ 32) × (rises.to ≤ length rows.old) }
     ensures { rows.new ≡ settled rows.old rises }
 {
-    let n = last(rises);
-    let mut i = first(rises);
-    while i < n {
-        let c = rows[i];
+    for i in rises.from..rises.to {
         let rise = rise_at(rises, i);
-        if rise != 0 {
-            rows[i] = row_by(c, rise);
-        } else {
-            unraised(c);
-        }
-        i += 1;
+        rows[i] = row_by(rows[i], rise);
     }
 }
 
-// The one function that bumps the lent rows: the counters of sets[k] rise in the row at place at + k, for the first n of the sets. Most often a copy
-// is queued; a row is read, and written, only where something rises in it.
+// The one function that bumps the lent rows: the counters of sets[k] rise in the row at place at + k, for the first n of the sets. A row
+// is written only where something rises in it.
 pub fn raise(rows: &mut [Counters], at: usize, sets: &[u16], n: usize)
     requires { (n ≤ length sets.now) × (at + n ≤ length rows.old) }
     ensures { rows.new ≡ raised_from rows.old at sets.now n }
 {
-    let mut k: usize = 0;
-    while k < n {
-        let rise = sets[k];
+    for k in 0..n {
         let i = at + k;
-        if rise == QUEUED {
-            let c = rows[i];
-            rows[i] = queued_up(c);
-        } else if rise != 0 {
-            let c = rows[i];
-            rows[i] = risen(c, rise);
-        } else {
-            unraised(rows[i]);
+        if let Some(row) = changed(rows[i], sets[k]) {
+            rows[i] = row;
         }
-        k += 1;
     }
 }
 
-// What an event at one unit raises: the set of counters; the place of the row; in how many rows, one or none.
-pub fn set_of(done: Single) -> u16
-    ensures { result ≡ done.counters }
-{
-    done.counters
-}
-
+// What an event at one unit raises: the place of the row; in how many rows, one or none.
 #[tactic(auto, unfolding(crate::specs::Counting::place_of))]
 pub fn place_of(done: Single) -> usize
     ensures { result ≡ place_of done }
@@ -408,9 +370,5 @@ pub fn raise_one(rows: &mut [Counters], done: Single)
     requires { ((outcome_by done).rises.to ≤ 32) × ((outcome_by done).rises.to ≤ length rows.old) }
     ensures { rows.new ≡ settled rows.old (outcome_by done).rises }
 {
-    let at = place_of(done);
-    let n = many_of(done);
-    let set = set_of(done);
-    let sets = [set; 1];
-    raise(rows, at, &sets, n);
+    raise(rows, place_of(done), &[done.counters], many_of(done));
 }
