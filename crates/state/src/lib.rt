@@ -108,10 +108,7 @@ pub fn sessions_at(s: &[u8], i: usize) -> [u8; 32]
     requires { (length s.now ≡ 2048) × (i < 32) }
     ensures { result ≡ part s.now (1024 + 32 * i) 32 }
 {
-    let from = 1024 + 32 * i;
-    let mut sessions = [0; 32];
-    sessions.copy_from_slice(&s[from..from + 32]);
-    sessions
+    *s[1024 + 32 * i..].first_chunk().unwrap()
 }
 
 // Whether the unit in a place hears a session: of its 32 bytes one is read.
@@ -187,9 +184,7 @@ pub fn asks_at(s: &[u8]) -> [u8; 32]
     requires { length s.now ≡ 2048 }
     ensures { result ≡ part s.now 768 32 }
 {
-    let mut asks = [0; 32];
-    asks.copy_from_slice(&s[768..800]);
-    asks
+    *s[768..].first_chunk().unwrap()
 }
 
 // The arbiter.
