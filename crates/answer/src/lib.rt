@@ -1,7 +1,7 @@
 // What an event answers, and which counters of which units rise by it; the counters, and the one function that writes the lent rows.
 #![tactic(auto)]
 
-ghost use Rattle.std.specs.Prelude.{◌≡◌, ◌+◌, ◌<◌, ◌≤◌, length, MatchOption};
+ghost use Rattle.std.specs.Prelude.{◌≡◌, ◌+◌, ◌<◌, ◌≤◌, length};
 ghost use Rattle.answer.specs.Answers.{arrival_rises, hearing_rises, uncounted_with, counted_with, outcome_by, #arrived, #queued, #taken};
 ghost use Rattle.answer.specs.Counting.{zeros, tick as ticked, raised as raised_by, rise_at, row_by, settled, raised_from, place_of, many_of};
 
@@ -259,19 +259,12 @@ pub fn risen(c: Counters, rise: u16) -> Counters
     c.raised(rise)
 }
 
-// A row with a set of counters one up, None where it stays as it is. Most often a copy is queued.
+// By the empty set a row stays as it is. It does nothing: `raise` calls it where a row is left alone, for what it says. A function that answers the row,
+// or None where it stays, makes a frame of 16 units 1,741 instructions, this 1,556.
 #[tactic(auto, unfolding(crate::specs::Counting::raised))]
-fn changed(c: Counters, rise: u16) -> Option<Counters>
-    ensures { MatchOption result (raised_by c rise ≡ c) (λ row. row ≡ raised_by c rise) }
-{
-    if rise == QUEUED {
-        Some(queued_up(c))
-    } else if rise != 0 {
-        Some(risen(c, rise))
-    } else {
-        None
-    }
-}
+fn unraised(_c: Counters)
+    ensures { raised_by _c 0 ≡ _c }
+{}
 
 // A row starts anew: above every set of counters.
 const ANEW: u16 = 8192;
@@ -323,16 +316,21 @@ pub fn settle(rows: &mut [Counters], rises: Rises)
     }
 }
 
-// The one function that bumps the lent rows: the counters of sets[k] rise in the row at place at + k, for the first n of the sets. A row
-// is written only where something rises in it.
+// The one function that bumps the lent rows: the counters of sets[k] rise in the row at place at + k, for the first n of the sets. Most often a copy
+// is queued; a row is read, and written, only where something rises in it.
 pub fn raise(rows: &mut [Counters], at: usize, sets: &[u16], n: usize)
     requires { (n ≤ length sets.now) × (at + n ≤ length rows.old) }
     ensures { rows.new ≡ raised_from rows.old at sets.now n }
 {
     for k in 0..n {
+        let rise = sets[k];
         let i = at + k;
-        if let Some(row) = changed(rows[i], sets[k]) {
-            rows[i] = row;
+        if rise == QUEUED {
+            rows[i] = queued_up(rows[i]);
+        } else if rise != 0 {
+            rows[i] = risen(rows[i], rise);
+        } else {
+            unraised(rows[i]);
         }
     }
 }

@@ -211,10 +211,11 @@ fn cells(s: &[u8], i: usize) -> u8
     requires { (length s.now ≡ 2048) × (i < 32) }
     ensures { result ≡ cells_in s.now i }
 {
-    std::num::wrapping_add_u8(
-        std::num::wrapping_add_u8(state::at(s, 15, i), state::at(s, 26, i)),
-        state::at(s, 27, i),
-    )
+    let control = state::at(s, 26, i);
+    let loopback = state::at(s, 27, i);
+    state::at(s, 15, i)
+        .wrapping_add(control)
+        .wrapping_add(loopback)
 }
 
 // What is noted of the unit in a place: 128, 4 times the place, and how it stands; 0 past the declared units.

@@ -1,6 +1,5 @@
 -- `answer::settle` meets its contract. Assumes nothing.
-use Rattle.std.proofs.Common.{◌≡◌, ℕ, ◌+◌, ◌≤◌, List, get_or, set, inl, inr, sym, ap, ◌∙◌, arith, rules}
-use Rattle.std.proofs.lemmas.List.{set-get_or}
+use Rattle.std.proofs.Common.{◌≡◌, ℕ, ◌+◌, ◌≤◌, List, get_or, set, inl, inr, sym, ap, ◌∙◌, arith}
 use Rattle.answer.specs.declared.Counters.{Counters}
 use Rattle.answer.specs.declared.Rises.{Rises}
 use Rattle.answer.specs.Counting.{zeros, row_by, rise_at, row_after, settled_to}

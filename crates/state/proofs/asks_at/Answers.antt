@@ -1,4 +1,4 @@
-use Rattle.std.proofs.Common.{◌+◌, ◌-◌, ◌*◌, length, drop, ◌∙◌, arith}
+use Rattle.std.proofs.Common.{◌-◌, length, drop, ◌∙◌, arith}
 use Rattle.std.proofs.lemmas.List.{take-take}
 use Rattle.state.proofs.asks_at.Goals as goal
 
