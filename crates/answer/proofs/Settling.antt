@@ -50,10 +50,6 @@ pub record Fitting (c : Counters) : Type 0 where
 same : (x : ℕ) → x < 2 ^ 32 → (x + 0) % 2 ^ 32 ≡ x
 same x h = omega arith
 
--- a counter that does not rise
-pub stays : (x : ℕ) → x < 2 ^ 32 → x ≡ (x + 0) % 2 ^ 32
-stays x h = sym (same x h)
-
 -- by the empty set none rises
 pub raised_none : (c : Counters) → Fitting c → raised c 0 ≡ c
 unfolding raised

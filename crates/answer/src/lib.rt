@@ -161,7 +161,7 @@ pub fn counted(answer: Answer, place: usize, counters: u16) -> Single
 }
 
 #[repr(C)]
-#[derive(Clone, Copy)]
+#[derive(Clone, Copy, Default)]
 pub struct Counters {
     pub arrived: u32,
     pub hec: u32,
@@ -184,7 +184,7 @@ fn tick(bit: u16, counters: u16, value: u32) -> u32
     ensures { result ≡ ticked bit counters value }
 {
     if bit <= counters % (2 * bit) {
-        return std::num::wrapping_add_u32(value, 1);
+        return value.wrapping_add(1);
     }
     value
 }
@@ -193,21 +193,7 @@ impl Counters {
     pub fn zero() -> Counters
         ensures { result ≡ zeros }
     {
-        Counters {
-            arrived: 0,
-            hec: 0,
-            ignored: 0,
-            misrouted: 0,
-            inletfull: 0,
-            sent: 0,
-            unheard: 0,
-            damaged: 0,
-            queued: 0,
-            full: 0,
-            clp: 0,
-            wide: 0,
-            taken: 0,
-        }
+        Counters::default()
     }
 
     // Each of this set of counters one up.
@@ -233,24 +219,27 @@ impl Counters {
 }
 
 // The sets of one counter that rise all the time, each written out: the others are then not looked at.
+#[tactic(auto, unfolding(crate::specs::Counting::raised))]
 fn queued_up(mut c: Counters) -> Counters
     ensures { result ≡ raised_by c #queued }
 {
-    c.queued = std::num::wrapping_add_u32(c.queued, 1);
+    c.queued = c.queued.wrapping_add(1);
     c
 }
 
+#[tactic(auto, unfolding(crate::specs::Counting::raised))]
 fn arrived_up(mut c: Counters) -> Counters
     ensures { result ≡ raised_by c #arrived }
 {
-    c.arrived = std::num::wrapping_add_u32(c.arrived, 1);
+    c.arrived = c.arrived.wrapping_add(1);
     c
 }
 
+#[tactic(auto, unfolding(crate::specs::Counting::raised))]
 fn taken_up(mut c: Counters) -> Counters
     ensures { result ≡ raised_by c #taken }
 {
-    c.taken = std::num::wrapping_add_u32(c.taken, 1);
+    c.taken = c.taken.wrapping_add(1);
     c
 }
 
@@ -270,7 +259,9 @@ pub fn risen(c: Counters, rise: u16) -> Counters
     c.raised(rise)
 }
 
-// By the empty set a row stays as it is. It does nothing: what writes rows calls it where a row is left alone, for what it says.
+// By the empty set a row stays as it is. It does nothing: `raise` calls it where a row is left alone, for what it says. A function that answers the row,
+// or None where it stays, makes a frame of 16 units 1,741 instructions, this 1,556.
+#[tactic(auto, unfolding(crate::specs::Counting::raised))]
 fn unraised(_c: Counters)
     ensures { raised_by _c 0 ≡ _c }
 {}
@@ -313,36 +304,15 @@ pub fn answer_of(o: Outcome) -> Answer
     o.answer
 }
 
-// The first place whose row changes, and the place after the last.
-pub fn first(rises: Rises) -> usize
-    ensures { result ≡ rises.from }
-{
-    rises.from
-}
-
-pub fn last(rises: Rises) -> usize
-    ensures { result ≡ rises.to }
-{
-    rises.to
-}
-
-// The counters of a load. It is given no more than the rises, which are read once for each row; a row in which nothing rises is left
-// alone. It and `raise` are all that write rows, and a load only starts them anew.
+// The counters of a load. It is given no more than the rises, which are read once for each row. It and `raise` are all that write rows, and a load only
+// starts them anew.
 pub fn settle(rows: &mut [Counters], rises: Rises)
     requires { (rises.to ≤ 32) × (rises.to ≤ length rows.old) }
     ensures { rows.new ≡ settled rows.old rises }
 {
-    let n = last(rises);
-    let mut i = first(rises);
-    while i < n {
-        let c = rows[i];
+    for i in rises.from..rises.to {
         let rise = rise_at(rises, i);
-        if rise != 0 {
-            rows[i] = row_by(c, rise);
-        } else {
-            unraised(c);
-        }
-        i += 1;
+        rows[i] = row_by(rows[i], rise);
     }
 }
 
@@ -352,30 +322,20 @@ pub fn raise(rows: &mut [Counters], at: usize, sets: &[u16], n: usize)
     requires { (n ≤ length sets.now) × (at + n ≤ length rows.old) }
     ensures { rows.new ≡ raised_from rows.old at sets.now n }
 {
-    let mut k: usize = 0;
-    while k < n {
+    for k in 0..n {
         let rise = sets[k];
         let i = at + k;
         if rise == QUEUED {
-            let c = rows[i];
-            rows[i] = queued_up(c);
+            rows[i] = queued_up(rows[i]);
         } else if rise != 0 {
-            let c = rows[i];
-            rows[i] = risen(c, rise);
+            rows[i] = risen(rows[i], rise);
         } else {
             unraised(rows[i]);
         }
-        k += 1;
     }
 }
 
-// What an event at one unit raises: the set of counters; the place of the row; in how many rows, one or none.
-pub fn set_of(done: Single) -> u16
-    ensures { result ≡ done.counters }
-{
-    done.counters
-}
-
+// What an event at one unit raises: the place of the row; in how many rows, one or none.
 #[tactic(auto, unfolding(crate::specs::Counting::place_of))]
 pub fn place_of(done: Single) -> usize
     ensures { result ≡ place_of done }
@@ -408,9 +368,5 @@ pub fn raise_one(rows: &mut [Counters], done: Single)
     requires { ((outcome_by done).rises.to ≤ 32) × ((outcome_by done).rises.to ≤ length rows.old) }
     ensures { rows.new ≡ settled rows.old (outcome_by done).rises }
 {
-    let at = place_of(done);
-    let n = many_of(done);
-    let set = set_of(done);
-    let sets = [set; 1];
-    raise(rows, at, &sets, n);
+    raise(rows, place_of(done), &[done.counters], many_of(done));
 }

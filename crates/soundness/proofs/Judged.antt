@@ -1,5 +1,5 @@
 -- The flat tests of the bytes are the tests of the unit. Assumes nothing.
-use Rattle.std.proofs.Common.{◌≡◌, ℕ, zero, suc, ◌+◌, ◌-◌, ◌*◌, ◌<◌, ◌≤◌, Bool, true, false, cond, ◌&&◌, ◌||◌, eqb, ltb, leb, ◌⊎◌, List, get_or, sym, refl, ap, ◌∙◌, inl, inr, ⊎_elim, add-one, arith}
+use Rattle.std.proofs.Common.{◌≡◌, ℕ, zero, suc, max, ◌+◌, ◌-◌, ◌*◌, ◌<◌, ◌≤◌, Bool, true, false, cond, ◌&&◌, ◌||◌, eqb, ltb, leb, ◌⊎◌, List, get_or, sym, refl, ap, ◌∙◌, inl, inr, ⊎_elim, add-one, arith}
 use mathlib.Core.Bool.{and-false, and-true, and_assoc}
 use lib.Dec.{eqb-suc-zero}
 use borrow.Author.Tests.{lt-leb}
@@ -23,18 +23,16 @@ over_zero n m =
     let a = eq_iff (n - m) 0 in let b = le_iff n m in
     same (eqb (n - m) 0) (leb n m) (λ t. let e = a.0 t in b.1 (omega arith)) (λ t. let e = b.0 t in a.1 (omega arith))
 
-pub greater_zero : (a b c : ℕ) → a ≤ c → b ≤ c → (c ≡ a) ⊎ (c ≡ b) → eqb c 0 ≡ (eqb a 0 && eqb b 0)
-greater_zero a b c h l one =
-    let e = eq_iff c 0 in let f = and_iff (eq_iff a 0) (eq_iff b 0) in
-    same (eqb c 0) (eqb a 0 && eqb b 0) (λ t. let z = e.0 t in f.1 (omega arith, omega arith))
-    (λ t. let w = f.0 t in ⊎_elim (λ x. e.1 (omega arith)) (λ x. e.1 (omega arith)) one)
+pub greater_zero : (a b : ℕ) → eqb (max a b) 0 ≡ (eqb a 0 && eqb b 0)
+greater_zero a b =
+    let e = eq_iff (max a b) 0 in let f = and_iff (eq_iff a 0) (eq_iff b 0) in
+    same (eqb (max a b) 0) (eqb a 0 && eqb b 0) (λ t. let z = e.0 t in f.1 (omega arith, omega arith)) (λ t. let w = f.0 t in e.1 (omega arith))
 
 -- and at most a number where both are
-pub greater_most : (a b c n : ℕ) → a ≤ c → b ≤ c → (c ≡ a) ⊎ (c ≡ b) → leb c n ≡ (leb a n && leb b n)
-greater_most a b c n h l one =
-    let e = le_iff c n in let f = and_iff (le_iff a n) (le_iff b n) in
-    same (leb c n) (leb a n && leb b n) (λ t. let z = e.0 t in f.1 (omega arith, omega arith))
-    (λ t. let w = f.0 t in ⊎_elim (λ x. e.1 (omega arith)) (λ x. e.1 (omega arith)) one)
+pub greater_most : (a b n : ℕ) → leb (max a b) n ≡ (leb a n && leb b n)
+greater_most a b n =
+    let e = le_iff (max a b) n in let f = and_iff (le_iff a n) (le_iff b n) in
+    same (leb (max a b) n) (leb a n && leb b n) (λ t. let z = e.0 t in f.1 (omega arith, omega arith)) (λ t. let w = f.0 t in e.1 (omega arith))
 
 pub lesser_zero : (a b : ℕ) → eqb (lesser a b) 0 ≡ (eqb a 0 || eqb b 0)
 lesser_zero a b =
@@ -212,11 +210,11 @@ module _ (links last : ℕ) (b : List ℕ) (count : ℕ) where
   abbrev pub places : ℕ → ℕ → Bool
   places i n = lanes (λ j. lane_at links last (col b j)) count i n
 
-  pub places_step : (i k worst over lane least next : ℕ) → i < 32 → k ≡ i → eqb over 0 ≡ leb count k → eqb lane 0 ≡ lane_at links last (col b i) →
+  pub places_step : (i worst over lane least next : ℕ) → i < 32 → eqb over 0 ≡ leb count i → eqb lane 0 ≡ lane_at links last (col b i) →
       least ≡ lesser over lane → eqb next 0 ≡ (eqb worst 0 && eqb least 0) → (eqb worst 0 && places i (32 - i)) ≡ (eqb next 0 && places (i + 1) (32 - (i + 1)))
   unfolding lanes
-  places_step i k worst over lane least next h e o l m n =
-      let here = ap (λ x. eqb x 0) m ∙ lesser_zero over lane ∙ (λ t. o t || l t) ∙ ap (λ j. leb count j || lane_at links last (col b i)) e in
+  places_step i worst over lane least next h o l m n =
+      let here = ap (λ x. eqb x 0) m ∙ lesser_zero over lane ∙ (λ t. o t || l t) in
       let rest : 32 - i ≡ suc (32 - (i + 1)) = omega arith in
       ap (λ r. eqb worst 0 && places i r) rest
       ∙ (λ t. eqb worst 0 && (sym here t && places (sym (add-one i) t) (32 - (i + 1))))

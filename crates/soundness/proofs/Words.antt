@@ -6,16 +6,6 @@ use lib.Pow.{shl-shr}
 use Rattle.store.proofs.Slots.{by_lt}
 use Rattle.soundness.specs.Numbered.{Word}
 
-pub one : (each : List ℕ) (at r : ℕ) → r ≡ get_or each at 0 → r < 256 → Word 1 each at r
-one each at r e h =
-    record {
-      small = h;
-      bytes = λ k l.
-          let z : k ≡ 0 = omega arith in
-          let there : at ≡ at + k = omega arith in
-          ap (λ k. r / 2 ^ (8 * k) % 256) z ∙ ap (λ x. x % 256) (div-one r) ∙ mod-eq_of_lt h ∙ e ∙ ap (λ i. get_or each i 0) there;
-    }
-
 -- raised by more places than it is lowered, a number has nothing in the lowest one; by fewer, it is lowered by the difference
 raised_below : (b i j : ℕ) → i < j → b * 2 ^ (8 * j) / 2 ^ (8 * i) % 256 ≡ 0
 raised_below b i j h =

@@ -33,24 +33,24 @@ fn highest_link(card: Card) -> u8
     }
 }
 
-// How much n is over the most that it may be: 0 where it is not.
+// How much n is over the most that it may be: 0 where it is not. This and the next two are std's methods under names whose clauses say it in tests.
 fn over(n: u8, most: u8) -> u8
     ensures { (result ≡ n - most) × ((result == 0) ≡ nat_le n most) }
 {
-    if most < n { n - most } else { 0 }
+    n.saturating_sub(most)
 }
 
 // The greater of two: 0 where both are.
 fn worse(a: u8, b: u8) -> u8
     ensures { (result == 0) ≡ (a == 0 && b == 0) }
 {
-    if a < b { b } else { a }
+    a.max(b)
 }
 
 fn least(a: u8, b: u8) -> u8
     ensures { result ≡ lesser a b }
 {
-    if a < b { a } else { b }
+    a.min(b)
 }
 
 // What goes with a byte of 0, or with another.
@@ -131,19 +131,12 @@ fn rings_over(s: &[u8], i: usize) -> u8
     )
 }
 
-// The greater of two bytes: at most a number where both are.
-fn greater(a: u8, b: u8) -> u8
-    ensures { (n : ℕ) → nat_le result n ≡ (nat_le a n && nat_le b n) }
-{
-    if b < a { a } else { b }
-}
-
-// The same of two columns.
+// The greater of two columns: at most a number where both are.
 fn greater_at(s: &[u8], i: usize, a: usize, b: usize) -> u8
     requires { (length s.now ≡ 2048) × (i < 32) × (a < 32) × (b < 32) }
     ensures { (n : ℕ) → nat_le result n ≡ (nat_le (col s.now i a) n && nat_le (col s.now i b) n) }
 {
-    greater(state::at(s, a, i), state::at(s, b, i))
+    state::at(s, a, i).max(state::at(s, b, i))
 }
 
 // What has one bound in every unit: inlet and control outlet have four places each, the mark and the single places are 0 or 1. Bytes with the same bound
@@ -157,10 +150,7 @@ fn fixed_over(s: &[u8], i: usize) -> u8
             over(greater_at(s, i, 14, 28), Unit::INLET - 1),
             over(greater_at(s, i, 15, 29), Unit::INLET),
         ),
-        over(
-            greater(greater_at(s, i, 9, 26), greater_at(s, i, 27, 30)),
-            1,
-        ),
+        over(greater_at(s, i, 9, 26).max(greater_at(s, i, 27, 30)), 1),
     )
 }
 
@@ -192,12 +182,8 @@ fn units_good(s: &[u8], card: Card, bus: u8, count: u8) -> bool
     let last = over(bus, 1);
     let end = reach(count);
     let mut worst: u8 = 0;
-    let mut k: u8 = 0;
-    let mut i: usize = 0;
-    while i < end {
-        worst = worse(worst, least(over(count, k), lane(s, i, links, last)));
-        k += 1;
-        i += 1;
+    for i in 0..end {
+        worst = worse(worst, least(over(count, i as u8), lane(s, i, links, last)));
     }
     worst == 0
 }
@@ -206,7 +192,7 @@ fn units_good(s: &[u8], card: Card, bus: u8, count: u8) -> bool
 fn taken(number: u8, granted: u8) -> u8
     ensures { result ≡ (if nat_eq number granted then 1 else 0) }
 {
-    if number == granted { 1 } else { 0 }
+    u8::from(number == granted)
 }
 
 // How a unit stands: its priority, or 0 without a cell besides a granted one. By 4, as any byte may stand there until the places are judged.
@@ -225,10 +211,11 @@ fn cells(s: &[u8], i: usize) -> u8
     requires { (length s.now ≡ 2048) × (i < 32) }
     ensures { result ≡ cells_in s.now i }
 {
-    std::num::wrapping_add_u8(
-        std::num::wrapping_add_u8(state::at(s, 15, i), state::at(s, 26, i)),
-        state::at(s, 27, i),
-    )
+    let control = state::at(s, 26, i);
+    let loopback = state::at(s, 27, i);
+    state::at(s, 15, i)
+        .wrapping_add(control)
+        .wrapping_add(loopback)
 }
 
 // What is noted of the unit in a place: 128, 4 times the place, and how it stands; 0 past the declared units.
@@ -247,10 +234,8 @@ fn notes(s: &[u8], granted: u8, count: u8) -> [u8; 32]
     ensures { Notes granted count s.now result }
 {
     let mut each = [0; 32];
-    let mut i: usize = 0;
-    while i < 32 {
-        each[i] = note(s, i, granted, count);
-        i += 1;
+    for (i, noted) in each.iter_mut().enumerate() {
+        *noted = note(s, i, granted, count);
     }
     each
 }
@@ -291,7 +276,7 @@ fn grant_held(s: &[u8], held: &[u8], granted: u8) -> bool
 fn unlike(a: u8, b: u8) -> u8
     ensures { (result == 0) ≡ (a == b) }
 {
-    if a == b { 0 } else { 1 }
+    u8::from(a != b)
 }
 
 // 0 where a number asks for nothing, or at its priority and with a cell besides a granted one: a standing of 0 is no request.
@@ -307,10 +292,8 @@ fn asks_held(held: &[u8], asks: [u8; 32]) -> bool
     ensures { result ≡ asks_held held.now 0 asks }
 {
     let mut worst: u8 = 0;
-    let mut i: usize = 0;
-    while i < 32 {
-        worst = worse(worst, unheld(asks[i], held[i]));
-        i += 1;
+    for (i, ask) in asks.iter().enumerate() {
+        worst = worse(worst, unheld(*ask, held[i]));
     }
     worst == 0
 }
@@ -321,41 +304,25 @@ fn how_many(held: &[u8]) -> u8
     ensures { result ≡ how_many held.now }
 {
     let mut n: u8 = 0;
-    let mut i: usize = 0;
-    while i < 32 {
-        n += held[i] / 128;
-        i += 1;
+    for note in held {
+        n += *note / 128;
     }
     n
 }
 
-// A note as a number of eight bytes.
-fn wide(note: u8) -> u64
-    ensures { (result ≡ note) × (result < 256) }
-{
-    note as u64
-}
-
-// Two notes as one number, the first lowest; so four, and so eight. What was written in words is best read in words: byte by byte each waits for the whole.
-fn two_of(each: &[u8; 32], at: usize) -> u64
-    requires { at ≤ 30 }
-    ensures { Word 2 each.now at result }
-{
-    wide(each[at]) | (wide(each[at + 1]) * 256)
-}
-
-fn four_of(each: &[u8; 32], at: usize) -> u64
+// Four notes as one number, the first lowest; and so eight. What was written in words is best read in words: byte by byte each waits for the whole.
+fn four_of(each: &[u8; 32], at: usize) -> u32
     requires { at ≤ 28 }
     ensures { Word 4 each.now at result }
 {
-    two_of(each, at) | (two_of(each, at + 2) * 65536)
+    u32::from_le_bytes(std::array::from_fn(|k| each[at + k]))
 }
 
 fn eight_of(each: &[u8; 32], at: usize) -> u64
     requires { at ≤ 24 }
     ensures { Word 8 each.now at result }
 {
-    four_of(each, at) | (four_of(each, at + 4) * 4294967296)
+    u64::from(four_of(each, at)) | (u64::from(four_of(each, at + 4)) * 4294967296)
 }
 
 // Notes eight places, each in its number's place, the last of them first. By 32, as the numbers are judged after it: until then the notes have reached
@@ -364,9 +331,7 @@ fn note_8(s: &[u8], word: u64, from: usize, held: &mut [u8; 32])
     requires { (length s.now ≡ 2048) × (from ≤ 24) }
     ensures { (notes : ℕ → ℕ) → ((k : ℕ) → k < 8 → word / 2 ^ (8 * k) % 256 ≡ notes (from + k)) → held.new ≡ noted_by notes s.now held.old from 8 }
 {
-    let mut k: usize = 8;
-    while 0 < k {
-        k -= 1;
+    for k in (0..8).rev() {
         held[(state::at(s, 0, from + k) % 32) as usize] = ((word >> (8 * k)) % 256) as u8;
     }
 }
@@ -377,6 +342,7 @@ fn note_all(s: &[u8], held: &mut [u8; 32])
     ensures { held.new ≡ noted_in s.now }
 {
     let each = notes(s, s[803], s[805]);
+    // a `for` over the blocks backwards takes an instruction more for each block, 3 of 335 where 16 units are judged and 5 of 506 where 32 are
     let mut from = reach(s[805]);
     while 0 < from {
         from -= 8;

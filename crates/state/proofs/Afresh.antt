@@ -1,9 +1,9 @@
 -- The bytes of a bus without a unit are a fresh shelf. Assumes nothing.
-use mathlib.Core.Path.{◌≡◌, refl, sym, ap, ◌∙◌}
-use mathlib.Core.List.{List, [], ◌∷◌, ◌++◌, append-nil}
+use mathlib.Core.Path.{◌≡◌, refl, sym, ◌∙◌}
+use mathlib.Core.List.{List, [], ◌∷◌}
 use Prim.Native.Nat.{ℕ, zero, suc, ◌+◌, ◌*◌, ◌≤◌, ◌<◌}
 use native.Mathlib.Omega.{arith}
-use lib.ListN.{length, replicate, get_or, set, drop, length-set, length-take, length-drop, length-replicate, get_or-replicate, drop_of_length-le}
+use lib.ListN.{length, replicate, get_or, set, drop, length-set, length-take, length-drop, length-replicate, get_or-replicate}
 use lib.Seq.{get_or-set_same, get_or-set_other, ext_get_or}
 use Rattle.octets.specs.Octets.{part}
 use Rattle.arbiter.specs.Arbitration.{nobody}
@@ -11,12 +11,6 @@ use Rattle.shelf.specs.Shelves.{fresh, blank}
 use Rattle.state.specs.Bytes.{col, link_of, mode_of, unit_by, unit_in, units_from, shelf_in}
 use Rattle.state.specs.Placing.{zeros, fresh_bytes}
 use Rattle.state.proofs.Laws.{by_columns, part_at}
-
-pub all_zero : (b : List ℕ) (i : ℕ) → length b ≤ i → i ≤ length b → length b ≡ 2048 → replicate i 0 ++ drop i b ≡ zeros
-unfolding zeros
-all_zero b i h l e =
-    let n : i ≡ 2048 = omega arith in
-    ap (λ d. replicate i 0 ++ d) (drop_of_length-le b {i = i} h) ∙ append-nil (replicate i 0) ∙ ap (λ k. replicate k 0) n
 
 zero_at : (k : ℕ) → k < 2048 → get_or zeros k 0 ≡ 0
 unfolding zeros

@@ -2,15 +2,15 @@
 use mathlib.Core.Path.{◌≡◌, refl, sym, ap, ◌∙◌}
 use mathlib.Core.Bool.{Bool, true, false, cond}
 use mathlib.Core.Logic.{◌⊎◌, inl, inr, ⊎_elim}
-use mathlib.Core.List.{List, [], ◌∷◌, ◌++◌, append-nil}
+use mathlib.Core.List.{List, [], ◌∷◌}
 use Prim.Native.Nat.{ℕ, zero, suc, ◌+◌, ◌*◌, ◌≤◌, ◌<◌}
 use native.Mathlib.Nat.{add-zero, zero-add, not-suc-le-zero}
 use native.Mathlib.Omega.{arith}
 use lib.Dec.{eqb}
-use lib.ListN.{length, replicate, get_or, set, take, drop, length-set, length-take, length-drop}
+use lib.ListN.{length, get_or, set, take, drop, length-set, length-take, length-drop}
 use lib.Seq.{get_or-set_same, get_or-set_other, get_or-take, get_or-drop, drop-set-lt, ext_get_or}
 use borrow.Author.Tests.{eqb-true, eqb-false}
-use Rattle.octets.specs.Octets.{part, splice}
+use Rattle.octets.specs.Octets.{part}
 use Rattle.outlet.specs.declared.Ring.{Ring}
 use Rattle.shelf.specs.Shelves.{number_of, control_in_put, loopback_in_put, control_out_put, loopback_out_put}
 use Rattle.shelf.specs.declared.Unit as U
@@ -37,10 +37,6 @@ unit_at_lem b i d h = units_from_lem b 0 32 i d h ∙ ap (unit_in b) (zero-add i
 pub number_at : (b : List ℕ) (i : ℕ) (d : U.Unit) → i < 32 → number_of (get_or (shelf_in b).units i d) ≡ col b i 0
 unfolding unit_by
 number_at b i d h = ap number_of (unit_at_lem b i d h)
-
--- 32 bytes written over 32
-pub filled : (v : List ℕ) → length v ≡ 32 → splice (replicate 32 0) 0 v ≡ v
-filled v h = ap (λ n. v ++ drop n (replicate 32 0)) (zero-add (length v) ∙ h) ∙ append-nil v
 
 -- a byte, and a part of so many
 pub part_at : (b : List ℕ) (x n j : ℕ) → j < n → get_or (part b x n) j 0 ≡ get_or b (x + j) 0

@@ -26,10 +26,12 @@ use Rattle.state.proofs.Kept.{Column, Own}
 use Rattle.state.proofs.Laws.{apart, part_same_bytes, by_columns, units_set}
 
 -- one column more
-pub puts_step : (b next vs : List ℕ) (i c : ℕ) → c < length vs → next ≡ set b (c * 32 + i) (get_or vs c 0) → puts b i c (drop c vs) ≡ puts next i (c + 1) (drop (c + 1) vs)
+pub puts_step : (b vs : List ℕ) (i first k : ℕ) → k < length vs → puts b i (first + k) (drop k vs) ≡ puts (set b ((first + k) * 32 + i) (get_or vs k 0)) i (first + (k + 1)) (drop (k + 1) vs)
 unfolding puts
-puts_step b next vs i c h e =
-    ap (puts b i c) (drop-cons vs c 0 h) ∙ (λ t. puts (sym e t) i (sym (add-one c) t) (drop (sym (add-one c) t) vs))
+puts_step b vs i first k h =
+    let e : suc (first + k) ≡ first + (k + 1) = omega arith in
+    ap (puts b i (first + k)) (drop-cons vs k 0 h)
+    ∙ (λ t. puts (set b ((first + k) * 32 + i) (get_or vs k 0)) i (e t) (drop (sym (add-one k) t) vs))
 
 pub puts_none : (b : List ℕ) (i c : ℕ) (vs : List ℕ) → vs ≡ [] → puts b i c vs ≡ b
 unfolding puts

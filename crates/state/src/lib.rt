@@ -1,18 +1,19 @@
 // The state of a shelf as 2,048 lent bytes (docs/STATE.md): each part of a unit read by value, a ring put back, a unit found.
 #![tactic(auto)]
 
-ghost use Rattle.std.specs.Prelude.{◌≡◌, ◌+◌, ◌*◌, ◌<◌, length, get_or};
+ghost use Rattle.std.specs.Prelude.{◌≡◌, ◌+◌, ◌*◌, ◌<◌, ◌≤◌, length, get_or};
 ghost use Rattle.octets.specs.Octets.{part};
 ghost use Rattle.shelf.specs.Shelves.{declared, find_in, waiting};
 ghost use Rattle.shelf.specs.Sessions.{hears};
 ghost use Rattle.state.specs.Bytes.{col, link_of, mode_of, settings_by, limits_by, ring_by, outlet_by, side_by, place_by, unit_in, shelf_in, with_ring, with_byte, with_turn};
-ghost use Rattle.state.specs.Placing.{zeros, fresh_bytes, link_byte, mode_byte, mark_byte, columns_of, puts, side_emptied, declared_by, joined};
+ghost use Rattle.state.specs.Placing.{fresh_bytes, link_byte, mode_byte, columns_of, puts, declared_by, joined};
 
 use arbiter::Arbiter;
 use header::Link;
 use outlet::{Limits, Mode, Outlet, Ring};
 use shelf::{Settings, Side, Unit};
 
+// Which byte says which link and mode is this room's matter, and Link and Mode are of other rooms: so no From here, as an impl stands beside its type.
 pub fn link_of(b: u8) -> Link
     ensures { result ≡ link_of b }
 {
@@ -36,7 +37,7 @@ pub fn at(s: &[u8], column: usize, i: usize) -> u8
 pub fn two_of(high: u8, low: u8) -> u16
     ensures { result ≡ high * 256 + low }
 {
-    (high as u16) * 256 + (low as u16)
+    u16::from_be_bytes([high, low])
 }
 
 pub fn settings_at(s: &[u8], i: usize) -> Settings
@@ -79,12 +80,7 @@ pub fn outlet_at(s: &[u8], i: usize) -> Outlet
     ensures { result ≡ outlet_by (col s.now i) }
 {
     let limits = limits_at(s, i);
-    let queues = [
-        ring_at(s, 16, 20, i),
-        ring_at(s, 17, 21, i),
-        ring_at(s, 18, 22, i),
-        ring_at(s, 19, 23, i),
-    ];
+    let queues = std::array::from_fn(|q| ring_at(s, 16 + q, 20 + q, i));
     Outlet { limits, queues }
 }
 
@@ -105,19 +101,14 @@ pub fn place_at(s: &[u8], i: usize) -> u32
     requires { (length s.now ≡ 2048) × (i < 32) }
     ensures { result ≡ place_by (col s.now i) }
 {
-    (two_of(at(s, 10, i), at(s, 11, i)) as u32) * 65536
-        + (two_of(at(s, 12, i), at(s, 13, i)) as u32)
+    u32::from_be_bytes([at(s, 10, i), at(s, 11, i), at(s, 12, i), at(s, 13, i)])
 }
 
 pub fn sessions_at(s: &[u8], i: usize) -> [u8; 32]
     requires { (length s.now ≡ 2048) × (i < 32) }
     ensures { result ≡ part s.now (1024 + 32 * i) 32 }
 {
-    let from = 1024 + 32 * i;
-    let end = from + 32;
-    let mut sessions = [0; 32];
-    octets::copy(&s[from..end], &mut sessions, 0);
-    sessions
+    *s[1024 + 32 * i..].first_chunk().unwrap()
 }
 
 // Whether the unit in a place hears a session: of its 32 bytes one is read.
@@ -180,12 +171,10 @@ pub fn find(s: &[u8], number: u8) -> Option<usize>
     ensures { result ≡ find_in (declared (shelf_in s.now)) number }
 {
     let end = shelf::declared_count(s[805]);
-    let mut i: usize = 0;
-    while i < end {
+    for i in 0..end {
         if at(s, 0, i) == number {
             return Some(i);
         }
-        i += 1;
     }
     None
 }
@@ -195,11 +184,7 @@ pub fn asks_at(s: &[u8]) -> [u8; 32]
     requires { length s.now ≡ 2048 }
     ensures { result ≡ part s.now 768 32 }
 {
-    let from: usize = 768;
-    let end: usize = 800;
-    let mut asks = [0; 32];
-    octets::copy(&s[from..end], &mut asks, 0);
-    asks
+    *s[768..].first_chunk().unwrap()
 }
 
 // The arbiter.
@@ -228,24 +213,9 @@ pub fn put_turn(s: &mut [u8], arbiter: Arbiter, granted: u8, frame: u16)
     let asks = arbiter.asks;
     let last = arbiter.last;
     octets::copy(&asks, s, 768);
-    s[800] = last[0];
-    s[801] = last[1];
-    s[802] = last[2];
+    octets::copy(&last, s, 800);
     s[803] = granted;
-    s[806] = (frame / 256) as u8;
-    s[807] = (frame % 256) as u8;
-}
-
-// Zeroes every byte.
-fn clear(s: &mut [u8])
-    requires { length s.old ≡ 2048 }
-    ensures { s.new ≡ zeros }
-{
-    let mut i: usize = 0;
-    while i < s.len() {
-        s[i] = 0;
-        i += 1;
-    }
+    octets::put_two(s, 806, frame);
 }
 
 // A bus without a unit, whatever the bytes were.
@@ -253,7 +223,7 @@ pub fn fresh(s: &mut [u8], bus: u8)
     requires { length s.old ≡ 2048 }
     ensures { s.new ≡ fresh_bytes bus }
 {
-    clear(s);
+    s.fill(0);
     s[800] = arbiter::NOBODY;
     s[801] = arbiter::NOBODY;
     s[802] = arbiter::NOBODY;
@@ -279,42 +249,31 @@ fn mode_byte(mode: Mode) -> u8
     }
 }
 
-fn mark_byte(mark: bool) -> u8
-    ensures { result ≡ mark_byte mark }
-{
-    if mark { 1 } else { 0 }
-}
-
 // The bytes of a unit with an empty inlet, one for each column.
 fn columns_of(settings: Settings, outlet: Outlet, place: u32) -> [u8; 24]
     ensures { result ≡ columns_of settings outlet place }
 {
     let link = settings.link;
-    let top = settings.top;
     let limits = outlet.limits;
     let mode = limits.mode;
-    let high = place / 65536;
-    let low = place % 65536;
-    let queues = outlet.queues;
-    let q0 = queues[0];
-    let q1 = queues[1];
-    let q2 = queues[2];
-    let q3 = queues[3];
+    let top = settings.top.to_be_bytes();
+    let place = place.to_be_bytes();
+    let [q0, q1, q2, q3] = outlet.queues;
     [
         settings.number,
         link_byte(link),
-        (top / 256) as u8,
-        (top % 256) as u8,
+        top[0],
+        top[1],
         settings.priority,
         mode_byte(mode),
         limits.cbrlength,
         limits.cbrlimit,
         limits.vbrlimit,
-        mark_byte(limits.mark),
-        (high / 256) as u8,
-        (high % 256) as u8,
-        (low / 256) as u8,
-        (low % 256) as u8,
+        u8::from(limits.mark),
+        place[0],
+        place[1],
+        place[2],
+        place[3],
         0,
         0,
         q0.head,
@@ -328,27 +287,14 @@ fn columns_of(settings: Settings, outlet: Outlet, place: u32) -> [u8; 24]
     ]
 }
 
-fn put_columns(s: &mut [u8], i: usize, columns: [u8; 24])
-    requires { (length s.old ≡ 2048) × (i < 32) }
-    ensures { s.new ≡ puts s.old i 0 columns }
+// Bytes written at a place, into a column and those that follow.
+fn put_columns(s: &mut [u8], i: usize, first: usize, values: &[u8])
+    requires { (length s.old ≡ 2048) × (i < 32) × (first + length values.now ≤ 32) }
+    ensures { s.new ≡ puts s.old i first values.now }
 {
-    let mut c: usize = 0;
-    while c < 24 {
-        s[c * 32 + i] = columns[c];
-        c += 1;
+    for (k, value) in values.iter().enumerate() {
+        s[(first + k) * 32 + i] = *value;
     }
-}
-
-// The places beside the data queues of the unit in a place are empty.
-fn empty_side(s: &mut [u8], i: usize)
-    requires { (length s.old ≡ 2048) × (i < 32) }
-    ensures { s.new ≡ side_emptied s.old i }
-{
-    put_byte(s, 26, i, 0);
-    put_byte(s, 27, i, 0);
-    put_byte(s, 28, i, 0);
-    put_byte(s, 29, i, 0);
-    put_byte(s, 30, i, 0);
 }
 
 // One unit more, at the next place.
@@ -358,10 +304,10 @@ pub fn declare(s: &mut [u8], settings: Settings, outlet: Outlet, place: u32)
 {
     let count = s[805];
     let i = count as usize;
-    put_columns(s, i, columns_of(settings, outlet, place));
-    empty_side(s, i);
-    let none = [0; 32];
-    octets::copy(&none, s, 1024 + 32 * i);
+    put_columns(s, i, 0, &columns_of(settings, outlet, place));
+    // the places beside its data queues: an empty inlet, control outlet and loopback outlet
+    put_columns(s, i, 26, &[0, 0, 0, 0, 0]);
+    octets::copy(&[0; 32], s, 1024 + 32 * i);
     s[805] = count + 1;
 }
 

@@ -13,4 +13,5 @@ raise-requires c =
 pub returns : goal.returns
 returns c =
     let rows = c.args.rows.now in
-    c.raise.ensures ∙ (λ i. raised_from rows (c.place_of-at.ensures i) (c.set_of-set.ensures i ∷ []) (c.many_of-n.ensures i)) ∙ raised_one rows c.args.done c.requires.0
+    let done = c.args.done in
+    c.raise.ensures ∙ (λ i. raised_from rows (c.place_of.ensures i) (done.counters ∷ []) (c.many_of.ensures i)) ∙ raised_one rows done c.requires.0

@@ -1,13 +1,12 @@
-use Rattle.std.proofs.Common.{◌&&◌, ◌∙◌}
+use Rattle.std.proofs.Common.{◌&&◌, leb, ap, ◌∙◌}
+use Rattle.soundness.proofs.Judged.{greater_most}
 use Rattle.soundness.proofs.fixed_over.Goals as goal
 
 pub returns : goal.returns
 returns c =
-    let single = c in
-    let rings = single in
-    let heads = rings in
+    let single = ap (λ m. leb m 1) c.max.ensures ∙ greater_most c.greater_at-3.result c.greater_at-4.result 1 in
     c.worse-2.ensures
-    ∙ (λ t. rings.worse.ensures t && c.over-3.ensures.1 t)
-    ∙ (λ t. (heads.over.ensures.1 t && rings.over-2.ensures.1 t) && single.greater.ensures 1 t)
-    ∙ (λ t. (heads.greater_at.ensures 3 t && rings.greater_at-2.ensures 4 t)
-    && (single.greater_at-3.ensures 1 t && single.greater_at-4.ensures 1 t))
+    ∙ (λ t. c.worse.ensures t && c.over-3.ensures.1 t)
+    ∙ (λ t. (c.over.ensures.1 t && c.over-2.ensures.1 t) && single t)
+    ∙ (λ t. (c.greater_at.ensures 3 t && c.greater_at-2.ensures 4 t)
+    && (c.greater_at-3.ensures 1 t && c.greater_at-4.ensures 1 t))

@@ -9,24 +9,17 @@ halved x h = pick (leb 128 x) refl
     pick true e = let l = leb-true 128 x e in omega arith
     pick false e = let l = leb-false 128 x e in omega arith
 
-pub loop-i-init : goal.loop-i-init
-loop-i-init c = (omega arith, omega arith, omega arith)
-
-pub overflow_add-n : goal.overflow_add-n
-overflow_add-n c = let x = c.type_inv.held c.loop-i.i in record { fits = omega (arith, x) }
-
-pub loop-i-preserved : goal.loop-i-preserved
-loop-i-preserved c =
+pub loop-note-preserved : goal.loop-note-preserved
+loop-note-preserved c =
     let held = c.args.held.now in
-    let l = c.loop-i in
-    let x = c.type_inv.held l.i in
-    let m = many_next held l.i (omega arith) in
-    let n = halved (get_or held l.i 0) (omega (arith, x)) in
-    (omega arith, omega arith, omega arith)
+    let i = c.loop-note.note-index in
+    let x = c.type_inv.held i in
+    let m = many_next held i (omega arith) in
+    let n = halved (get_or held i 0) (omega (arith, x)) in
+    (omega arith, omega arith)
 
 pub returns : goal.returns
 returns c =
     let held = c.args.held.now in
-    let l = c.loop-i in
-    let z = many_end held l.i (omega arith) in
+    let z = many_end held c.loop-note.note-index (omega arith) in
     omega arith

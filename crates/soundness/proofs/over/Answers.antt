@@ -1,9 +1,6 @@
-use Rattle.std.proofs.Common.{sym, refl, arith, le-leb}
+use Rattle.std.proofs.Common.{eqb, ap, ◌∙◌}
 use Rattle.soundness.proofs.Judged.{over_zero}
 use Rattle.soundness.proofs.over.Goals as goal
 
-pub returns-then-most-n : goal.returns-then-most-n
-returns-then-most-n c = let a = c.args in (refl, over_zero a.n a.most)
-
-pub returns-else-most-n : goal.returns-else-most-n
-returns-else-most-n c = let a = c.args in (omega arith, sym (le-leb a.n a.most c.if-most-n.false))
+pub returns : goal.returns
+returns c = let a = c.args in (c.saturating_sub.ensures, ap (λ n. eqb n 0) c.saturating_sub.ensures ∙ over_zero a.n a.most)

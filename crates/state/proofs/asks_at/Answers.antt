@@ -1,12 +1,9 @@
-use mathlib.Core.Path.{◌≡◌, ◌∙◌}
-use native.Mathlib.Omega.{arith}
-use lib.ListN.{length, length-take, length-drop}
-use Rattle.octets.specs.Octets.{part}
-use Rattle.state.proofs.Laws.{filled}
+use Rattle.std.proofs.Common.{◌-◌, length, drop, ◌∙◌, arith}
+use Rattle.std.proofs.lemmas.List.{take-take}
 use Rattle.state.proofs.asks_at.Goals as goal
 
 pub returns : goal.returns
 returns c =
-    let a = c.args in
-    let long : length (part a.s.now 768 32) ≡ 32 = simp (length-take, length-drop) (omega arith) in
-    c.copy.ensures ∙ filled (part a.s.now 768 32) long
+    let s = c.args.s.now in
+    let first = rw c.unwrap.ensures at c.first_chunk.ensures.cases in
+    first.same ∙ take-take 32 (length s - 768) (drop 768 s) (omega arith)

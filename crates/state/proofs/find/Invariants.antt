@@ -1,4 +1,3 @@
-use Prim.Native.Nat.{◌≤◌, ◌-◌, min}
 use mathlib.Core.Path.{◌≡◌}
 use lib.ListN.{drop}
 use Rattle.shelf.specs.Shelves.{declared, numbers, place_from, find_in}
@@ -6,7 +5,4 @@ use Rattle.state.specs.Bytes.{shelf_in}
 use Rattle.state.proofs.find.Given as goal
 
 abbrev pub invariant-loop-i : goal.invariant-loop-i
-invariant-loop-i l = (l.i ≤ l.end) × (l.end ≡ min (shelf_in l.s).count 32) × (find_in (declared (shelf_in l.s)) l.number ≡ place_from l.i (numbers (drop l.i (declared (shelf_in l.s)))) l.number)
-
-abbrev pub decreases-loop-i : goal.decreases-loop-i
-decreases-loop-i l = l.end - l.i
+invariant-loop-i l = find_in (declared (shelf_in l.s)) l.number ≡ place_from l.i (numbers (drop l.i (declared (shelf_in l.s)))) l.number

@@ -1,17 +1,11 @@
-use native.Mathlib.Omega.{arith}
-use mathlib.Core.Path.{ap}
-use lib.ListN.{set, length-set}
-use Rattle.state.specs.Placing.{fresh_bytes}
+use Rattle.std.proofs.Common.{set, replicate, ap, ◌∙◌}
+use Rattle.arbiter.specs.Arbitration.{nobody}
+use Rattle.state.specs.Placing.{fresh_bytes, zeros}
 use Rattle.state.proofs.fresh.Goals as goal
 
-pub bounds-s-803 : goal.bounds-s-803
-bounds-s-803 c = simp length-set (omega arith)
-
-pub bounds-s-804 : goal.bounds-s-804
-bounds-s-804 c = simp length-set (omega arith)
-
 pub returns : goal.returns
-unfolding fresh_bytes
+unfolding fresh_bytes zeros
 returns c =
     let bus = c.args.bus in
-    ap (λ b. set (set (set (set (set b 800 255) 801 255) 802 255) 803 255) 804 bus) c.clear.ensures
+    ap (λ b. set (set (set (set (set b 800 nobody) 801 nobody) 802 nobody) 803 nobody) 804 bus)
+    (c.fill.ensures.after (λ y e. e) ∙ ap (λ n. replicate n 0) c.requires)
