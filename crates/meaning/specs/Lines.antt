@@ -1,13 +1,12 @@
 -- The lines of a table, each judged against the lines before it; the first faulty one ends it. Assumes nothing.
-use Rattle.std.specs.Prelude.{ℕ, ◌+◌, ◌*◌, ◌≡◌, Bool, true, false, cond, List, [], ◌∷◌}
+use Rattle.std.specs.Prelude.{ℕ, ◌+◌, ◌*◌, ◌≡◌, Bool, true, false, cond, List, [], ◌∷◌, Ok, Err}
 use Rattle.std.proofs.Math.Option.{Option, none, some}
 use Rattle.card.specs.declared.Card.{Card}
 use Rattle.lookup.specs.Record.{size}
 use Rattle.lookup.specs.declared.Got.TheVariants.{Is}
 use Rattle.line.specs.declared.Line.{Line}
 use Rattle.line.specs.declared.Line.TheVariants.{Bus, Unit as L-as-Unit, Vp, Drop, Page, Vc, Mc}
-use Rattle.line.specs.declared.Reading.{Reading}
-use Rattle.line.specs.declared.Reading.TheVariants.{Good as Read, Bad}
+use Rattle.line.specs.Lines.{Reading}
 use Rattle.judge.specs.declared.Verdict.{Verdict}
 use Rattle.judge.specs.declared.Verdict.TheVariants.{Fine, Form, Order}
 use Rattle.judge.specs.Verdicts.{is_fine}
@@ -62,12 +61,12 @@ pub data Ran : Type 0 where
 
 -- a line that cannot be read is Form; one that can is judged
 abbrev pub verdict_on : Card → ℕ → List Line → Reading → Verdict
-verdict_on card room told (Read l) = judge card room told l
-verdict_on card room told (Bad wrong) = Form wrong
+verdict_on card room told (Ok l) = judge card room told l
+verdict_on card room told (Err wrong) = Form wrong
 
 abbrev pub with : Reading → List Line → List Line
-with (Read l) told = l ∷ told
-with (Bad wrong) told = told
+with (Ok l) told = l ∷ told
+with (Err wrong) told = told
 
 unfoldable pub run : Card → ℕ → List Line → ℕ → List Reading → Ran
 run card room told n [] = done told

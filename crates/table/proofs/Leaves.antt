@@ -5,7 +5,7 @@ use mathlib.Core.List.{List}
 use Prim.Native.Nat.{ℕ, ◌+◌}
 use Rattle.card.specs.declared.Card.{Card}
 use Rattle.shelf.specs.Shelf.{Shelf}
-use Rattle.line.specs.declared.Reading.{Reading}
+use Rattle.line.specs.Lines.{Reading}
 use Rattle.judge.specs.declared.Verdict.{Verdict}
 use Rattle.judge.specs.declared.Verdict.TheVariants.{Fine, Form, Order, Twice, Wide, Room}
 use Rattle.judge.specs.Verdicts.{is_fine}
