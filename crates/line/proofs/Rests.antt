@@ -14,28 +14,17 @@ use Rattle.line.specs.Units.{settings_on, settings_of, limits_in, limits_of}
 use Rattle.line.proofs.UnitRests.{second_fields}
 use Rattle.line.specs.Lines.{bus_line, unit_line, key_of, way_said, way_of, vp_line, drop_line, page_line, vc_on, vc_line, mc_line, line_of}
 
--- the way out in the three fields of fs from the first on
-abbrev first3 : List (List ℕ) → ℕ → ℕ → ℕ → Result Way Wrong
-first3 fs a b c = way_said (at fs 0) (at fs 1) (at fs 2) a b c
-
--- from field 5 on, of what stands from field 4 on
-pub vc_way_rest : (t s : List ℕ) → t ≡ after_of s → {r : Result Way Wrong} → r ≡ first3 (fields_of t) 5 6 7 → r ≡ way_of (from4 (fields_of s)) 5 6 7
-unfolding way_of
-vc_way_rest t s e q =
-    let p = after_fields t s e in
-    q ∙ λ i. way_said (p 0 i) (p 1 i) (p 2 i) 5 6 7
-
 -- from field 4 on, of what stands from field 2 on
 module _ (t u s : List ℕ) (d : t ≡ after_of u) (e : u ≡ after_of s) where
   pub vc_on_rest : (key : Key) → vc_on (from4 (fields_of t)) key ≡ vc_on (from2 (fields_of s)) key
-  unfolding vc_on way_of
+  unfolding vc_on way_of way_said
   vc_on_rest key =
       let p = second_fields t u s d e in
       λ i. vc_on (from4 (p 0 i ∷ p 1 i ∷ p 2 i ∷ p 3 i ∷ p 4 i ∷ [])) key
 
 -- from field 2 on, of the whole line
 pub line_rest : (kind : Kind) (t s : List ℕ) → t ≡ after_of s → line_of kind (from2 (fields_of t)) ≡ line_of kind (fields_of s)
-unfolding line_of bus_line unit_line settings_on settings_of limits_in limits_of key_of way_of vp_line drop_line page_line vc_on vc_line mc_line
+unfolding line_of bus_line unit_line settings_on settings_of limits_in limits_of key_of way_of way_said vp_line drop_line page_line vc_on vc_line mc_line
 line_rest K-as-Bus t s e = λ i. bus_line (from2 (after_fields t s e 0 i ∷ []))
 line_rest K-as-Unit t s e =
     let p = after_fields t s e in
