@@ -12,7 +12,7 @@ use Rattle.text.specs.Text.{split, same}
 use Rattle.text.specs.Digits.{digit, digits, plain, decimal_of, value}
 use Rattle.line.specs.Ranged.{ranged, aim_of}
 use Rattle.line.specs.Units.{settings_on, settings_of, limits_in, limits_of}
-use Rattle.line.specs.Lines.{bus_line, unit_line, key_of, way_of, way_said, vp_line, drop_line, page_line, vc_on, vc_line, mc_line, line_of, word_of, spoken, reading_of}
+use Rattle.line.specs.Lines.{bus_line, unit_line, key_of, way_of, vp_line, drop_line, page_line, vc_on, vc_line, mc_line, line_of, word_of, spoken, reading_of}
 
 -- bus 16
 bus : reading_of (98 ∷ 117 ∷ 115 ∷ 9 ∷ 49 ∷ 54 ∷ []) true ≡ Ok (Bus 16)
@@ -31,7 +31,7 @@ unit_four = refl
 
 -- vp 31 4095 m255 3 256
 vp : reading_of (118 ∷ 112 ∷ 9 ∷ 51 ∷ 49 ∷ 9 ∷ 52 ∷ 48 ∷ 57 ∷ 53 ∷ 9 ∷ 109 ∷ 50 ∷ 53 ∷ 53 ∷ 9 ∷ 51 ∷ 9 ∷ 50 ∷ 53 ∷ 54 ∷ []) true ≡ Ok (Vp 31 4095 (Session 255) 3 256)
-unfolding split same digit digits plain decimal_of value ranged line_of word_of spoken reading_of aim_of key_of way_of way_said vp_line
+unfolding split same digit digits plain decimal_of value ranged line_of word_of spoken reading_of aim_of key_of way_of vp_line
 vp = refl
 
 -- drop 17 255
@@ -46,12 +46,12 @@ page = refl
 
 -- vc 0 5 33 u3 2 9 40
 vc : reading_of (118 ∷ 99 ∷ 9 ∷ 48 ∷ 9 ∷ 53 ∷ 9 ∷ 51 ∷ 51 ∷ 9 ∷ 117 ∷ 51 ∷ 9 ∷ 50 ∷ 9 ∷ 57 ∷ 9 ∷ 52 ∷ 48 ∷ []) true ≡ Ok (Vc 0 5 33 (Unit 3) 2 9 40)
-unfolding split same digit digits plain decimal_of value ranged line_of word_of spoken reading_of aim_of key_of way_of way_said vc_on vc_line
+unfolding split same digit digits plain decimal_of value ranged line_of word_of spoken reading_of aim_of key_of way_of vc_on vc_line
 vc = refl
 
 -- vc 0 5 65535 b 0 0 65535
 vc_all : reading_of (118 ∷ 99 ∷ 9 ∷ 48 ∷ 9 ∷ 53 ∷ 9 ∷ 54 ∷ 53 ∷ 53 ∷ 51 ∷ 53 ∷ 9 ∷ 98 ∷ 9 ∷ 48 ∷ 9 ∷ 48 ∷ 9 ∷ 54 ∷ 53 ∷ 53 ∷ 51 ∷ 53 ∷ []) true ≡ Ok (Vc 0 5 65535 All 0 0 65535)
-unfolding split same digit digits plain decimal_of value ranged line_of word_of spoken reading_of aim_of key_of way_of way_said vc_on vc_line
+unfolding split same digit digits plain decimal_of value ranged line_of word_of spoken reading_of aim_of key_of way_of vc_on vc_line
 vc_all = refl
 
 -- mc 3 255
@@ -111,17 +111,17 @@ thirty_digits = refl
 
 -- vp 0 5 u 0 0
 u_alone : reading_of (118 ∷ 112 ∷ 9 ∷ 48 ∷ 9 ∷ 53 ∷ 9 ∷ 117 ∷ 9 ∷ 48 ∷ 9 ∷ 48 ∷ []) true ≡ Err (Number 4)
-unfolding split same digit digits plain decimal_of value ranged line_of word_of spoken reading_of aim_of key_of way_of way_said vp_line
+unfolding split same digit digits plain decimal_of value ranged line_of word_of spoken reading_of aim_of key_of way_of vp_line
 u_alone = refl
 
 -- vp 0 5 m256 0 0
 m_too_great : reading_of (118 ∷ 112 ∷ 9 ∷ 48 ∷ 9 ∷ 53 ∷ 9 ∷ 109 ∷ 50 ∷ 53 ∷ 54 ∷ 9 ∷ 48 ∷ 9 ∷ 48 ∷ []) true ≡ Err (Range 4)
-unfolding split same digit digits plain decimal_of value ranged line_of word_of spoken reading_of aim_of key_of way_of way_said vp_line
+unfolding split same digit digits plain decimal_of value ranged line_of word_of spoken reading_of aim_of key_of way_of vp_line
 m_too_great = refl
 
 -- vp 0 5 b3 0 0
 b_and_more : reading_of (118 ∷ 112 ∷ 9 ∷ 48 ∷ 9 ∷ 53 ∷ 9 ∷ 98 ∷ 51 ∷ 9 ∷ 48 ∷ 9 ∷ 48 ∷ []) true ≡ Err (Range 4)
-unfolding split same digit digits plain decimal_of value ranged line_of word_of spoken reading_of aim_of key_of way_of way_said vp_line
+unfolding split same digit digits plain decimal_of value ranged line_of word_of spoken reading_of aim_of key_of way_of vp_line
 b_and_more = refl
 
 -- unit 3 uni 0 1 four 40 30 50 1

@@ -29,7 +29,7 @@ use Rattle.line.specs.Words.{w_b, w_uni, w_nni, w_one, w_four}
 use Rattle.text.specs.Text.{fields_of, field_of, same}
 use Rattle.line.specs.Ranged.{◌>>=◌, ranged, aim_of}
 use Rattle.line.specs.Units.{settings_on, settings_of, least, most_length, most_limit, most_vbr, limits_in, limits_of}
-use Rattle.line.specs.Lines.{bus_line, unit_line, key_of, way_of, way_said, vp_line, drop_line, page_line, vc_on, vc_line, mc_line, line_of, count_of, word_of, spoken, reading_of}
+use Rattle.line.specs.Lines.{bus_line, unit_line, key_of, way_of, vp_line, drop_line, page_line, vc_on, vc_line, mc_line, line_of, count_of, word_of, spoken, reading_of}
 use Rattle.line.specs.Ranges.{SettingsIn, Given, KeyIn, WayIn, InRange}
 use Rattle.line.proofs.Numbers.{ranged_in}
 
@@ -78,7 +78,7 @@ key_sound fs =
     record { unit_most = u; vpi_most = v }
 
 way_sound : (fs : List (List ℕ)) (a b c : ℕ) → Sound InWay (way_of fs a b c)
-unfolding way_of way_said
+unfolding way_of
 way_sound fs a b c =
     by_part Sayable InWay _ _ (aim_sound a (field_of a fs)) λ target t.
     by_num InWay b 0 3 _ _ λ class _ q.

@@ -39,7 +39,7 @@ key_of fs = do
   Ok (record { unit = unit; vpi = vpi })
 
 -- target, class and outgoing VPI, as the texts x, y and z of the fields a, b and c say them
-unfoldable pub way_said : List ℕ → List ℕ → List ℕ → ℕ → ℕ → ℕ → Result Way Wrong
+abbrev pub way_said : List ℕ → List ℕ → List ℕ → ℕ → ℕ → ℕ → Result Way Wrong
 way_said x y z a b c = do
   target ← aim_of a x
   class ← ranged b 0 3 y

@@ -276,7 +276,7 @@ fn key_of(s: &[u8]) -> Result<Key, Wrong>
 }
 
 // Target, class and outgoing VPI, which stand in the fields first, second and third; s is the line from the first of them on.
-#[tactic(auto, unfolding(crate::specs::Lines::way_said), using(text::proofs::Split::after_fields, crate::proofs::UnitRests::second_fields, crate::proofs::Numbers::ranged_in))]
+#[tactic(auto, using(text::proofs::Split::after_fields, crate::proofs::UnitRests::second_fields, crate::proofs::Numbers::ranged_in))]
 fn way_of(s: &[u8], first: u8, second: u8, third: u8) -> Result<Way, Wrong>
     ensures { result ≡ way_said (at (fields_of s.now) 0) (at (fields_of s.now) 1) (at (fields_of s.now) 2) first second third }
 {

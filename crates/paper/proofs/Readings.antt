@@ -30,7 +30,7 @@ use Rattle.line.specs.declared.Wrong.TheVariants.{Number, Range, Newline}
 use Rattle.line.proofs.Numbers.{in_range}
 use Rattle.line.proofs.Ranges.{Sound, by_part, chosen}
 use Rattle.line.specs.Units.{settings_on, settings_of, least, most_length, most_limit, most_vbr, limits_in, limits_of}
-use Rattle.line.specs.Lines.{Reading, bus_line, unit_line, key_of, way_of, way_said, vp_line, drop_line, page_line, vc_on, vc_line, mc_line, line_of, count_of, word_of, spoken, reading_of}
+use Rattle.line.specs.Lines.{Reading, bus_line, unit_line, key_of, way_of, vp_line, drop_line, page_line, vc_on, vc_line, mc_line, line_of, count_of, word_of, spoken, reading_of}
 use Rattle.line.specs.declared.Key.{Key}
 use Rattle.line.specs.declared.Way.{Way}
 use Rattle.line.specs.declared.Kind.{Kind}
@@ -108,7 +108,7 @@ WayReads fs a b c way =
     × TargetIn way.target × (way.class ≤ 3) × (way.outvpi ≤ 4095)
 
 way_reads : (fs : List (List ℕ)) (a b c : ℕ) → Sound (WayReads fs a b c) (way_of fs a b c)
-unfolding way_of way_said
+unfolding way_of
 way_reads fs a b c =
     by_part (AimReads (field_of a fs)) (WayReads fs a b c) (aim_of a (field_of a fs)) _ (aim_reads a (field_of a fs)) λ t r.
     by_num b 0 3 (field_of b fs) (WayReads fs a b c) _ λ class d _ h.
@@ -303,7 +303,7 @@ read_limits settings One l c v mark h = read_held settings One l c v mark h
 read_limits settings Four l c v mark h = read_held settings Four l c v mark h
 
 read_line : (l : Line) → InRange l → spoken (word_of (at (fields_of l) 0)) (fields_of l) ≡ Ok l
-unfolding spoken word_of line_of bus_line unit_line vp_line drop_line page_line vc_on vc_line mc_line key_of way_of way_said fields_of same
+unfolding spoken word_of line_of bus_line unit_line vp_line drop_line page_line vc_on vc_line mc_line key_of way_of fields_of same
 read_line (Bus units) (inl e) = rw (e, read_number 2 16 32 16 (omega arith) (omega arith))
 read_line (Bus units) (inr e) = rw (e, read_number 2 16 32 32 (omega arith) (omega arith))
 read_line (L-as-Unit settings limits) h = rw (read_settings settings.number settings.link settings.top settings.priority limits (h.0, h.1, h.2, h.3), read_limits settings limits.mode limits.cbrlength limits.cbrlimit limits.vbrlimit limits.mark h.4)
