@@ -57,17 +57,12 @@ fn texts(rt: &impl Print) -> io::Result<()> {
     tried(rt, "bus 32, wide", Card::Wide, b"bus\t32\n", &mut m, 0, 0)
 }
 
-// A call and no cast: of a result it is known that it is a byte.
-fn as_number(byte: u8) -> u64 {
-    byte as u64
-}
-
 // Prints the byte at a place, where there is one.
 fn byte(rt: &impl Print, memory: &[u8], at: usize) -> io::Result<()> {
-    if at < memory.len() {
-        rt.println(as_number(memory[at]))?;
+    match memory.get(at) {
+        Some(byte) => println!(rt; "{byte}"),
+        None => Ok(()),
     }
-    Ok(())
 }
 
 fn memories(rt: &impl Print) -> io::Result<()> {

@@ -1,40 +1,23 @@
 -- What a function says of the rest of a line is what is said of more of it, and of the whole. Assumes nothing.
 use Prim.Native.Nat.{ℕ}
-use mathlib.Core.Path.{◌≡◌, ◌∙◌}
+use mathlib.Core.Path.{◌≡◌}
 use mathlib.Core.List.{List, [], ◌∷◌}
+use Rattle.line.specs.declared.Key.{Key}
 use Rattle.line.specs.declared.Kind.{Kind}
-use Rattle.line.specs.declared.Way.{Way}
 use Rattle.line.specs.declared.Kind.TheVariants.{Bus as K-as-Bus, Unit as K-as-Unit, Vp as K-as-Vp, Drop as K-as-Drop, Page as K-as-Page, Vc as K-as-Vc, Mc as K-as-Mc}
-use Rattle.text.specs.Text.{at, fields_of, after_of, from2, from4}
+use Rattle.text.specs.Text.{fields_of, after_of, from2, from4}
 use Rattle.text.proofs.Split.{after_fields}
 use Rattle.line.specs.Units.{settings_on, settings_of, limits_in, limits_of}
 use Rattle.line.proofs.UnitRests.{second_fields}
-use Rattle.line.specs.Lines.{bus_line, unit_line, key_of, way_said, way_of, vp_line, drop_line, page_line, vc_on, vc_line, mc_line, line_of}
-
--- the way out in the three fields of fs from the first on
-abbrev first3 : List (List ℕ) → ℕ → ℕ → ℕ → Way
-first3 fs a b c = way_said (at fs 0) (at fs 1) (at fs 2) a b c
-
--- from field 5 on, of what stands from field 4 on
-pub vc_way_rest : (t s : List ℕ) → t ≡ after_of s → {r : Way} → r ≡ first3 (fields_of t) 5 6 7 → r ≡ way_of (from4 (fields_of s)) 5 6 7
-unfolding way_of
-vc_way_rest t s e q =
-    let p = after_fields t s e in
-    q ∙ λ i. way_said (p 0 i) (p 1 i) (p 2 i) 5 6 7
+use Rattle.line.specs.Lines.{bus_line, unit_line, key_of, way_of, vp_line, drop_line, page_line, vc_on, vc_line, mc_line, line_of}
 
 -- from field 4 on, of what stands from field 2 on
 module _ (t u s : List ℕ) (d : t ≡ after_of u) (e : u ≡ after_of s) where
-  pub vp_way_rest : {r : Way} → r ≡ first3 (fields_of t) 4 5 6 → r ≡ way_of (from2 (fields_of s)) 4 5 6
-  unfolding way_of
-  vp_way_rest q =
-      let p = second_fields t u s d e in
-      q ∙ λ i. way_said (p 0 i) (p 1 i) (p 2 i) 4 5 6
-
-  pub vc_on_rest : (unit vpi : ℕ) → vc_on (from4 (fields_of t)) unit vpi ≡ vc_on (from2 (fields_of s)) unit vpi
+  pub vc_on_rest : (key : Key) → vc_on (from4 (fields_of t)) key ≡ vc_on (from2 (fields_of s)) key
   unfolding vc_on way_of
-  vc_on_rest unit vpi =
+  vc_on_rest key =
       let p = second_fields t u s d e in
-      λ i. vc_on (from4 (p 0 i ∷ p 1 i ∷ p 2 i ∷ p 3 i ∷ p 4 i ∷ [])) unit vpi
+      λ i. vc_on (from4 (p 0 i ∷ p 1 i ∷ p 2 i ∷ p 3 i ∷ p 4 i ∷ [])) key
 
 -- from field 2 on, of the whole line
 pub line_rest : (kind : Kind) (t s : List ℕ) → t ≡ after_of s → line_of kind (from2 (fields_of t)) ≡ line_of kind (fields_of s)

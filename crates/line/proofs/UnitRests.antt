@@ -4,10 +4,9 @@ use mathlib.Core.Path.{◌≡◌, ◌∙◌}
 use mathlib.Core.List.{List, [], ◌∷◌}
 use Rattle.header.specs.declared.Link.{Link}
 use Rattle.outlet.specs.declared.Mode.{Mode}
-use Rattle.text.specs.Text.{at, fields_of, after_of, from2, from4, from6, from7, from9}
+use Rattle.text.specs.Text.{at, fields_of, after_of, from2, from4, from6, from7}
 use Rattle.text.proofs.Split.{after_fields}
-use Rattle.line.specs.declared.Back.{Back}
-use Rattle.line.specs.Units.{settings_on, limits_after, limits_in, limits_of}
+use Rattle.line.specs.Units.{settings_on, limits_in, limits_of}
 
 -- one field further, two, and four
 module _ (t s : List ℕ) (e : t ≡ after_of s) where
@@ -24,9 +23,6 @@ module _ (t u s : List ℕ) (d : t ≡ after_of u) (e : u ≡ after_of s) where
   pub settings_on_rest : (number : ℕ) (link : Link) → settings_on (from4 (fields_of t)) number link ≡ settings_on (from2 (fields_of s)) number link
   unfolding settings_on
   settings_on_rest number link = λ i. settings_on ([] ∷ [] ∷ [] ∷ second_fields 0 i ∷ second_fields 1 i ∷ []) number link
-
-  pub limits_after_rest : {r : Back} (mode : Mode) (cbrlength cbrlimit : ℕ) → r ≡ limits_after (from9 (fields_of t)) mode cbrlength cbrlimit → r ≡ limits_after (from7 (fields_of s)) mode cbrlength cbrlimit
-  limits_after_rest mode cbrlength cbrlimit q = q ∙ λ i. limits_after (from9 (second_fields 0 i ∷ second_fields 1 i ∷ [])) mode cbrlength cbrlimit
 
 module _ (t u v w s : List ℕ) (a : t ≡ after_of u) (b : u ≡ after_of v) (c : v ≡ after_of w) (d : w ≡ after_of s) where
   pub fourth_fields : (k : ℕ) → at (fields_of t) k ≡ at (fields_of s) (suc (suc (suc (suc k))))

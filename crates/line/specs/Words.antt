@@ -1,38 +1,38 @@
--- The words of a table, byte by byte. Assumes nothing.
-use Rattle.std.specs.Prelude.{ℕ, List, [], ◌∷◌}
+-- The words of a table. Assumes nothing.
+use Rattle.std.specs.Prelude.{ℕ, List, codes}
 
 abbrev pub w_bus : List ℕ
-w_bus = 98 ∷ 117 ∷ 115 ∷ []
+w_bus = codes "bus"
 
 abbrev pub w_unit : List ℕ
-w_unit = 117 ∷ 110 ∷ 105 ∷ 116 ∷ []
+w_unit = codes "unit"
 
 abbrev pub w_vp : List ℕ
-w_vp = 118 ∷ 112 ∷ []
+w_vp = codes "vp"
 
 abbrev pub w_drop : List ℕ
-w_drop = 100 ∷ 114 ∷ 111 ∷ 112 ∷ []
+w_drop = codes "drop"
 
 abbrev pub w_page : List ℕ
-w_page = 112 ∷ 97 ∷ 103 ∷ 101 ∷ []
+w_page = codes "page"
 
 abbrev pub w_vc : List ℕ
-w_vc = 118 ∷ 99 ∷ []
+w_vc = codes "vc"
 
 abbrev pub w_mc : List ℕ
-w_mc = 109 ∷ 99 ∷ []
+w_mc = codes "mc"
 
 abbrev pub w_uni : List ℕ
-w_uni = 117 ∷ 110 ∷ 105 ∷ []
+w_uni = codes "uni"
 
 abbrev pub w_nni : List ℕ
-w_nni = 110 ∷ 110 ∷ 105 ∷ []
+w_nni = codes "nni"
 
 abbrev pub w_one : List ℕ
-w_one = 111 ∷ 110 ∷ 101 ∷ []
+w_one = codes "one"
 
 abbrev pub w_four : List ℕ
-w_four = 102 ∷ 111 ∷ 117 ∷ 114 ∷ []
+w_four = codes "four"
 
 abbrev pub w_b : List ℕ
-w_b = 98 ∷ []
+w_b = codes "b"

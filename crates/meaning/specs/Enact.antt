@@ -1,5 +1,6 @@
 -- What a line does to a memory and a shelf as they stand. Assumes nothing.
-use Rattle.std.specs.Prelude.{ℕ, ◌+◌, ◌*◌, ◌<◌, Bool, cond, List, Option, Some, None, Err}
+use Rattle.line.specs.Lines.{Reading}
+use Rattle.std.specs.Prelude.{ℕ, ◌+◌, ◌*◌, ◌<◌, Bool, cond, List, Option, Some, None, Err, Ok}
 use Rattle.bus.specs.Routing.{routing}
 use Rattle.card.specs.declared.Card.{Card}
 use Rattle.lookup.specs.Record.{size, record_at, written}
@@ -7,8 +8,6 @@ use Rattle.lookup.specs.declared.Record as R
 use Rattle.lookup.specs.declared.Record.TheVariants.{Drop as R-as-Drop, Route, Page as R-as-Page}
 use Rattle.outlet.specs.Outlets.{Given}
 use Rattle.shelf.specs.Shelf.{Shelf}
-use Rattle.line.specs.declared.Reading.{Reading}
-use Rattle.line.specs.declared.Reading.TheVariants.{Good, Bad}
 use Rattle.line.specs.declared.Line.{Line}
 use Rattle.line.specs.declared.Line.TheVariants.{Bus, Unit as L-as-Unit, Vp, Drop, Page, Vc, Mc}
 use Rattle.judge.specs.declared.Owner.{Owner}
@@ -43,28 +42,28 @@ memory_by card memory used o (Mc u session) = memory
 
 -- a line that is read
 abbrev pub verdict_at : Card → ℕ → Bool → (ℕ → Option R.Record) → Shelf → ℕ → Reading → Verdict
-verdict_at card room first stands shelf used (Good l) = judge_at card room first stands shelf used l
-verdict_at card room first stands shelf used (Bad wrong) = Err (Form wrong)
+verdict_at card room first stands shelf used (Ok l) = judge_at card room first stands shelf used l
+verdict_at card room first stands shelf used (Err wrong) = Err (Form wrong)
 
 abbrev pub shelf_in : Reading → ℕ → Shelf → Shelf
-shelf_in (Good l) used shelf = shelf_by l used shelf
-shelf_in (Bad wrong) used shelf = shelf
+shelf_in (Ok l) used shelf = shelf_by l used shelf
+shelf_in (Err wrong) used shelf = shelf
 
 abbrev pub used_in : Reading → ℕ → ℕ
-used_in (Good l) used = used + size * takes (opens l)
-used_in (Bad wrong) used = used
+used_in (Ok l) used = used + size * takes (opens l)
+used_in (Err wrong) used = used
 
 abbrev pub memory_in : Card → List ℕ → Shelf → ℕ → Reading → List ℕ
-memory_in card memory shelf used (Good l) = memory_by card memory used (owner_of shelf (unit_of l)) l
-memory_in card memory shelf used (Bad wrong) = memory
+memory_in card memory shelf used (Ok l) = memory_by card memory used (owner_of shelf (unit_of l)) l
+memory_in card memory shelf used (Err wrong) = memory
 
 -- there is a place for a unit that it declares, and a `unit` line could give its limits
 abbrev pub Places : Shelf → Reading → Type 0
-Places shelf (Good (Bus bus)) = Unit {0}
-Places shelf (Good (L-as-Unit settings limits)) = (shelf.count < 32) × Given limits
-Places shelf (Good (Vp u v target class outvpi)) = Unit {0}
-Places shelf (Good (Drop u v)) = Unit {0}
-Places shelf (Good (Page u v top)) = Unit {0}
-Places shelf (Good (Vc u v w target class outvpi outvci)) = Unit {0}
-Places shelf (Good (Mc u session)) = Unit {0}
-Places shelf (Bad wrong) = Unit {0}
+Places shelf (Ok (Bus bus)) = Unit {0}
+Places shelf (Ok (L-as-Unit settings limits)) = (shelf.count < 32) × Given limits
+Places shelf (Ok (Vp u v target class outvpi)) = Unit {0}
+Places shelf (Ok (Drop u v)) = Unit {0}
+Places shelf (Ok (Page u v top)) = Unit {0}
+Places shelf (Ok (Vc u v w target class outvpi outvci)) = Unit {0}
+Places shelf (Ok (Mc u session)) = Unit {0}
+Places shelf (Err wrong) = Unit {0}

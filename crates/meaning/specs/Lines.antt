@@ -1,11 +1,10 @@
 -- The lines of a table, each judged against the lines before it; the first faulty one ends it. Assumes nothing.
+use Rattle.line.specs.Lines.{Reading}
 use Rattle.std.specs.Prelude.{ℕ, ◌+◌, ◌*◌, ◌≡◌, Bool, true, false, cond, List, [], ◌∷◌, Some, Err, Ok, None, Option}
 use Rattle.card.specs.declared.Card.{Card}
 use Rattle.lookup.specs.Record.{size}
 use Rattle.line.specs.declared.Line.{Line}
 use Rattle.line.specs.declared.Line.TheVariants.{Bus, Unit as L-as-Unit, Vp, Drop, Page, Vc, Mc}
-use Rattle.line.specs.declared.Reading.{Reading}
-use Rattle.line.specs.declared.Reading.TheVariants.{Good as Read, Bad}
 use Rattle.judge.specs.declared.Fault.TheVariants.{Form, Order}
 use Rattle.judge.specs.Verdicts.{fine, Verdict, is_fine}
 use Rattle.judge.specs.Judge.{judge_bus, judge_unit, judge_vp, judge_drop, judge_page, judge_vc, judge_mc}
@@ -59,12 +58,12 @@ pub data Ran : Type 0 where
 
 -- a line that cannot be read is Form; one that can is judged
 abbrev pub verdict_on : Card → ℕ → List Line → Reading → Verdict
-verdict_on card room told (Read l) = judge card room told l
-verdict_on card room told (Bad wrong) = Err (Form wrong)
+verdict_on card room told (Ok l) = judge card room told l
+verdict_on card room told (Err wrong) = Err (Form wrong)
 
 abbrev pub with : Reading → List Line → List Line
-with (Read l) told = l ∷ told
-with (Bad wrong) told = told
+with (Ok l) told = l ∷ told
+with (Err wrong) told = told
 
 unfoldable pub run : Card → ℕ → List Line → ℕ → List Reading → Ran
 run card room told n [] = done told

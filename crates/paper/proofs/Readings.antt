@@ -23,32 +23,20 @@ use Rattle.text.specs.Digits.{decimal_of, value}
 use Rattle.text.proofs.Same.{same_eq}
 use Rattle.text.proofs.Numbers.{first, second}
 use Rattle.line.specs.Words.{w_b, w_uni, w_nni, w_one, w_four, w_bus, w_unit, w_vp, w_drop, w_page, w_vc, w_mc}
-use Rattle.line.specs.Ranged.{ranged, num, aim_of, aim}
+use Rattle.std.specs.Prelude.{Option, Some, None, Result, Ok, Err}
+use Rattle.line.specs.Ranged.{◌>>=◌, ranged, aim_of}
 use Rattle.line.specs.declared.Wrong.{Wrong}
 use Rattle.line.specs.declared.Wrong.TheVariants.{Number, Range, Newline}
-use Rattle.line.specs.declared.Num.{Num}
-use Rattle.line.specs.declared.Num.TheVariants.{Is, NoNum}
-use Rattle.line.specs.declared.Aim.{Aim}
-use Rattle.line.specs.declared.Aim.TheVariants.{At, NoAim}
 use Rattle.line.proofs.Numbers.{in_range}
+use Rattle.line.proofs.Ranges.{Sound, by_part, chosen}
 use Rattle.line.specs.Units.{settings_on, settings_of, least, most_length, most_limit, most_vbr, limits_in, limits_of}
-use Rattle.line.specs.declared.Front.{Front}
-use Rattle.line.specs.declared.Front.TheVariants.{Set, NoFront}
-use Rattle.line.specs.declared.Back.{Back}
-use Rattle.line.specs.declared.Back.TheVariants.{Held, NoBack}
-use Rattle.line.specs.Lines.{bus_line, front, back, unit_line, key_of, key, way_of, way, vp_line, drop_line, page_line, vc_on, vc_line, mc_line, line_of, count_of, word_of, spoken, reading_of}
+use Rattle.line.specs.Lines.{Reading, bus_line, unit_line, key_of, way_of, vp_line, drop_line, page_line, vc_on, vc_line, mc_line, line_of, count_of, word_of, spoken, reading_of}
 use Rattle.line.specs.declared.Key.{Key}
-use Rattle.line.specs.declared.Key.TheVariants.{On, NoKey}
 use Rattle.line.specs.declared.Way.{Way}
-use Rattle.line.specs.declared.Way.TheVariants.{To, NoWay}
 use Rattle.line.specs.declared.Kind.{Kind}
 use Rattle.line.specs.declared.Kind.TheVariants as kind
-use Rattle.line.specs.declared.Word.{Word}
-use Rattle.line.specs.declared.Word.TheVariants.{Known, Unknown}
 use Rattle.line.specs.declared.Line.{Line}
 use Rattle.line.specs.declared.Line.TheVariants.{Bus, Unit as L-as-Unit, Vp, Drop, Page, Vc, Mc}
-use Rattle.line.specs.declared.Reading.{Reading}
-use Rattle.line.specs.declared.Reading.TheVariants.{Good, Bad}
 use Rattle.paper.specs.Outlets.{GivenIn}
 use Rattle.paper.specs.Words.{numeral_to, numeral, link_word, mode_word, mark_word, target_word, fields_of, words_of, TopIn, TargetIn, InRange}
 use Rattle.paper.specs.Reads.{ReadsIff, WordsApart, FormIff}
@@ -58,16 +46,16 @@ use Rattle.paper.proofs.Fields.{words_fields, fields_words}
 
 -- A. a number, a word and a target in a field
 -- a number in its range is read from its numeral
-read_number : (f lo hi n : ℕ) → lo ≤ n → n ≤ hi → ranged f lo hi (numeral n) ≡ Is n
+read_number : (f lo hi n : ℕ) → lo ≤ n → n ≤ hi → ranged f lo hi (numeral n) ≡ Ok n
 read_number f lo hi n h k = sym (in_range f lo hi (numeral n) n (numeral_decimal n) (numeral_value n) h k)
 
 -- and from nothing else
 module _ (f lo hi : ℕ) (s : List ℕ) where
-  number_read : (n : ℕ) → ranged f lo hi s ≡ Is n → (s ≡ numeral n) × (lo ≤ n) × (n ≤ hi)
+  number_read : (n : ℕ) → ranged f lo hi s ≡ Ok n → (s ≡ numeral n) × (lo ≤ n) × (n ≤ hi)
   unfolding ranged
   number_read n e = go (decimal_of s) refl (leb lo (value 0 s) && leb (value 0 s) hi) refl e
     where
-      go : (d : Bool) → decimal_of s ≡ d → (t : Bool) → leb lo (value 0 s) && leb (value 0 s) hi ≡ t → cond d (cond t (Is (value 0 s)) (NoNum (Range f))) (NoNum (Number f)) ≡ Is n → (s ≡ numeral n) × (lo ≤ n) × (n ≤ hi)
+      go : (d : Bool) → decimal_of s ≡ d → (t : Bool) → leb lo (value 0 s) && leb (value 0 s) hi ≡ t → cond d (cond t (Ok (value 0 s)) (Err (Range f))) (Err (Number f)) ≡ Ok n → (s ≡ numeral n) × (lo ≤ n) × (n ≤ hi)
       go true d true t q =
           let z : value 0 s ≡ n = cc in (
             decimal_numeral s d ∙ ap numeral z,
@@ -77,87 +65,76 @@ module _ (f lo hi : ℕ) (s : List ℕ) where
       go true d false t q = absurd (let z : ◌≡◌ {A = ℕ} 0 1 = cc in omega arith)
       go false d t p q = absurd (let z : ◌≡◌ {A = ℕ} 0 1 = cc in omega arith)
 
-  -- what holds of each fault, and of each number in its range whose numeral this is, holds of what comes of a number
-  by_num : {R : Type 0} (P : R → Type 0) {bad : Wrong → R} {good : ℕ → R} → ((wrong : Wrong) → P (bad wrong)) → ((n : ℕ) → s ≡ numeral n → lo ≤ n → n ≤ hi → P (good n)) → P (num (ranged f lo hi s) bad good)
-  by_num P {bad} {good} b g = go (ranged f lo hi s) refl
+  -- what follows of each number in its range whose numeral this is follows of what is read
+  by_num : {B : Type 0} (Q : B → Type 0) (good : ℕ → Result B Wrong) → ((n : ℕ) → s ≡ numeral n → lo ≤ n → n ≤ hi → Sound Q (good n)) → Sound Q (ranged f lo hi s >>= good)
+  by_num Q good g = go (ranged f lo hi s) refl
     where
-      go : (m : Num) → ranged f lo hi s ≡ m → P (num m bad good)
-      go (Is n) e = let r = number_read n e in g n r.0 r.1 r.2
-      go (NoNum wrong) e = b wrong
-
--- what holds of both choices, each where it is taken, holds of the choice
-chosen : {R : Type 0} (P : R → Type 0) (b : Bool) {x y : R} → (b ≡ true → P x) → (b ≡ false → P y) → P (cond b x y)
-chosen P true f g = f refl
-chosen P false f g = g refl
+      go : (m : Result ℕ Wrong) → ranged f lo hi s ≡ m → Sound Q (m >>= good)
+      go (Ok n) e = let r = number_read n e in g n r.0 r.1 r.2
+      go (Err wrong) e = tt
 
 -- a target
-abbrev AimReads : List ℕ → Aim → Type 0
-AimReads s (At t) = (s ≡ target_word t) × TargetIn t
-AimReads s (NoAim wrong) = Unit {0}
+abbrev AimReads : List ℕ → Target → Type 0
+AimReads s t = (s ≡ target_word t) × TargetIn t
 
-aim_reads : (f : ℕ) (s : List ℕ) → AimReads s (aim_of f s)
+aim_reads : (f : ℕ) (s : List ℕ) → Sound (AimReads s) (aim_of f s)
 unfolding aim_of
 aim_reads f [] = tt
 aim_reads f (b ∷ r) =
-    chosen (AimReads (b ∷ r)) (eqb b 117) (λ t. by_num f 0 31 r (AimReads (b ∷ r)) (λ wrong. tt) λ n e _ h. ((λ i. eqb-true b 117 t i ∷ e i), h)) λ _.
-    chosen (AimReads (b ∷ r)) (eqb b 109) (λ t. by_num f 0 255 r (AimReads (b ∷ r)) (λ wrong. tt) λ n e _ h. ((λ i. eqb-true b 109 t i ∷ e i), h)) λ _.
-    chosen (AimReads (b ∷ r)) (same (b ∷ r) w_b) (λ t. (same_eq (b ∷ r) w_b t, tt)) (λ _. tt)
+    chosen (Sound (AimReads (b ∷ r))) (eqb b 117) (λ t. by_num f 0 31 r (AimReads (b ∷ r)) _ λ n e _ h. ((λ i. eqb-true b 117 t i ∷ e i), h)) λ _.
+    chosen (Sound (AimReads (b ∷ r))) (eqb b 109) (λ t. by_num f 0 255 r (AimReads (b ∷ r)) _ λ n e _ h. ((λ i. eqb-true b 109 t i ∷ e i), h)) λ _.
+    chosen (Sound (AimReads (b ∷ r))) (same (b ∷ r) w_b) (λ t. (same_eq (b ∷ r) w_b t, tt)) (λ _. tt)
 
-read_aim : (f : ℕ) (t : Target) → TargetIn t → aim_of f (target_word t) ≡ At t
+read_aim : (f : ℕ) (t : Target) → TargetIn t → aim_of f (target_word t) ≡ Ok t
 unfolding aim_of same
 read_aim f (target.Unit unit) h = rw (read_number f 0 31 unit (omega arith) h)
 read_aim f (target.Session session) h = rw (read_number f 0 255 session (omega arith) h)
 read_aim f target.All h = refl
 
 -- B. the parts of a line: what is read stands in the fields, in its range
-KeyReads : List (List ℕ) → Key → Type 0
-KeyReads fs (On unit vpi) = (field_of 2 fs ≡ numeral unit) × (field_of 3 fs ≡ numeral vpi) × (unit ≤ 31) × (vpi ≤ 4095)
-KeyReads fs (NoKey wrong) = Unit {0}
+abbrev KeyReads : List (List ℕ) → Key → Type 0
+KeyReads fs key = (field_of 2 fs ≡ numeral key.unit) × (field_of 3 fs ≡ numeral key.vpi) × (key.unit ≤ 31) × (key.vpi ≤ 4095)
 
-key_reads : (fs : List (List ℕ)) → KeyReads fs (key_of fs)
-unfolding key_of KeyReads
+key_reads : (fs : List (List ℕ)) → Sound (KeyReads fs) (key_of fs)
+unfolding key_of
 key_reads fs =
-    by_num 2 0 31 (field_of 2 fs) (KeyReads fs) (λ wrong. tt) λ unit d _ h.
-    by_num 3 0 4095 (field_of 3 fs) (KeyReads fs) (λ wrong. tt) λ vpi e _ k.
+    by_num 2 0 31 (field_of 2 fs) (KeyReads fs) _ λ unit d _ h.
+    by_num 3 0 4095 (field_of 3 fs) (KeyReads fs) _ λ vpi e _ k.
     (d, e, h, k)
 
-WayReads : List (List ℕ) → (a b c : ℕ) → Way → Type 0
-WayReads fs a b c (To t class outvpi) =
-    (field_of a fs ≡ target_word t) × (field_of b fs ≡ numeral class) × (field_of c fs ≡ numeral outvpi) × TargetIn t × (class ≤ 3) × (outvpi ≤ 4095)
-WayReads fs a b c (NoWay wrong) = Unit {0}
+abbrev WayReads : List (List ℕ) → (a b c : ℕ) → Way → Type 0
+WayReads fs a b c way =
+    (field_of a fs ≡ target_word way.target) × (field_of b fs ≡ numeral way.class) × (field_of c fs ≡ numeral way.outvpi)
+    × TargetIn way.target × (way.class ≤ 3) × (way.outvpi ≤ 4095)
 
-way_reads : (fs : List (List ℕ)) (a b c : ℕ) → WayReads fs a b c (way_of fs a b c)
-unfolding way_of WayReads
-way_reads fs a b c = go (aim_of a (field_of a fs)) (aim_reads a (field_of a fs))
-  where
-    go : (m : Aim) → AimReads (field_of a fs) m → WayReads fs a b c (aim m NoWay λ t. num (ranged b 0 3 (field_of b fs)) NoWay λ class. num (ranged c 0 4095 (field_of c fs)) NoWay λ outvpi. To t class outvpi)
-    go (NoAim wrong) r = tt
-    go (At t) r =
-        by_num b 0 3 (field_of b fs) (WayReads fs a b c) (λ wrong. tt) λ class d _ h.
-        by_num c 0 4095 (field_of c fs) (WayReads fs a b c) (λ wrong. tt) λ outvpi e _ k.
-        (r.0, d, e, r.1, h, k)
+way_reads : (fs : List (List ℕ)) (a b c : ℕ) → Sound (WayReads fs a b c) (way_of fs a b c)
+unfolding way_of
+way_reads fs a b c =
+    by_part (AimReads (field_of a fs)) (WayReads fs a b c) (aim_of a (field_of a fs)) _ (aim_reads a (field_of a fs)) λ t r.
+    by_num b 0 3 (field_of b fs) (WayReads fs a b c) _ λ class d _ h.
+    by_num c 0 4095 (field_of c fs) (WayReads fs a b c) _ λ outvpi e _ k.
+    (r.0, d, e, r.1, h, k)
 
 abbrev SettingsIn : Settings → Type 0
 SettingsIn settings = (settings.number ≤ 31) × TopIn settings.link settings.top × (1 ≤ settings.priority) × (settings.priority ≤ 3)
 
-FrontReads : List (List ℕ) → Front → Type 0
-FrontReads fs (Set settings) =
+abbrev FrontReads : List (List ℕ) → Settings → Type 0
+FrontReads fs settings =
     (field_of 2 fs ≡ numeral settings.number) × (field_of 3 fs ≡ link_word settings.link) × (field_of 4 fs ≡ numeral settings.top)
     × (field_of 5 fs ≡ numeral settings.priority) × SettingsIn settings
-FrontReads fs (NoFront wrong) = Unit {0}
 
-front_reads : (fs : List (List ℕ)) → FrontReads fs (settings_of fs)
-unfolding settings_of settings_on FrontReads
+front_reads : (fs : List (List ℕ)) → Sound (FrontReads fs) (settings_of fs)
+unfolding settings_of settings_on
 front_reads fs =
-    by_num 2 0 31 (field_of 2 fs) (FrontReads fs) (λ wrong. tt) λ number d _ h.
-    chosen (FrontReads fs) (same (field_of 3 fs) w_uni) (λ t. on number d h Uni (same_eq (field_of 3 fs) w_uni t)) λ _.
-    chosen (FrontReads fs) (same (field_of 3 fs) w_nni) (λ t. on number d h Nni (same_eq (field_of 3 fs) w_nni t)) λ _.
+    by_num 2 0 31 (field_of 2 fs) (FrontReads fs) _ λ number d _ h.
+    chosen (Sound (FrontReads fs)) (same (field_of 3 fs) w_uni) (λ t. on number d h Uni (same_eq (field_of 3 fs) w_uni t)) λ _.
+    chosen (Sound (FrontReads fs)) (same (field_of 3 fs) w_nni) (λ t. on number d h Nni (same_eq (field_of 3 fs) w_nni t)) λ _.
     tt
   where
-    on : (number : ℕ) → field_of 2 fs ≡ numeral number → number ≤ 31 → (link : Link) → field_of 3 fs ≡ link_word link → FrontReads fs (settings_on fs number link)
+    on : (number : ℕ) → field_of 2 fs ≡ numeral number → number ≤ 31 → (link : Link) → field_of 3 fs ≡ link_word link → Sound (FrontReads fs) (settings_on fs number link)
     on number d h link e =
-        by_num 4 0 (highest link) (field_of 4 fs) (FrontReads fs) (λ wrong. tt) λ top f _ k.
-        by_num 5 1 3 (field_of 5 fs) (FrontReads fs) (λ wrong. tt) λ priority g l m.
+        by_num 4 0 (highest link) (field_of 4 fs) (FrontReads fs) _ λ top f _ k.
+        by_num 5 1 3 (field_of 5 fs) (FrontReads fs) _ λ priority g l m.
         (d, e, f, g, (h, (top_iff link top).0 k, l, m))
 
 -- "mark 0 or 1"
@@ -175,25 +152,24 @@ limits_iff : (mode : Mode) (l c v : ℕ) → Limited mode l c v ↔ GivenIn mode
 limits_iff One l c v = (λ r. (omega arith, omega arith, r.4, r.5), λ g. (omega arith, omega arith, omega arith, omega arith, g.2, g.3))
 limits_iff Four l c v = (λ r. r, λ g. g)
 
-BackReads : List (List ℕ) → Back → Type 0
-BackReads fs (Held limits) =
+abbrev BackReads : List (List ℕ) → Limits → Type 0
+BackReads fs limits =
     (field_of 6 fs ≡ mode_word limits.mode) × (field_of 7 fs ≡ numeral limits.cbrlength) × (field_of 8 fs ≡ numeral limits.cbrlimit)
     × (field_of 9 fs ≡ numeral limits.vbrlimit) × (field_of 10 fs ≡ mark_word limits.mark) × GivenIn limits.mode limits.cbrlength limits.cbrlimit limits.vbrlimit
-BackReads fs (NoBack wrong) = Unit {0}
 
-back_reads : (fs : List (List ℕ)) → BackReads fs (limits_of fs)
-unfolding limits_of limits_in BackReads
+back_reads : (fs : List (List ℕ)) → Sound (BackReads fs) (limits_of fs)
+unfolding limits_of limits_in
 back_reads fs =
-    chosen (BackReads fs) (same (field_of 6 fs) w_one) (λ t. on One (same_eq (field_of 6 fs) w_one t)) λ _.
-    chosen (BackReads fs) (same (field_of 6 fs) w_four) (λ t. on Four (same_eq (field_of 6 fs) w_four t)) λ _.
+    chosen (Sound (BackReads fs)) (same (field_of 6 fs) w_one) (λ t. on One (same_eq (field_of 6 fs) w_one t)) λ _.
+    chosen (Sound (BackReads fs)) (same (field_of 6 fs) w_four) (λ t. on Four (same_eq (field_of 6 fs) w_four t)) λ _.
     tt
   where
-    on : (mode : Mode) → field_of 6 fs ≡ mode_word mode → BackReads fs (limits_in fs mode)
+    on : (mode : Mode) → field_of 6 fs ≡ mode_word mode → Sound (BackReads fs) (limits_in fs mode)
     on mode d =
-        by_num 7 (least mode) (most_length mode) (field_of 7 fs) (BackReads fs) (λ wrong. tt) λ cbrlength e h i.
-        by_num 8 (least mode) (most_limit mode cbrlength) (field_of 8 fs) (BackReads fs) (λ wrong. tt) λ cbrlimit f j k.
-        by_num 9 1 (most_vbr mode cbrlength) (field_of 9 fs) (BackReads fs) (λ wrong. tt) λ vbrlimit g l m.
-        by_num 10 0 1 (field_of 10 fs) (BackReads fs) (λ wrong. tt) λ mark n _ o.
+        by_num 7 (least mode) (most_length mode) (field_of 7 fs) (BackReads fs) _ λ cbrlength e h i.
+        by_num 8 (least mode) (most_limit mode cbrlength) (field_of 8 fs) (BackReads fs) _ λ cbrlimit f j k.
+        by_num 9 1 (most_vbr mode cbrlength) (field_of 9 fs) (BackReads fs) _ λ vbrlimit g l m.
+        by_num 10 0 1 (field_of 10 fs) (BackReads fs) _ λ mark n _ o.
         (d, e, f, g, n ∙ mark_is mark o, (limits_iff mode cbrlength cbrlimit vbrlimit).0 (h, i, j, k, l, m))
 
 -- C. a line: its fields are these, from a place on
@@ -221,10 +197,10 @@ word_for kind.Page = w_page
 word_for kind.Vc = w_vc
 word_for kind.Mc = w_mc
 
-known_is : {j k : Kind} → Known j ≡ Known k → j ≡ k
+known_is : {j k : Kind} → ◌≡◌ {A = Option Kind} (Some j) (Some k) → j ≡ k
 known_is e = cc
 
-word_is : (w : List ℕ) (k : Kind) → word_of w ≡ Known k → w ≡ word_for k
+word_is : (w : List ℕ) (k : Kind) → word_of w ≡ Some k → w ≡ word_for k
 unfolding word_of
 word_is w k =
     chosen P (same w w_bus) (λ t e. same_eq w w_bus t ∙ ap word_for (known_is e)) λ _.
@@ -236,77 +212,65 @@ word_is w k =
     chosen P (same w w_mc) (λ t e. same_eq w w_mc t ∙ ap word_for (known_is e)) λ _ e.
     absurd (let z : ◌≡◌ {A = ℕ} 0 1 = cc in omega arith)
   where
-    P : Word → Type 0
-    P x = x ≡ Known k → w ≡ word_for k
+    P : Option Kind → Type 0
+    P x = x ≡ Some k → w ≡ word_for k
 
-Reads : List (List ℕ) → Reading → Type 0
-Reads fs (Good l) = (fs ≡ fields_of l) × InRange l
-Reads fs (Bad wrong) = Unit {0}
+abbrev Reads : List (List ℕ) → Line → Type 0
+Reads fs l = (fs ≡ fields_of l) × InRange l
 
-by_key : (P : Reading → Type 0) (fs : List (List ℕ)) {good : ℕ → ℕ → Reading} → ((wrong : Wrong) → P (Bad wrong)) → ((unit vpi : ℕ) → KeyReads fs (On unit vpi) → P (good unit vpi)) → P (key (key_of fs) good)
-by_key P fs {good} b g = go (key_of fs) (key_reads fs)
-  where
-    go : (k : Key) → KeyReads fs k → P (key k good)
-    go (On unit vpi) k = g unit vpi k
-    go (NoKey wrong) k = b wrong
+by_key : (fs : List (List ℕ)) (good : Key → Reading) → ((key : Key) → KeyReads fs key → Sound (Reads fs) (good key)) → Sound (Reads fs) (key_of fs >>= good)
+by_key fs good g = by_part (KeyReads fs) (Reads fs) (key_of fs) good (key_reads fs) g
 
-by_way : (P : Reading → Type 0) (fs : List (List ℕ)) (x y z : ℕ) {good : Target → ℕ → ℕ → Reading} → ((wrong : Wrong) → P (Bad wrong)) → ((t : Target) (class outvpi : ℕ) → WayReads fs x y z (To t class outvpi) → P (good t class outvpi)) → P (way (way_of fs x y z) good)
-by_way P fs x y z {good} b g = go (way_of fs x y z) (way_reads fs x y z)
-  where
-    go : (w : Way) → WayReads fs x y z w → P (way w good)
-    go (To t class outvpi) w = g t class outvpi w
-    go (NoWay wrong) w = b wrong
+by_way : (fs : List (List ℕ)) (x y z : ℕ) (good : Way → Reading) → ((way : Way) → WayReads fs x y z way → Sound (Reads fs) (good way)) → Sound (Reads fs) (way_of fs x y z >>= good)
+by_way fs x y z good g = by_part (WayReads fs x y z) (Reads fs) (way_of fs x y z) good (way_reads fs x y z) g
 
-line_reads : (k : Kind) (fs : List (List ℕ)) → length fs ≡ count_of k → at fs 0 ≡ word_for k → Reads fs (line_of k fs)
-unfolding line_of bus_line unit_line vp_line drop_line page_line vc_on vc_line mc_line Reads KeyReads WayReads FrontReads BackReads fields_of
+line_reads : (k : Kind) (fs : List (List ℕ)) → length fs ≡ count_of k → at fs 0 ≡ word_for k → Sound (Reads fs) (line_of k fs)
+unfolding line_of bus_line unit_line vp_line drop_line page_line vc_on vc_line mc_line fields_of
 line_reads kind.Bus fs n w =
-    by_num 2 16 32 (field_of 2 fs) (Reads fs) (λ wrong. tt) λ units e _ _.
+    by_num 2 16 32 (field_of 2 fs) (Reads fs) _ λ units e _ _.
     let all = from_is 0 fs (w_bus ∷ numeral units ∷ []) (w, (e, n)) in
-    chosen (Reads fs) (eqb units 16) (λ t. (all, inl (eqb-true units 16 t))) λ _.
-    chosen (Reads fs) (eqb units 32) (λ t. (all, inr (eqb-true units 32 t))) λ _.
+    chosen (Sound (Reads fs)) (eqb units 16) (λ t. (all, inl (eqb-true units 16 t))) λ _.
+    chosen (Sound (Reads fs)) (eqb units 32) (λ t. (all, inr (eqb-true units 32 t))) λ _.
     tt
-line_reads kind.Unit fs n w = go (settings_of fs) (limits_of fs) (front_reads fs) (back_reads fs)
-  where
-    go : (a : Front) (b : Back) → FrontReads fs a → BackReads fs b → Reads fs (front a λ settings. back b λ limits. Good (L-as-Unit settings limits))
-    go (NoFront wrong) b p q = tt
-    go (Set settings) (NoBack wrong) p q = tt
-    go (Set settings) (Held limits) p q = (
+line_reads kind.Unit fs n w =
+    by_part (FrontReads fs) (Reads fs) (settings_of fs) _ (front_reads fs) λ settings p.
+    by_part (BackReads fs) (Reads fs) (limits_of fs) _ (back_reads fs) λ limits q. (
       from_is 0 fs (fields_of (L-as-Unit settings limits)) (w, (p.0, (p.1, (p.2, (p.3, (q.0, (q.1, (q.2, (q.3, (q.4, n)))))))))),
       (p.4.0, p.4.1, p.4.2, p.4.3, q.5),
     )
 line_reads kind.Vp fs n w =
-    by_key (Reads fs) fs (λ wrong. tt) λ unit vpi k.
-    by_way (Reads fs) fs 4 5 6 (λ wrong. tt) λ t class outvpi r. (
-      from_is 0 fs (w_vp ∷ numeral unit ∷ numeral vpi ∷ target_word t ∷ numeral class ∷ numeral outvpi ∷ []) (w, (k.0, (k.1, (r.0, (r.1, (r.2, n)))))),
+    by_key fs _ λ key k.
+    by_way fs 4 5 6 _ λ way r. (
+      from_is 0 fs (w_vp ∷ numeral key.unit ∷ numeral key.vpi ∷ target_word way.target ∷ numeral way.class ∷ numeral way.outvpi ∷ []) (w, (k.0, (k.1, (r.0, (r.1, (r.2, n)))))),
       (k.2, k.3, r.3, r.4, r.5),
     )
 line_reads kind.Drop fs n w =
-    by_key (Reads fs) fs (λ wrong. tt) λ unit vpi k. (from_is 0 fs (w_drop ∷ numeral unit ∷ numeral vpi ∷ []) (w, (k.0, (k.1, n))), (k.2, k.3))
+    by_key fs _ λ key k. (from_is 0 fs (w_drop ∷ numeral key.unit ∷ numeral key.vpi ∷ []) (w, (k.0, (k.1, n))), (k.2, k.3))
 line_reads kind.Page fs n w =
-    by_key (Reads fs) fs (λ wrong. tt) λ unit vpi k.
-    by_num 4 0 65535 (field_of 4 fs) (Reads fs) (λ wrong. tt) λ top e _ h.
-    (from_is 0 fs (w_page ∷ numeral unit ∷ numeral vpi ∷ numeral top ∷ []) (w, (k.0, (k.1, (e, n)))), (k.2, k.3, h))
+    by_key fs _ λ key k.
+    by_num 4 0 65535 (field_of 4 fs) (Reads fs) _ λ top e _ h.
+    (from_is 0 fs (w_page ∷ numeral key.unit ∷ numeral key.vpi ∷ numeral top ∷ []) (w, (k.0, (k.1, (e, n)))), (k.2, k.3, h))
 line_reads kind.Vc fs n w =
-    by_key (Reads fs) fs (λ wrong. tt) λ unit vpi k.
-    by_num 4 0 65535 (field_of 4 fs) (Reads fs) (λ wrong. tt) λ vci d _ h.
-    by_way (Reads fs) fs 5 6 7 (λ wrong. tt) λ t class outvpi r.
-    by_num 8 0 65535 (field_of 8 fs) (Reads fs) (λ wrong. tt) λ outvci e _ i. (
-      from_is 0 fs (w_vc ∷ numeral unit ∷ numeral vpi ∷ numeral vci ∷ target_word t ∷ numeral class ∷ numeral outvpi ∷ numeral outvci ∷ []) (w, (k.0, (k.1, (d, (r.0, (r.1, (r.2, (e, n)))))))),
+    by_key fs _ λ key k.
+    by_num 4 0 65535 (field_of 4 fs) (Reads fs) _ λ vci d _ h.
+    by_way fs 5 6 7 _ λ way r.
+    by_num 8 0 65535 (field_of 8 fs) (Reads fs) _ λ outvci e _ i. (
+      from_is 0 fs (w_vc ∷ numeral key.unit ∷ numeral key.vpi ∷ numeral vci ∷ target_word way.target ∷ numeral way.class ∷ numeral way.outvpi ∷ numeral outvci ∷ []) (w, (k.0, (k.1, (d, (r.0, (r.1, (r.2, (e, n)))))))),
       (k.2, k.3, h, r.3, r.4, r.5, i),
     )
 line_reads kind.Mc fs n w =
-    by_num 2 0 31 (field_of 2 fs) (Reads fs) (λ wrong. tt) λ unit d _ h.
-    by_num 3 0 255 (field_of 3 fs) (Reads fs) (λ wrong. tt) λ session e _ i.
+    by_num 2 0 31 (field_of 2 fs) (Reads fs) _ λ unit d _ h.
+    by_num 3 0 255 (field_of 3 fs) (Reads fs) _ λ session e _ i.
     (from_is 0 fs (w_mc ∷ numeral unit ∷ numeral session ∷ []) (w, (d, (e, n))), (h, i))
 
-spoken_reads : (w : Word) (fs : List (List ℕ)) → word_of (at fs 0) ≡ w → Reads fs (spoken w fs)
-unfolding spoken Reads
-spoken_reads Unknown fs e = tt
-spoken_reads (Known k) fs e =
-    chosen (Reads fs) (eqb (length fs) (count_of k)) (λ t. line_reads k fs (eqb-true (length fs) (count_of k) t) (word_is (at fs 0) k e)) (λ _. tt)
+spoken_reads : (w : Option Kind) (fs : List (List ℕ)) → word_of (at fs 0) ≡ w → Sound (Reads fs) (spoken w fs)
+unfolding spoken
+spoken_reads None fs e = tt
+spoken_reads (Some k) fs e =
+    chosen (Sound (Reads fs)) (eqb (length fs) (count_of k)) (λ t. line_reads k fs (eqb-true (length fs) (count_of k) t) (word_is (at fs 0) k e)) (λ _. tt)
 
 -- D. and back: a line in range is read from its fields
-read_settings : (number : ℕ) (link : Link) (top priority : ℕ) (limits : Limits) → let settings : Settings = record { number = number; link = link; top = top; priority = priority } in SettingsIn settings → settings_of (fields_of (L-as-Unit settings limits)) ≡ Set settings
+read_settings : (number : ℕ) (link : Link) (top priority : ℕ) (limits : Limits) → let settings : Settings = record { number = number; link = link; top = top; priority = priority } in SettingsIn settings → settings_of (fields_of (L-as-Unit settings limits)) ≡ Ok settings
 unfolding settings_of settings_on fields_of same
 read_settings number Uni top priority limits h =
     rw (read_number 2 0 31 number (omega arith) h.0, read_number 4 0 255 top (omega arith) h.1, read_number 5 1 3 priority h.2 h.3)
@@ -314,7 +278,7 @@ read_settings number Nni top priority limits h =
     rw (read_number 2 0 31 number (omega arith) h.0, read_number 4 0 4095 top (omega arith) h.1, read_number 5 1 3 priority h.2 h.3)
 
 -- the mark
-read_mark : (mark : Bool) → ranged 10 0 1 (mark_word mark) ≡ Is (cond mark 1 0)
+read_mark : (mark : Bool) → ranged 10 0 1 (mark_word mark) ≡ Ok (cond mark 1 0)
 unfolding numeral numeral_to
 read_mark true = read_number 10 0 1 1 (omega arith) (omega arith)
 read_mark false = read_number 10 0 1 0 (omega arith) (omega arith)
@@ -326,19 +290,19 @@ mark_back false = refl
 abbrev limits_by : Mode → (cbrlength cbrlimit vbrlimit : ℕ) → Bool → Limits
 limits_by mode cbrlength cbrlimit vbrlimit mark = record { mode = mode; cbrlength = cbrlength; cbrlimit = cbrlimit; vbrlimit = vbrlimit; mark = mark }
 
-read_held : (settings : Settings) (mode : Mode) (l c v : ℕ) (mark : Bool) → GivenIn mode l c v → limits_in (fields_of (L-as-Unit settings (limits_by mode l c v mark))) mode ≡ Held (limits_by mode l c v mark)
+read_held : (settings : Settings) (mode : Mode) (l c v : ℕ) (mark : Bool) → GivenIn mode l c v → limits_in (fields_of (L-as-Unit settings (limits_by mode l c v mark))) mode ≡ Ok (limits_by mode l c v mark)
 unfolding limits_in fields_of
 read_held settings mode l c v mark h =
     let r = (limits_iff mode l c v).1 h in
     rw (read_number 7 (least mode) (most_length mode) l r.0 r.1, read_number 8 (least mode) (most_limit mode l) c r.2 r.3, read_number 9 1 (most_vbr mode l) v r.4 r.5, read_mark mark)
-    (ap (λ m. Held (limits_by mode l c v m)) (mark_back mark))
+    (ap (λ m. Ok (limits_by mode l c v m)) (mark_back mark))
 
-read_limits : (settings : Settings) (mode : Mode) (cbrlength cbrlimit vbrlimit : ℕ) (mark : Bool) → GivenIn mode cbrlength cbrlimit vbrlimit → let limits : Limits = record { mode = mode; cbrlength = cbrlength; cbrlimit = cbrlimit; vbrlimit = vbrlimit; mark = mark } in limits_of (fields_of (L-as-Unit settings limits)) ≡ Held limits
+read_limits : (settings : Settings) (mode : Mode) (cbrlength cbrlimit vbrlimit : ℕ) (mark : Bool) → GivenIn mode cbrlength cbrlimit vbrlimit → let limits : Limits = record { mode = mode; cbrlength = cbrlength; cbrlimit = cbrlimit; vbrlimit = vbrlimit; mark = mark } in limits_of (fields_of (L-as-Unit settings limits)) ≡ Ok limits
 unfolding limits_of fields_of same
 read_limits settings One l c v mark h = read_held settings One l c v mark h
 read_limits settings Four l c v mark h = read_held settings Four l c v mark h
 
-read_line : (l : Line) → InRange l → spoken (word_of (at (fields_of l) 0)) (fields_of l) ≡ Good l
+read_line : (l : Line) → InRange l → spoken (word_of (at (fields_of l) 0)) (fields_of l) ≡ Ok l
 unfolding spoken word_of line_of bus_line unit_line vp_line drop_line page_line vc_on vc_line mc_line key_of way_of fields_of same
 read_line (Bus units) (inl e) = rw (e, read_number 2 16 32 16 (omega arith) (omega arith))
 read_line (Bus units) (inr e) = rw (e, read_number 2 16 32 32 (omega arith) (omega arith))
@@ -353,19 +317,19 @@ read_line (Vc unit vpi vci target class outvpi outvci) h =
 read_line (Mc unit session) h = rw (read_number 2 0 31 unit (omega arith) h.0, read_number 3 0 255 session (omega arith) h.1)
 
 -- E. what reading comes to
-good_is : {l m : Line} → Good l ≡ Good m → l ≡ m
+good_is : {l m : Line} → ◌≡◌ {A = Reading} (Ok l) (Ok m) → l ≡ m
 good_is e = cc
 
-good_bad : {l : Line} {wrong : Wrong} → Good l ≡ Bad wrong → ⊥
+good_bad : {l : Line} {wrong : Wrong} → ◌≡◌ {A = Reading} (Ok l) (Err wrong) → ⊥
 good_bad e = let z : ◌≡◌ {A = ℕ} 0 1 = cc in omega arith
 
-read_words : (l : Line) → InRange l → reading_of (words_of l) true ≡ Good l
+read_words : (l : Line) → InRange l → reading_of (words_of l) true ≡ Ok l
 unfolding reading_of
 read_words l h = rw (words_fields l) (read_line l h)
 
-words_read : (text : List ℕ) (l : Line) → reading_of text true ≡ Good l → InRange l × (text ≡ words_of l)
-unfolding reading_of Reads
-words_read text l e = let r = subst (Reads (parts text)) e (spoken_reads (word_of (at (parts text) 0)) (parts text) refl) in (r.1, fields_words text l r.0)
+words_read : (text : List ℕ) (l : Line) → reading_of text true ≡ Ok l → InRange l × (text ≡ words_of l)
+unfolding reading_of
+words_read text l e = let r = subst (Sound (Reads (parts text))) e (spoken_reads (word_of (at (parts text) 0)) (parts text) refl) in (r.1, fields_words text l r.0)
 
 pub reads_iff : ReadsIff
 reads_iff text l = (words_read text l, λ h. ap (λ t. reading_of t true) h.1 ∙ read_words l h.0)
@@ -378,14 +342,14 @@ pub form_iff : FormIff
 unfolding reading_of
 form_iff text ended = (forth ended, back ended)
   where
-    forth : (ended : Bool) → ((wrong : Wrong) × (reading_of text ended ≡ Bad wrong)) → (ended ≡ false) ⊎ ((l : Line) → InRange l → text ≡ words_of l → ⊥)
+    forth : (ended : Bool) → ((wrong : Wrong) × (reading_of text ended ≡ Err wrong)) → (ended ≡ false) ⊎ ((l : Line) → InRange l → text ≡ words_of l → ⊥)
     forth false w = inl refl
     forth true w = inr (λ l h e. good_bad (sym ((reads_iff text l).1 (h, e)) ∙ w.1))
 
-    back : (ended : Bool) → (ended ≡ false) ⊎ ((l : Line) → InRange l → text ≡ words_of l → ⊥) → ((wrong : Wrong) × (reading_of text ended ≡ Bad wrong))
+    back : (ended : Bool) → (ended ≡ false) ⊎ ((l : Line) → InRange l → text ≡ words_of l → ⊥) → ((wrong : Wrong) × (reading_of text ended ≡ Err wrong))
     back false w = (Newline, refl)
     back true w = go (reading_of text true) refl
       where
-        go : (r : Reading) → reading_of text true ≡ r → (wrong : Wrong) × (reading_of text true ≡ Bad wrong)
-        go (Bad wrong) e = (wrong, e)
-        go (Good l) e = ⊎_elim (λ f. absurd (false≢true (sym f))) (λ n. let h = (reads_iff text l).0 e in absurd (n l h.0 h.1)) w
+        go : (r : Reading) → reading_of text true ≡ r → (wrong : Wrong) × (reading_of text true ≡ Err wrong)
+        go (Err wrong) e = (wrong, e)
+        go (Ok l) e = ⊎_elim (λ f. absurd (false≢true (sym f))) (λ n. let h = (reads_iff text l).0 e in absurd (n l h.0 h.1)) w

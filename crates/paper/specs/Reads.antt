@@ -1,10 +1,9 @@
 -- What reading a table's text comes to, in the words of the paper. Assumes nothing.
-use Rattle.std.specs.Prelude.{ℕ, ◌<◌, ◌^◌, ◌≡◌, Bool, true, false, List, ◌⊎◌, ◌↔◌}
+use Rattle.std.specs.Prelude.{ℕ, ◌<◌, ◌^◌, ◌≡◌, Bool, true, false, List, ◌⊎◌, ◌↔◌, Ok, Err}
 use Rattle.text.specs.Decimals.{decimal}
 use Rattle.line.specs.declared.Wrong.{Wrong}
 use Rattle.line.specs.Lines.{reading_of}
 use Rattle.line.specs.declared.Line.{Line}
-use Rattle.line.specs.declared.Reading.TheVariants.{Good, Bad}
 use Rattle.paper.specs.Words.{numeral, Decimal, words_of, text_of, InRange, AllInRange}
 
 -- "Numbers are decimal without needless zeros.": such digits of a number are its numeral, and there are no others
@@ -17,7 +16,7 @@ NumeralWritten = (n : ℕ) → n < 10 ^ 20 → numeral n ≡ decimal n
 
 -- a line that a newline ended is read as that line whose words it is, each number in its range
 abbrev pub ReadsIff : Type 0
-ReadsIff = (text : List ℕ) (l : Line) → (reading_of text true ≡ Good l) ↔ (InRange l × (text ≡ words_of l))
+ReadsIff = (text : List ℕ) (l : Line) → (reading_of text true ≡ Ok l) ↔ (InRange l × (text ≡ words_of l))
 
 -- no two lines in range have the same words
 abbrev pub WordsApart : Type 0
@@ -31,4 +30,4 @@ TextsApart = (told other : List Line) → AllInRange told → AllInRange other �
 abbrev pub FormIff : Type 0
 FormIff =
     (text : List ℕ) (ended : Bool) →
-    ((wrong : Wrong) × (reading_of text ended ≡ Bad wrong)) ↔ ((ended ≡ false) ⊎ ((l : Line) → InRange l → text ≡ words_of l → ⊥))
+    ((wrong : Wrong) × (reading_of text ended ≡ Err wrong)) ↔ ((ended ≡ false) ⊎ ((l : Line) → InRange l → text ≡ words_of l → ⊥))

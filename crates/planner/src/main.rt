@@ -2,20 +2,12 @@
 // then its verdict; where it cannot read or write, it ends without one.
 #![tactic(auto)]
 
-ghost use Rattle.std.specs.Prelude.{◌≡◌, ◌-◌, ◌≤◌, length};
+ghost use Rattle.std.specs.Prelude.{◌≤◌, length, IfSome};
 
 use card::Card;
 use std::env::Env;
 use std::io::Read;
 use table::Refusal;
-use toowide::Next;
-
-// The input: so many bytes of it are kept, and whether nothing failed.
-#[derive(Clone, Copy)]
-struct Input {
-    kept: usize,
-    good: bool,
-}
 
 // Which cards are asked for.
 #[derive(Clone, Copy)]
@@ -23,26 +15,21 @@ enum Cards {
     Narrow,
     Wide,
     Both,
-    Unknown,
 }
 
-// What came of a table: it is good, it is refused, or what was said is lost.
+// What came of a table. A function that prints gives none where what it said is lost.
 #[derive(Clone, Copy)]
 enum Said {
     Good,
     Refused,
-    Lost,
 }
 
-// Prints a line, and says what came of it.
-fn say(rt: &(impl Print + Eprint + Alloc), line: &[u8], said: Said) -> Said {
-    if streams::put(rt, line) {
-        return said;
-    }
-    Said::Lost
+// Prints a line, which says this.
+fn say(rt: &(impl Print + Eprint + Alloc), line: &[u8], said: Said) -> Option<Said> {
+    streams::put(rt, line).then_some(said)
 }
 
-fn say_ok(rt: &(impl Print + Eprint + Alloc), card: Card, used: u32, units: u8) -> Said {
+fn say_ok(rt: &(impl Print + Eprint + Alloc), card: Card, used: u32, units: u8) -> Option<Said> {
     let mut line = [0u8; 256];
     let n = report::ok_line(card, used, units, &mut line);
     say(rt, &line[..n], Said::Good)
@@ -54,7 +41,7 @@ fn say_refused(
     number: u8,
     at: u32,
     text: &[u8],
-) -> Said {
+) -> Option<Said> {
     let mut line = [0u8; 256];
     let n = report::refused_line(card, number, at, text, &mut line);
     say(rt, &line[..n], Said::Refused)
@@ -80,36 +67,25 @@ fn say_wide(
     number: usize,
     bytes: &[u8],
     ask: card::Ask,
-) -> Said {
+) -> Option<Said> {
     let mut line = [0u8; 256];
     let n = report::wide_line(number as u64, bytes, ask, &mut line);
     say(rt, &line[..n], Said::Refused)
 }
 
 // Every line that asks for too much, or the first alone.
-fn list(rt: &(impl Print + Eprint + Alloc), text: &[u8], every: bool) -> Said {
+fn list(rt: &(impl Print + Eprint + Alloc), text: &[u8], every: bool) -> Option<Said> {
     let mut from: usize = 0;
     let mut lines: usize = 0;
-    while from < text.len() {
-        let Next::At {
-            before,
-            start,
-            end,
-            ask,
-        } = toowide::next_wide(text, from)
-        else {
-            return Said::Refused;
-        };
-        lines = lines + before + 1;
-        if let Said::Lost = say_wide(rt, lines, &text[start..end], ask) {
-            return Said::Lost;
-        }
+    while let Some(next) = toowide::next_wide(text, from) {
+        lines = lines + next.before + 1;
+        say_wide(rt, lines, &text[next.start..next.end], next.ask)?;
         if !every {
-            return Said::Refused;
+            break;
         }
-        from = end + 1;
+        from = next.end + 1;
     }
-    Said::Refused
+    Some(Said::Refused)
 }
 
 // What comes of a table on a card; what it asks of a narrow card is listed, whole if the wide one takes it.
@@ -118,7 +94,7 @@ fn on_card(
     card: Card,
     text: &[u8],
     memory: &mut [u8; 262144],
-) -> Said {
+) -> Option<Said> {
     let mut state = [0u8; 2048];
     match load(card, text, memory, &mut state) {
         Ok(used) => say_ok(rt, card, used, state[805]),
@@ -132,107 +108,78 @@ fn on_card(
 }
 
 // Both cards: good if both take it.
-fn on_both(rt: &(impl Print + Eprint + Alloc), text: &[u8], memory: &mut [u8; 262144]) -> Said {
-    match on_card(rt, Card::Narrow, text, memory) {
-        Said::Good => on_card(rt, Card::Wide, text, memory),
-        Said::Refused => match on_card(rt, Card::Wide, text, memory) {
-            Said::Lost => Said::Lost,
-            _ => Said::Refused,
-        },
-        Said::Lost => Said::Lost,
+fn on_both(
+    rt: &(impl Print + Eprint + Alloc),
+    text: &[u8],
+    memory: &mut [u8; 262144],
+) -> Option<Said> {
+    let narrow = on_card(rt, Card::Narrow, text, memory)?;
+    let wide = on_card(rt, Card::Wide, text, memory)?;
+    match narrow {
+        Said::Good => Some(wide),
+        Said::Refused => Some(Said::Refused),
     }
 }
 
 // The verdict is the last line; where what was said is lost there is none, and standard error has said so.
 fn verdict(rt: &impl Print, said: Said) {
-    match said {
-        Said::Good => {
-            let _ = rt.print("verdict good\n");
-        }
-        Said::Refused => {
-            let _ = rt.print("verdict refused\n");
-        }
-        Said::Lost => {}
-    }
+    let line = match said {
+        Said::Good => "verdict good\n",
+        Said::Refused => "verdict refused\n",
+    };
+    let _ = rt.print(line);
 }
 
 // The cards that the argument names.
-fn asked(rt: &impl Env) -> Cards {
+fn asked(rt: &impl Env) -> Option<Cards> {
     let mut word = [0u8; 8];
     let n = streams::argument(rt, &mut word);
-    if text::is(&word[..n], b"narrow") {
-        return Cards::Narrow;
+    match &word[..n] {
+        b"narrow" => Some(Cards::Narrow),
+        b"wide" => Some(Cards::Wide),
+        b"both" => Some(Cards::Both),
+        _ => None,
     }
-    if text::is(&word[..n], b"wide") {
-        return Cards::Wide;
-    }
-    if text::is(&word[..n], b"both") {
-        return Cards::Both;
-    }
-    Cards::Unknown
 }
 
 // How far an input is read on that is too long to be a table: it may have no end.
 const FURTHER: usize = 16777216;
 
-fn less(left: usize, n: usize) -> usize
-    ensures { result ≡ left - n }
-{
-    if n < left { left - n } else { 0 }
-}
-
 // Reads on, so that who writes the input is not stopped.
-fn read_on(rt: &(impl Eprint + Alloc), from: &mut impl Read) -> bool {
+fn read_on(rt: &(impl Eprint + Alloc), from: &mut impl Read) -> Option<()> {
     let mut left = FURTHER;
     while 0 < left {
         let mut part = [0u8; 65536];
-        let Some(n) = streams::get(rt, from, "standard input", &mut part) else {
-            return false;
-        };
+        let n = streams::get(rt, from, "standard input", &mut part)?;
         if n == 0 {
-            return true;
+            break;
         }
-        left = less(left, n);
+        left = left.saturating_sub(n);
     }
-    true
+    Some(())
 }
 
-// Reads the input and keeps what there is room for, which is more than a table may have.
-fn read(rt: &(impl Eprint + Alloc), from: &mut impl Read, text: &mut [u8]) -> Input
-    ensures { result.kept ≤ length text.new }
+// Reads the input and keeps what there is room for, which is more than a table may have; how much is kept, if nothing failed.
+fn read(rt: &(impl Eprint + Alloc), from: &mut impl Read, text: &mut [u8]) -> Option<usize>
+    ensures { IfSome result (λ kept. kept ≤ length text.new) }
 {
-    let mut n: usize = 0;
-    while n < text.len() {
-        let Some(more) = streams::get(rt, from, "standard input", &mut text[n..]) else {
-            return Input {
-                kept: n,
-                good: false,
-            };
-        };
-        if more == 0 {
-            return Input {
-                kept: n,
-                good: true,
-            };
-        }
-        n += more;
+    let kept = streams::get_all(rt, from, "standard input", text)?;
+    if kept == text.len() {
+        read_on(rt, from)?;
     }
-    Input {
-        kept: n,
-        good: read_on(rt, from),
-    }
+    Some(kept)
 }
 
 // What comes of a table on the cards that are asked for.
 fn check(rt: &(impl Print + Eprint + Alloc), cards: Cards, text: &[u8]) {
     let mut memory = [0u8; 262144];
-    match cards {
-        Cards::Narrow => verdict(rt, on_card(rt, Card::Narrow, text, &mut memory)),
-        Cards::Wide => verdict(rt, on_card(rt, Card::Wide, text, &mut memory)),
-        Cards::Both => verdict(rt, on_both(rt, text, &mut memory)),
-        Cards::Unknown => {
-            let _ = rt.eprint("usage: planner narrow|wide|both\n");
-        }
+    let said = match cards {
+        Cards::Narrow => on_card(rt, Card::Narrow, text, &mut memory),
+        Cards::Wide => on_card(rt, Card::Wide, text, &mut memory),
+        Cards::Both => on_both(rt, text, &mut memory),
+    };
+    if let Some(said) = said {
+        verdict(rt, said);
     }
 }
 
@@ -240,10 +187,13 @@ fn main(rt: HostRuntime) {
     // one byte more than a text may have tells a longer one
     let mut text = [0u8; 65537];
     let mut from = rt.stdin();
-    let input = read(&rt, &mut from, &mut text);
-    if !input.good {
+    let Some(n) = read(&rt, &mut from, &mut text) else {
         return;
+    };
+    match asked(&rt) {
+        Some(cards) => check(&rt, cards, &text[..n]),
+        None => {
+            let _ = rt.eprint("usage: planner narrow|wide|both\n");
+        }
     }
-    let n = input.kept;
-    check(&rt, asked(&rt), &text[..n]);
 }

@@ -1,5 +1,6 @@
 -- Demand 3, first half: a table that the wide card accepts is refused by the narrow card as Wide at its first line that is too wide, exactly when
 -- there is one; else it is accepted, with the same shelf, and every lookup agrees. Assumes nothing.
+use Rattle.line.specs.Lines.{Reading}
 use Rattle.std.specs.Prelude.{None, Some, Err, Ok, Option}
 use mathlib.Core.Path.{◌≡◌, refl, sym, ap, ap₂, subst, ◌∙◌}
 use mathlib.Core.Bool.{Bool, true, false, cond, not, false≢true}
@@ -21,8 +22,6 @@ use Rattle.lookup.specs.Lookup.{translated}
 use Rattle.shelf.specs.Shelves.{blank, declared, find_in}
 use Rattle.line.specs.declared.Line.{Line}
 use Rattle.line.specs.declared.Line.TheVariants.{Bus, Unit as L-as-Unit, Vp, Drop, Page, Vc, Mc}
-use Rattle.line.specs.declared.Reading.{Reading}
-use Rattle.line.specs.declared.Reading.TheVariants.{Good as Read}
 use Rattle.judge.specs.declared.Fault.TheVariants.{Order, Twice, Wide}
 use Rattle.judge.specs.Verdicts.{fine, Verdict, asked, room_for, off_bus, taken, page_in}
 use Rattle.judge.specs.Judge.{in_page, judge_bus, judge_unit, judge_vp, judge_vc}
@@ -146,7 +145,7 @@ good_before card room (l ∷ after) told g = good_before card room after told g.
 then_append : (after told : List Line) (rest : List Reading) → read_then (after ++ told) rest ≡ read_then told (read_then after rest)
 unfolding read_then
 then_append [] told rest = refl
-then_append (l ∷ after) told rest = then_append after told (Read l ∷ rest)
+then_append (l ∷ after) told rest = then_append after told (Ok l ∷ rest)
 
 first_wide_faults : (room : ℕ) (lines : List Reading) (told : List Line) (line : ℕ) → AllFine W room lines told → FirstWide told line → FirstFault Narrow room lines line (Err Wide)
 unfolding read_then
@@ -154,7 +153,7 @@ first_wide_faults room lines told line g w =
     let good = good_before W room w.after (w.it ∷ w.before) (subst (Good W room) w.all g.good) in
     record {
       before = w.before;
-      it = Read w.it;
+      it = Ok w.it;
       after = read_then w.after [];
       all = g.all ∙ ap (λ x. read_then x []) w.all ∙ then_append w.after (w.it ∷ w.before) [];
       good = good_narrow room w.before good.1 w.none_before;

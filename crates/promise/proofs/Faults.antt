@@ -26,9 +26,7 @@ use Rattle.shelf.specs.declared.Settings.{Settings}
 use Rattle.line.specs.declared.Line.{Line}
 use Rattle.line.specs.declared.Line.TheVariants.{Bus, Unit as L-as-Unit, Vp, Drop, Page, Vc, Mc}
 use Rattle.line.specs.declared.Wrong.{Wrong}
-use Rattle.line.specs.Lines.{reading_of}
-use Rattle.line.specs.declared.Reading.{Reading}
-use Rattle.line.specs.declared.Reading.TheVariants.{Good as Read, Bad}
+use Rattle.line.specs.Lines.{Reading, reading_of}
 use Rattle.judge.specs.declared.Fault.TheVariants.{Form, Order, Twice, Wide, Room}
 use Rattle.judge.specs.Verdicts.{fine, Verdict, number_of, asked, room_for, off_bus, taken, page_in}
 use Rattle.judge.specs.Judge.{in_page, judge_bus, judge_unit, judge_vp, judge_drop, judge_page, judge_vc, judge_mc}
@@ -451,10 +449,10 @@ pub good_iff : (card : Card) (memory : List ℕ) (told : List Line) → Good car
 good_iff card memory told = (faultless card memory told, good card memory told)
 
 -- E. the same of a line's bytes
-read_bad : {l : Line} {wrong : Wrong} → Read l ≡ Bad wrong → ⊥
+read_bad : {l : Line} {wrong : Wrong} → Ok l ≡ Err wrong → ⊥
 read_bad e = let z : ◌≡◌ {A = ℕ} 0 1 = cc in omega arith
 
-was_ended : (bytes : List ℕ) (ended : Bool) (l : Line) → reading_of bytes ended ≡ Read l → ended ≡ true
+was_ended : (bytes : List ℕ) (ended : Bool) (l : Line) → reading_of bytes ended ≡ Ok l → ended ≡ true
 unfolding reading_of
 was_ended bytes true l e = refl
 was_ended bytes false l e = absurd (read_bad (sym e))
@@ -466,7 +464,7 @@ module _ (card : Card) (memory : List ℕ) (told : List Line) (bytes : List ℕ)
   condition_least n (fault l e r w h) = let k = fault_least card memory told l n h in omega arith
 
   -- a line that cannot be read has one condition, and one that can be read its four
-  only_form : (wrong : Wrong) → reading_of bytes ended ≡ Bad wrong → (n : ℕ) → Condition card memory told bytes ended n → n ≡ 2
+  only_form : (wrong : Wrong) → reading_of bytes ended ≡ Err wrong → (n : ℕ) → Condition card memory told bytes ended n → n ≡ 2
   only_form wrong e n (not_ended f k) = k
   only_form wrong e n (no_line h k) = k
   only_form wrong e n (fault l t r w h) = absurd (read_bad (sym (ap (reading_of bytes) t ∙ (reads_iff bytes l).1 (r, w)) ∙ e))
@@ -479,7 +477,7 @@ module _ (card : Card) (memory : List ℕ) (told : List Line) (bytes : List ℕ)
   abbrev FirstCondition : ℕ → Type 0
   FirstCondition n = Condition card memory told bytes ended n × ((m : ℕ) → m < n → Condition card memory told bytes ended m → ⊥)
 
-  form_first : (wrong : Wrong) → reading_of bytes ended ≡ Bad wrong → FirstCondition 2
+  form_first : (wrong : Wrong) → reading_of bytes ended ≡ Err wrong → FirstCondition 2
   form_first wrong e = (
     ⊎_elim (λ f. not_ended f refl) (λ f. no_line f refl) ((form_iff bytes ended).0 (wrong, e)),
     λ m k c. let q = condition_least m c in omega arith,
@@ -489,8 +487,8 @@ module _ (card : Card) (memory : List ℕ) (told : List Line) (bytes : List ℕ)
   condition_iff f n least = go (reading_of bytes ended) refl
     where
       go : (r : Reading) → reading_of bytes ended ≡ r → (number_of (verdict_on card (usable memory) told r) ≡ n) ↔ FirstCondition n
-      go (Bad wrong) e = (λ k. subst FirstCondition k (form_first wrong e), λ h. sym (only_form wrong e n h.0))
-      go (Read l) e =
+      go (Err wrong) e = (λ k. subst FirstCondition k (form_first wrong e), λ h. sym (only_form wrong e n h.0))
+      go (Ok l) e =
           let t = was_ended bytes ended l e in
           let r = (reads_iff bytes l).0 (ap (reading_of bytes) (sym t) ∙ e) in
           let h = judged card memory told (good card memory told f) l in

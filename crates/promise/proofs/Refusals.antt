@@ -11,9 +11,8 @@ use lib.ListN.{length}
 use borrow.Author.Tests.{ltb-true, ltb-false, lt-ltb, le-ltb}
 use Rattle.card.specs.declared.Card.{Card}
 use Rattle.lookup.specs.Record.{size, usable, cleared}
-use Rattle.line.specs.Lines.{reading_of}
+use Rattle.line.specs.Lines.{Reading, reading_of}
 use Rattle.line.specs.declared.Line.{Line}
-use Rattle.line.specs.declared.Reading.{Reading}
 use Rattle.shelf.specs.Shelf.{Shelf}
 use Rattle.judge.specs.declared.Fault.TheVariants.{Form, Order, Twice, Wide, Room}
 use Rattle.judge.specs.Verdicts.{fine, Verdict, number_of}

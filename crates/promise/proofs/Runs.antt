@@ -1,5 +1,6 @@
 -- Reading lines: all are good, or one is the first that is not; and the numbers of the good ones are in range. Assumes nothing.
-use Rattle.std.specs.Prelude.{Ok}
+use Rattle.line.specs.Lines.{Reading}
+use Rattle.std.specs.Prelude.{Ok, Err}
 use mathlib.Core.Path.{◌≡◌, refl, sym, ap, subst, ◌∙◌}
 use mathlib.Core.Bool.{false, false≢true}
 use mathlib.Core.List.{List, [], ◌∷◌}
@@ -10,8 +11,6 @@ use lib.Dec.{eqb}
 use lib.ListN.{length}
 use Rattle.card.specs.declared.Card.{Card}
 use Rattle.line.specs.declared.Line.{Line}
-use Rattle.line.specs.declared.Reading.{Reading}
-use Rattle.line.specs.declared.Reading.TheVariants.{Good as Read, Bad}
 use Rattle.line.specs.Ranges.{InRange}
 use Rattle.judge.specs.Verdicts.{fine, Verdict, is_fine}
 use Rattle.meaning.specs.Lines.{judge, Good, Ran, done, stopped, verdict_on, run}
@@ -64,7 +63,7 @@ is_not_fine v h = decide (is_fine v) (λ t. absurd (h (fine_is v t))) (λ f. f)
 
 module _ (card : Card) (room : ℕ) where
   -- a line more
-  run_good : (told : List Line) (n : ℕ) (l : Line) (rs : List Reading) → judge card room told l ≡ fine → run card room told n (Read l ∷ rs) ≡ run card room (l ∷ told) (n + 1) rs
+  run_good : (told : List Line) (n : ℕ) (l : Line) (rs : List Reading) → judge card room told l ≡ fine → run card room told n (Ok l ∷ rs) ≡ run card room (l ∷ told) (n + 1) rs
   unfolding run
   run_good told n l rs e = rw e
 
@@ -74,12 +73,12 @@ module _ (card : Card) (room : ℕ) where
 
   -- all good, or the first fault, from what reading came to
   module _ (P : Ran → Type 0) (told : List Line) (n : ℕ) (r : Reading) (rs : List Reading) where
-    by_verdict : ((l : Line) → r ≡ Read l → judge card room told l ≡ fine → P (run card room (l ∷ told) (n + 1) rs)) → (is_fine (verdict_on card room told r) ≡ false → P (stopped told (n + 1) (verdict_on card room told r))) → P (run card room told n (r ∷ rs))
+    by_verdict : ((l : Line) → r ≡ Ok l → judge card room told l ≡ fine → P (run card room (l ∷ told) (n + 1) rs)) → (is_fine (verdict_on card room told r) ≡ false → P (stopped told (n + 1) (verdict_on card room told r))) → P (run card room told n (r ∷ rs))
     by_verdict good bad = go r refl
       where
         go : (x : Reading) → r ≡ x → P (run card room told n (r ∷ rs))
-        go (Bad wrong) k = subst P (sym (run_bad told n r rs (ap (λ x. is_fine (verdict_on card room told x)) k))) (bad (ap (λ x. is_fine (verdict_on card room told x)) k))
-        go (Read l) k =
+        go (Err wrong) k = subst P (sym (run_bad told n r rs (ap (λ x. is_fine (verdict_on card room told x)) k))) (bad (ap (λ x. is_fine (verdict_on card room told x)) k))
+        go (Ok l) k =
             decide (is_fine (judge card room told l))
             (λ t.
             let f = fine_is (judge card room told l) t in
@@ -119,7 +118,7 @@ module _ (card : Card) (room : ℕ) where
   unfolding read_then
   run_then [] rest g = refl
   run_then (l ∷ told) rest g =
-      run_then told (Read l ∷ rest) g.1 ∙ run_good told (length told) l rest g.0 ∙ ap (λ n. run card room (l ∷ told) n rest) (add-one (length told))
+      run_then told (Ok l ∷ rest) g.1 ∙ run_good told (length told) l rest g.0 ∙ ap (λ n. run card room (l ∷ told) n rest) (add-one (length told))
 
   pub done_iff_good : (lines : List Reading) (told : List Line) → (run card room [] 0 lines ≡ done told → AllFine card room lines told) × (AllFine card room lines told → run card room [] 0 lines ≡ done told)
   unfolding run read_then

@@ -1,4 +1,5 @@
 -- A text and its lines: which lines it is read as. Assumes nothing.
+use Rattle.std.specs.Prelude.{Ok, Err}
 use Prim.Native.Nat.{ℕ, ◌<◌}
 use native.Mathlib.Omega.{arith}
 use mathlib.Core.Path.{◌≡◌, refl, sym, ap, subst, ◌∙◌}
@@ -13,10 +14,8 @@ use Rattle.text.specs.Text.{split}
 use Rattle.text.proofs.Split.{split_some}
 use Rattle.line.specs.declared.Wrong.{Wrong}
 use Rattle.line.specs.declared.Wrong.TheVariants.{Newline}
-use Rattle.line.specs.Lines.{reading_of}
+use Rattle.line.specs.Lines.{Reading, reading_of}
 use Rattle.line.specs.declared.Line.{Line}
-use Rattle.line.specs.declared.Reading.{Reading}
-use Rattle.line.specs.declared.Reading.TheVariants.{Good as Read, Bad}
 use Rattle.table.specs.Load.{readings_of}
 use Rattle.meaning.proofs.Grown.{decide}
 use Rattle.paper.specs.Words.{words_of, text_of, AllInRange}
@@ -78,7 +77,7 @@ cons_head e = cc
 cons_tail : {r s : Reading} {rs ss : List Reading} → r ∷ rs ≡ s ∷ ss → rs ≡ ss
 cons_tail e = cc
 
-bad_read : {wrong : Wrong} {l : Line} → Bad wrong ≡ Read l → ⊥
+bad_read : {wrong : Wrong} {l : Line} → Err wrong ≡ Ok l → ⊥
 bad_read e = let z : ◌≡◌ {A = ℕ} 0 1 = cc in omega arith
 
 -- the first line of a text
@@ -124,17 +123,17 @@ first_line text it rs e = ⊎_elim last ended (cut 10 text)
           ends = inr (refl, some, refl, cons_tail k);
         })
 
-unended : (bytes : List ℕ) → reading_of bytes false ≡ Bad Newline
+unended : (bytes : List ℕ) → reading_of bytes false ≡ Err Newline
 unfolding reading_of
 unended bytes = refl
 
 -- a line more in front
-front_more : (text : List ℕ) (l : Line) (told : List Line) (rs : List Reading) → Front text told (Read l ∷ rs) → Front text (l ∷ told) rs
+front_more : (text : List ℕ) (l : Line) (told : List Line) (rs : List Reading) → Front text told (Ok l ∷ rs) → Front text (l ∷ told) rs
 unfolding text_of
 front_more text l told rs f = ⊎_elim by_newline (λ e. absurd (bad_read (sym (unended g.bytes) ∙ ap (reading_of g.bytes) (sym e.2) ∙ g.read))) g.ends
   where
-    g : First f.rest (Read l) rs
-    g = first_line f.rest (Read l) rs f.left
+    g : First f.rest (Ok l) rs
+    g = first_line f.rest (Ok l) rs f.left
 
     by_newline : (after : List ℕ) × (g.rest ≡ 10 ∷ after) × (g.ended ≡ true) × (lines after ≡ rs) → Front text (l ∷ told) rs
     by_newline e =
@@ -151,7 +150,7 @@ front_more text l told rs f = ⊎_elim by_newline (λ e. absurd (bad_read (sym (
 front_lines : (text : List ℕ) (told : List Line) (rs : List Reading) → lines text ≡ read_then told rs → Front text told rs
 unfolding read_then text_of
 front_lines text [] rs e = record { ranged = tt; rest = text; all = refl; left = e }
-front_lines text (l ∷ told) rs e = front_more text l told rs (front_lines text told (Read l ∷ rs) e)
+front_lines text (l ∷ told) rs e = front_more text l told rs (front_lines text told (Ok l ∷ rs) e)
 
 -- C. a whole text
 empty_is : (text : List ℕ) → length text ≡ 0 → text ≡ []
@@ -167,7 +166,7 @@ none_left rest e =
     (λ t. absurd (nil_cons (sym e ∙ line_left rest n (let d = eqb-false (length rest) 0 t in omega arith)))))
     (λ c. absurd (nil_cons (sym e ∙ ap lines c.all ∙ line_ended c.front c.rest c.none))) (cut 10 rest)
 
-lines_empty : lines_of [] ≡ Bad Newline ∷ []
+lines_empty : lines_of [] ≡ Err Newline ∷ []
 unfolding lines_of
 lines_empty = refl
 
@@ -182,10 +181,10 @@ text_some [] h = absurd (h refl)
 text_some (l ∷ told) h = simp length-append (omega arith)
 
 -- one line that cannot be read is read behind none that can
-bad_alone : (told : List Line) (wrong : Wrong) (rest : List Reading) → Bad wrong ∷ [] ≡ read_then told rest → (told ≡ []) × (rest ≡ Bad wrong ∷ [])
+bad_alone : (told : List Line) (wrong : Wrong) (rest : List Reading) → Err wrong ∷ [] ≡ read_then told rest → (told ≡ []) × (rest ≡ Err wrong ∷ [])
 unfolding read_then
 bad_alone [] wrong rest e = (refl, sym e)
-bad_alone (l ∷ told) wrong rest e = absurd (bad_read (sym (cons_head (bad_alone told wrong (Read l ∷ rest) e).1)))
+bad_alone (l ∷ told) wrong rest e = absurd (bad_read (sym (cons_head (bad_alone told wrong (Ok l ∷ rest) e).1)))
 
 no_text : (told : List Line) → told ≡ [] → 0 < length (text_of told) → ⊥
 unfolding text_of

@@ -1,98 +1,74 @@
--- The parts that a message of the planner's tool is made of, byte by byte. Assumes nothing.
-use Rattle.std.specs.Prelude.{ℕ, List, [], ◌∷◌}
+-- The parts that a message of the planner's tool is made of. Assumes nothing.
+use Rattle.std.specs.Prelude.{ℕ, List, codes}
 
--- `narrow`
 abbrev pub w_narrow : List ℕ
-w_narrow = 110 ∷ 97 ∷ 114 ∷ 114 ∷ 111 ∷ 119 ∷ []
+w_narrow = codes "narrow"
 
--- `wide`
 abbrev pub w_wide : List ℕ
-w_wide = 119 ∷ 105 ∷ 100 ∷ 101 ∷ []
+w_wide = codes "wide"
 
--- ` ok, `
 abbrev pub t_ok : List ℕ
-t_ok = 32 ∷ 111 ∷ 107 ∷ 44 ∷ 32 ∷ []
+t_ok = codes " ok, "
 
--- ` bytes of memory, `
 abbrev pub t_bytes : List ℕ
-t_bytes = 32 ∷ 98 ∷ 121 ∷ 116 ∷ 101 ∷ 115 ∷ 32 ∷ 111 ∷ 102 ∷ 32 ∷ 109 ∷ 101 ∷ 109 ∷ 111 ∷ 114 ∷ 121 ∷ 44 ∷ 32 ∷ []
+t_bytes = codes " bytes of memory, "
 
--- ` unit`
 abbrev pub t_unit : List ℕ
-t_unit = 32 ∷ 117 ∷ 110 ∷ 105 ∷ 116 ∷ []
+t_unit = codes " unit"
 
--- ` units`
 abbrev pub t_units : List ℕ
-t_units = 32 ∷ 117 ∷ 110 ∷ 105 ∷ 116 ∷ 115 ∷ []
+t_units = codes " units"
 
--- `: `
 abbrev pub t_colon : List ℕ
-t_colon = 58 ∷ 32 ∷ []
+t_colon = codes ": "
 
--- ` refused `
 abbrev pub t_refused : List ℕ
-t_refused = 32 ∷ 114 ∷ 101 ∷ 102 ∷ 117 ∷ 115 ∷ 101 ∷ 100 ∷ 32 ∷ []
+t_refused = codes " refused "
 
--- ` ..`
 abbrev pub t_cut : List ℕ
-t_cut = 32 ∷ 46 ∷ 46 ∷ []
+t_cut = codes " .."
 
--- `outgoing path `
 abbrev pub t_path : List ℕ
-t_path = 111 ∷ 117 ∷ 116 ∷ 103 ∷ 111 ∷ 105 ∷ 110 ∷ 103 ∷ 32 ∷ 112 ∷ 97 ∷ 116 ∷ 104 ∷ 32 ∷ []
+t_path = codes "outgoing path "
 
--- ` is above 255`
 abbrev pub t_above : List ℕ
-t_above = 32 ∷ 105 ∷ 115 ∷ 32 ∷ 97 ∷ 98 ∷ 111 ∷ 118 ∷ 101 ∷ 32 ∷ 50 ∷ 53 ∷ 53 ∷ []
+t_above = codes " is above 255"
 
--- `a bus of 32 units needs the wide card`
 abbrev pub t_bus : List ℕ
-t_bus = 97 ∷ 32 ∷ 98 ∷ 117 ∷ 115 ∷ 32 ∷ 111 ∷ 102 ∷ 32 ∷ 51 ∷ 50 ∷ 32 ∷ 117 ∷ 110 ∷ 105 ∷ 116 ∷ 115 ∷ 32 ∷ 110 ∷ 101 ∷ 101 ∷ 100 ∷ 115 ∷ 32 ∷ 116 ∷ 104 ∷ 101 ∷ 32 ∷ 119 ∷ 105 ∷ 100 ∷ 101 ∷ 32 ∷ 99 ∷ 97 ∷ 114 ∷ 100 ∷ []
+t_bus = codes "a bus of 32 units needs the wide card"
 
--- `an nni link needs the wide card`
 abbrev pub t_nni : List ℕ
-t_nni = 97 ∷ 110 ∷ 32 ∷ 110 ∷ 110 ∷ 105 ∷ 32 ∷ 108 ∷ 105 ∷ 110 ∷ 107 ∷ 32 ∷ 110 ∷ 101 ∷ 101 ∷ 100 ∷ 115 ∷ 32 ∷ 116 ∷ 104 ∷ 101 ∷ 32 ∷ 119 ∷ 105 ∷ 100 ∷ 101 ∷ 32 ∷ 99 ∷ 97 ∷ 114 ∷ 100 ∷ []
+t_nni = codes "an nni link needs the wide card"
 
--- `the text is above 65,536 bytes`
 abbrev pub t_long : List ℕ
-t_long = 116 ∷ 104 ∷ 101 ∷ 32 ∷ 116 ∷ 101 ∷ 120 ∷ 116 ∷ 32 ∷ 105 ∷ 115 ∷ 32 ∷ 97 ∷ 98 ∷ 111 ∷ 118 ∷ 101 ∷ 32 ∷ 54 ∷ 53 ∷ 44 ∷ 53 ∷ 51 ∷ 54 ∷ 32 ∷ 98 ∷ 121 ∷ 116 ∷ 101 ∷ 115 ∷ []
+t_long = codes "the text is above 65,536 bytes"
 
--- `the text is empty`
 abbrev pub t_empty : List ℕ
-t_empty = 116 ∷ 104 ∷ 101 ∷ 32 ∷ 116 ∷ 101 ∷ 120 ∷ 116 ∷ 32 ∷ 105 ∷ 115 ∷ 32 ∷ 101 ∷ 109 ∷ 112 ∷ 116 ∷ 121 ∷ []
+t_empty = codes "the text is empty"
 
--- `unknown word, wrong field count, field outside its range, or no newline at its end`
 abbrev pub t_form : List ℕ
-t_form = 117 ∷ 110 ∷ 107 ∷ 110 ∷ 111 ∷ 119 ∷ 110 ∷ 32 ∷ 119 ∷ 111 ∷ 114 ∷ 100 ∷ 44 ∷ 32 ∷ 119 ∷ 114 ∷ 111 ∷ 110 ∷ 103 ∷ 32 ∷ 102 ∷ 105 ∷ 101 ∷ 108 ∷ 100 ∷ 32 ∷ 99 ∷ 111 ∷ 117 ∷ 110 ∷ 116 ∷ 44 ∷ 32 ∷ 102 ∷ 105 ∷ 101 ∷ 108 ∷ 100 ∷ 32 ∷ 111 ∷ 117 ∷ 116 ∷ 115 ∷ 105 ∷ 100 ∷ 101 ∷ 32 ∷ 105 ∷ 116 ∷ 115 ∷ 32 ∷ 114 ∷ 97 ∷ 110 ∷ 103 ∷ 101 ∷ 44 ∷ 32 ∷ 111 ∷ 114 ∷ 32 ∷ 110 ∷ 111 ∷ 32 ∷ 110 ∷ 101 ∷ 119 ∷ 108 ∷ 105 ∷ 110 ∷ 101 ∷ 32 ∷ 97 ∷ 116 ∷ 32 ∷ 105 ∷ 116 ∷ 115 ∷ 32 ∷ 101 ∷ 110 ∷ 100 ∷ []
+t_form = codes "unknown word, wrong field count, field outside its range, or no newline at its end"
 
--- `fields are parted by one tab, and this line has blanks`
 abbrev pub t_blanks : List ℕ
-t_blanks = 102 ∷ 105 ∷ 101 ∷ 108 ∷ 100 ∷ 115 ∷ 32 ∷ 97 ∷ 114 ∷ 101 ∷ 32 ∷ 112 ∷ 97 ∷ 114 ∷ 116 ∷ 101 ∷ 100 ∷ 32 ∷ 98 ∷ 121 ∷ 32 ∷ 111 ∷ 110 ∷ 101 ∷ 32 ∷ 116 ∷ 97 ∷ 98 ∷ 44 ∷ 32 ∷ 97 ∷ 110 ∷ 100 ∷ 32 ∷ 116 ∷ 104 ∷ 105 ∷ 115 ∷ 32 ∷ 108 ∷ 105 ∷ 110 ∷ 101 ∷ 32 ∷ 104 ∷ 97 ∷ 115 ∷ 32 ∷ 98 ∷ 108 ∷ 97 ∷ 110 ∷ 107 ∷ 115 ∷ []
+t_blanks = codes "fields are parted by one tab, and this line has blanks"
 
--- `the line ends in a carriage return`
 abbrev pub t_return : List ℕ
-t_return = 116 ∷ 104 ∷ 101 ∷ 32 ∷ 108 ∷ 105 ∷ 110 ∷ 101 ∷ 32 ∷ 101 ∷ 110 ∷ 100 ∷ 115 ∷ 32 ∷ 105 ∷ 110 ∷ 32 ∷ 97 ∷ 32 ∷ 99 ∷ 97 ∷ 114 ∷ 114 ∷ 105 ∷ 97 ∷ 103 ∷ 101 ∷ 32 ∷ 114 ∷ 101 ∷ 116 ∷ 117 ∷ 114 ∷ 110 ∷ []
+t_return = codes "the line ends in a carriage return"
 
--- `fields are parted by one tab, and this line has blanks and ends in a carriage return`
 abbrev pub t_both : List ℕ
-t_both = 102 ∷ 105 ∷ 101 ∷ 108 ∷ 100 ∷ 115 ∷ 32 ∷ 97 ∷ 114 ∷ 101 ∷ 32 ∷ 112 ∷ 97 ∷ 114 ∷ 116 ∷ 101 ∷ 100 ∷ 32 ∷ 98 ∷ 121 ∷ 32 ∷ 111 ∷ 110 ∷ 101 ∷ 32 ∷ 116 ∷ 97 ∷ 98 ∷ 44 ∷ 32 ∷ 97 ∷ 110 ∷ 100 ∷ 32 ∷ 116 ∷ 104 ∷ 105 ∷ 115 ∷ 32 ∷ 108 ∷ 105 ∷ 110 ∷ 101 ∷ 32 ∷ 104 ∷ 97 ∷ 115 ∷ 32 ∷ 98 ∷ 108 ∷ 97 ∷ 110 ∷ 107 ∷ 115 ∷ 32 ∷ 97 ∷ 110 ∷ 100 ∷ 32 ∷ 101 ∷ 110 ∷ 100 ∷ 115 ∷ 32 ∷ 105 ∷ 110 ∷ 32 ∷ 97 ∷ 32 ∷ 99 ∷ 97 ∷ 114 ∷ 114 ∷ 105 ∷ 97 ∷ 103 ∷ 101 ∷ 32 ∷ 114 ∷ 101 ∷ 116 ∷ 117 ∷ 114 ∷ 110 ∷ []
+t_both = codes "fields are parted by one tab, and this line has blanks and ends in a carriage return"
 
--- `bus not first or again, unit off the bus or not declared, VPI or VCI above its top, or vc without page`
 abbrev pub t_order : List ℕ
-t_order = 98 ∷ 117 ∷ 115 ∷ 32 ∷ 110 ∷ 111 ∷ 116 ∷ 32 ∷ 102 ∷ 105 ∷ 114 ∷ 115 ∷ 116 ∷ 32 ∷ 111 ∷ 114 ∷ 32 ∷ 97 ∷ 103 ∷ 97 ∷ 105 ∷ 110 ∷ 44 ∷ 32 ∷ 117 ∷ 110 ∷ 105 ∷ 116 ∷ 32 ∷ 111 ∷ 102 ∷ 102 ∷ 32 ∷ 116 ∷ 104 ∷ 101 ∷ 32 ∷ 98 ∷ 117 ∷ 115 ∷ 32 ∷ 111 ∷ 114 ∷ 32 ∷ 110 ∷ 111 ∷ 116 ∷ 32 ∷ 100 ∷ 101 ∷ 99 ∷ 108 ∷ 97 ∷ 114 ∷ 101 ∷ 100 ∷ 44 ∷ 32 ∷ 86 ∷ 80 ∷ 73 ∷ 32 ∷ 111 ∷ 114 ∷ 32 ∷ 86 ∷ 67 ∷ 73 ∷ 32 ∷ 97 ∷ 98 ∷ 111 ∷ 118 ∷ 101 ∷ 32 ∷ 105 ∷ 116 ∷ 115 ∷ 32 ∷ 116 ∷ 111 ∷ 112 ∷ 44 ∷ 32 ∷ 111 ∷ 114 ∷ 32 ∷ 118 ∷ 99 ∷ 32 ∷ 119 ∷ 105 ∷ 116 ∷ 104 ∷ 111 ∷ 117 ∷ 116 ∷ 32 ∷ 112 ∷ 97 ∷ 103 ∷ 101 ∷ []
+t_order = codes "bus not first or again, unit off the bus or not declared, VPI or VCI above its top, or vc without page"
 
--- `this unit, path, channel or session is given twice`
 abbrev pub t_twice : List ℕ
-t_twice = 116 ∷ 104 ∷ 105 ∷ 115 ∷ 32 ∷ 117 ∷ 110 ∷ 105 ∷ 116 ∷ 44 ∷ 32 ∷ 112 ∷ 97 ∷ 116 ∷ 104 ∷ 44 ∷ 32 ∷ 99 ∷ 104 ∷ 97 ∷ 110 ∷ 110 ∷ 101 ∷ 108 ∷ 32 ∷ 111 ∷ 114 ∷ 32 ∷ 115 ∷ 101 ∷ 115 ∷ 115 ∷ 105 ∷ 111 ∷ 110 ∷ 32 ∷ 105 ∷ 115 ∷ 32 ∷ 103 ∷ 105 ∷ 118 ∷ 101 ∷ 110 ∷ 32 ∷ 116 ∷ 119 ∷ 105 ∷ 99 ∷ 101 ∷ []
+t_twice = codes "this unit, path, channel or session is given twice"
 
--- `bus 32, nni or an outgoing path above 255`
 abbrev pub t_asks : List ℕ
-t_asks = 98 ∷ 117 ∷ 115 ∷ 32 ∷ 51 ∷ 50 ∷ 44 ∷ 32 ∷ 110 ∷ 110 ∷ 105 ∷ 32 ∷ 111 ∷ 114 ∷ 32 ∷ 97 ∷ 110 ∷ 32 ∷ 111 ∷ 117 ∷ 116 ∷ 103 ∷ 111 ∷ 105 ∷ 110 ∷ 103 ∷ 32 ∷ 112 ∷ 97 ∷ 116 ∷ 104 ∷ 32 ∷ 97 ∷ 98 ∷ 111 ∷ 118 ∷ 101 ∷ 32 ∷ 50 ∷ 53 ∷ 53 ∷ []
+t_asks = codes "bus 32, nni or an outgoing path above 255"
 
--- `with this line the records exceed 262,144 bytes`
 abbrev pub t_room : List ℕ
-t_room = 119 ∷ 105 ∷ 116 ∷ 104 ∷ 32 ∷ 116 ∷ 104 ∷ 105 ∷ 115 ∷ 32 ∷ 108 ∷ 105 ∷ 110 ∷ 101 ∷ 32 ∷ 116 ∷ 104 ∷ 101 ∷ 32 ∷ 114 ∷ 101 ∷ 99 ∷ 111 ∷ 114 ∷ 100 ∷ 115 ∷ 32 ∷ 101 ∷ 120 ∷ 99 ∷ 101 ∷ 101 ∷ 100 ∷ 32 ∷ 50 ∷ 54 ∷ 50 ∷ 44 ∷ 49 ∷ 52 ∷ 52 ∷ 32 ∷ 98 ∷ 121 ∷ 116 ∷ 101 ∷ 115 ∷ []
+t_room = codes "with this line the records exceed 262,144 bytes"
 
--- `cell store or counter rows too small`
 abbrev pub t_store : List ℕ
-t_store = 99 ∷ 101 ∷ 108 ∷ 108 ∷ 32 ∷ 115 ∷ 116 ∷ 111 ∷ 114 ∷ 101 ∷ 32 ∷ 111 ∷ 114 ∷ 32 ∷ 99 ∷ 111 ∷ 117 ∷ 110 ∷ 116 ∷ 101 ∷ 114 ∷ 32 ∷ 114 ∷ 111 ∷ 119 ∷ 115 ∷ 32 ∷ 116 ∷ 111 ∷ 111 ∷ 32 ∷ 115 ∷ 109 ∷ 97 ∷ 108 ∷ 108 ∷ []
+t_store = codes "cell store or counter rows too small"

@@ -1,7 +1,7 @@
 // What the planner's tool says of a table on a card. Each function writes from a place on and says where it ends; the last three write a whole line.
 #![tactic(auto)]
 
-ghost use Rattle.std.specs.Prelude.{◌≡◌, ◌+◌, ◌≤◌, min, length};
+ghost use Rattle.std.specs.Prelude.{◌≡◌, ◌+◌, ◌≤◌, length};
 ghost use Rattle.text.specs.Writing.{Wrote};
 ghost use Rattle.report.specs.Messages.{card_word, units_word, ok_line, shown_byte, cut_mark, shown as shown_of, showing, line_in, place, head, ask_words, wide_line, slip_words, form_words, why, shown_in, refused_line};
 
@@ -11,6 +11,7 @@ use text::Slip;
 // How much of a line is shown.
 const SHOWN: usize = 80;
 
+#[tactic(auto, unfolding(crate::specs::Messages::card_word))]
 fn put_card(out: &mut [u8], at: usize, card: Card) -> usize
     requires { at + 6 ≤ length out.old }
     ensures { Wrote out.old at (card_word card) result out.new × (result ≤ at + 6) }
@@ -21,6 +22,7 @@ fn put_card(out: &mut [u8], at: usize, card: Card) -> usize
     }
 }
 
+#[tactic(auto, unfolding(crate::specs::Messages::units_word))]
 fn put_units(out: &mut [u8], at: usize, units: u8) -> usize
     requires { at + 6 ≤ length out.old }
     ensures { Wrote out.old at (units_word units) result out.new × (result ≤ at + 6) }
@@ -32,6 +34,7 @@ fn put_units(out: &mut [u8], at: usize, units: u8) -> usize
 }
 
 // A byte as it is shown.
+#[tactic(auto, unfolding(crate::specs::Messages::shown_byte))]
 fn shown_byte(b: u8) -> u8
     ensures { result ≡ shown_byte b }
 {
@@ -48,6 +51,7 @@ fn shown_byte(b: u8) -> u8
 }
 
 // That a line is cut.
+#[tactic(auto, unfolding(crate::specs::Messages::cut_mark), using(text::proofs::Splices::nothing))]
 fn put_cut(out: &mut [u8], at: usize, line: &[u8]) -> usize
     requires { at + 3 ≤ length out.old }
     ensures { Wrote out.old at (cut_mark line.now) result out.new × (result ≤ at + 3) }
@@ -58,25 +62,14 @@ fn put_cut(out: &mut [u8], at: usize, line: &[u8]) -> usize
     at
 }
 
-// How many of so many bytes are shown.
-fn most(bytes: usize) -> usize
-    ensures { result ≡ min bytes 80 }
-{
-    if bytes < SHOWN { bytes } else { SHOWN }
-}
-
 // A line as it is shown.
 fn put_shown(out: &mut [u8], at: usize, line: &[u8]) -> usize
     requires { at + 83 ≤ length out.old }
     ensures { Wrote out.old at (shown_of line.now) result out.new × (result ≤ at + 83) }
 {
-    let n = most(line.len());
     let mut next = at;
-    let mut i: usize = 0;
-    while i < n {
-        let one = [shown_byte(line[i])];
-        next = text::put(out, next, &one);
-        i += 1;
+    for b in &line[..SHOWN.min(line.len())] {
+        next = text::put(out, next, &[shown_byte(*b)]);
     }
     put_cut(out, next, line)
 }
@@ -99,6 +92,7 @@ pub fn line_in(text: &[u8], line: u32) -> &[u8]
     &text[from..e]
 }
 
+#[tactic(auto, unfolding(crate::specs::Messages::place), using(text::proofs::Splices::nothing))]
 fn put_place(out: &mut [u8], at: usize, line: u64) -> usize
     requires { at + 22 ≤ length out.old }
     ensures { Wrote out.old at (place line) result out.new × (result ≤ at + 22) }
@@ -121,6 +115,7 @@ fn put_head(out: &mut [u8], at: usize, card: Card, number: u8, line: u64) -> usi
     text::put(out, numbered, b": ")
 }
 
+#[tactic(auto, unfolding(crate::specs::Messages::ask_words))]
 fn put_ask(out: &mut [u8], at: usize, ask: Ask) -> usize
     requires { at + 60 ≤ length out.old }
     ensures { Wrote out.old at (ask_words ask) result out.new × (result ≤ at + 60) }
@@ -161,6 +156,7 @@ fn put_slip(out: &mut [u8], at: usize, slip: Slip) -> usize
     }
 }
 
+#[tactic(auto, unfolding(crate::specs::Messages::form_words))]
 fn put_form(out: &mut [u8], at: usize, text: &[u8], line: u32) -> usize
     requires { at + 104 ≤ length out.old }
     ensures { Wrote out.old at (form_words text.now line) result out.new × (result ≤ at + 104) }
@@ -171,6 +167,7 @@ fn put_form(out: &mut [u8], at: usize, text: &[u8], line: u32) -> usize
     put_slip(out, at, text::slip_in(line_in(text, line)))
 }
 
+#[tactic(auto, unfolding(crate::specs::Messages::why))]
 fn put_why(out: &mut [u8], at: usize, text: &[u8], line: u32, number: u8) -> usize
     requires { at + 104 ≤ length out.old }
     ensures { Wrote out.old at (why text.now line number) result out.new × (result ≤ at + 104) }
@@ -195,6 +192,7 @@ fn put_why(out: &mut [u8], at: usize, text: &[u8], line: u32, number: u8) -> usi
 }
 
 // A line as it is shown, and a colon; nothing of an empty one.
+#[tactic(auto, unfolding(crate::specs::Messages::showing), using(text::proofs::Splices::nothing))]
 fn put_line(out: &mut [u8], at: usize, line: &[u8]) -> usize
     requires { at + 85 ≤ length out.old }
     ensures { Wrote out.old at (showing line.now) result out.new × (result ≤ at + 85) }
@@ -207,6 +205,7 @@ fn put_line(out: &mut [u8], at: usize, line: &[u8]) -> usize
 }
 
 // The refused line as it is shown, where there is one.
+#[tactic(auto, unfolding(crate::specs::Messages::shown_in), using(text::proofs::Splices::nothing))]
 fn put_refused(out: &mut [u8], at: usize, text: &[u8], line: u32) -> usize
     requires { at + 85 ≤ length out.old }
     ensures { Wrote out.old at (shown_in text.now line) result out.new × (result ≤ at + 85) }

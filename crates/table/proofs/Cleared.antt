@@ -1,4 +1,5 @@
 -- A memory that is cleared before, or after, a table was read into it; and what reading a text comes to. Assumes nothing.
+use Rattle.line.specs.Lines.{Reading}
 use Rattle.std.specs.Prelude.{Err, Ok}
 use mathlib.Core.Path.{◌≡◌, refl, sym, ap, ◌∙◌}
 use mathlib.Core.Bool.{true, false, false≢true}
@@ -14,8 +15,6 @@ use Rattle.lookup.specs.Record.{size, most, usable, cleared, image}
 use Rattle.lookup.proofs.RecordLaws.{image_length}
 use Rattle.line.specs.declared.Line.{Line}
 use Rattle.line.specs.declared.Wrong.TheVariants.{Newline}
-use Rattle.line.specs.declared.Reading.{Reading}
-use Rattle.line.specs.declared.Reading.TheVariants.{Good as Read, Bad}
 use Rattle.line.proofs.Ranges.{read_in_range}
 use Rattle.state.specs.Bytes.{shelf_in}
 use Rattle.state.specs.Placing.{fresh_bytes}
@@ -78,7 +77,7 @@ cleared_memory card m told h =
 -- every line that was read is in its ranges
 abbrev AllRead : List Reading → Type 0
 AllRead [] = Unit {0}
-AllRead (r ∷ rs) = ((l : Line) → r ≡ Read l → Ranged l) × AllRead rs
+AllRead (r ∷ rs) = ((l : Line) → r ≡ Ok l → Ranged l) × AllRead rs
 
 all_read : (ps : List (List ℕ)) → AllRead (readings_of ps)
 unfolding readings_of
@@ -96,12 +95,12 @@ stop_sound : (card : Card) (room : ℕ) (told : List Line) (n : ℕ) (v : Verdic
 stop_sound card room told n v g a f = record { good = g; ranges = a; all = λ t. absurd (false≢true (sym f ∙ t)) }
 
 with_good : (card : Card) (room : ℕ) (told : List Line) (r : Reading) → Good card room told → is_fine (verdict_on card room told r) ≡ true → Good card room (with r told)
-with_good card room told (Read l) g f = (fine_is (judge card room told l) f, g)
-with_good card room told (Bad wrong) g f = absurd (false≢true f)
+with_good card room told (Ok l) g f = (fine_is (judge card room told l) f, g)
+with_good card room told (Err wrong) g f = absurd (false≢true f)
 
-with_ranged : (told : List Line) (r : Reading) → AllRanged told → ((l : Line) → r ≡ Read l → Ranged l) → AllRanged (with r told)
-with_ranged told (Read l) a h = (h l refl, a)
-with_ranged told (Bad wrong) a h = a
+with_ranged : (told : List Line) (r : Reading) → AllRanged told → ((l : Line) → r ≡ Ok l → Ranged l) → AllRanged (with r told)
+with_ranged told (Ok l) a h = (h l refl, a)
+with_ranged told (Err wrong) a h = a
 
 run_sound : (card : Card) (room : ℕ) (rs : List Reading) (told : List Line) (n : ℕ) → Good card room told → AllRanged told → AllRead rs → Sound card room (run card room told n rs)
 unfolding run

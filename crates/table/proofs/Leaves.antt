@@ -1,4 +1,5 @@
 -- One line more, over plain values. Assumes nothing.
+use Rattle.line.specs.Lines.{Reading}
 use Rattle.std.specs.Prelude.{is_err, Err, Ok}
 use mathlib.Core.Path.{◌≡◌, refl, sym, ap, ◌∙◌}
 use mathlib.Core.Bool.{true, false, false≢true}
@@ -6,7 +7,6 @@ use mathlib.Core.List.{List}
 use Prim.Native.Nat.{ℕ, ◌+◌}
 use Rattle.card.specs.declared.Card.{Card}
 use Rattle.shelf.specs.Shelf.{Shelf}
-use Rattle.line.specs.declared.Reading.{Reading}
 use Rattle.judge.specs.declared.Fault.TheVariants.{Form, Order, Twice, Wide, Room}
 use Rattle.judge.specs.Verdicts.{fine, Verdict, is_fine}
 use Rattle.meaning.specs.Enact.{used_in, memory_in}

@@ -1,5 +1,5 @@
 -- The loop over the lines: what is known between two turns, and each kind of turn. Assumes nothing.
-use Rattle.std.specs.Prelude.{Ok}
+use Rattle.std.specs.Prelude.{Ok, Err}
 use mathlib.Core.Path.{◌≡◌, refl, sym, ap, ap₂, subst, ◌∙◌}
 use mathlib.Core.Bool.{true, false, false≢true}
 use mathlib.Core.List.{List, [], ◌∷◌}
@@ -15,12 +15,10 @@ use Rattle.shelf.specs.Shelf.{Shelf}
 use Rattle.state.specs.Bytes.{shelf_in}
 use Rattle.state.specs.Placing.{fresh_bytes}
 use Rattle.text.specs.Text.{split, at}
-use Rattle.line.specs.Lines.{reading_of}
+use Rattle.line.specs.Lines.{Reading, reading_of}
 use Rattle.line.specs.declared.Line.{Line}
 use Rattle.line.specs.declared.Line.TheVariants.{Bus, Unit as L-as-Unit, Vp, Drop, Page, Vc, Mc}
 use Rattle.line.specs.declared.Wrong.TheVariants.{Newline}
-use Rattle.line.specs.declared.Reading.{Reading}
-use Rattle.line.specs.declared.Reading.TheVariants.{Good as Read, Bad}
 use Rattle.line.specs.Ranges.{InRange}
 use Rattle.text.proofs.Split.{split_some, split_end, split_more, split_last}
 use Rattle.line.proofs.Ranges.{read_in_range}
@@ -134,30 +132,30 @@ module _ (card : Card) (memory₀ text : List ℕ) (told : List Line) (from : �
   state_long = ap length b.standing ∙ (stands card room told b.good b.ranges).0.long
 
   -- the verdict by what stands is the verdict by the lines
-  verdict_line : (l : Line) → Ranged l → verdict_in card room memory (shelf_in s) p (Read l) ≡ judge card room told l
+  verdict_line : (l : Line) → Ranged l → verdict_in card room memory (shelf_in s) p (Ok l) ≡ judge card room told l
   verdict_line l r =
-      (λ i. verdict_in card room (b.holding i) (shelf_is i) (b.come i) (Read l))
-      ∙ ap (λ f. verdict_at card room f (record_at card (memory_of card memory₀ told)) (shelf_of told) (size * total told) (Read l)) (first_is told)
+      (λ i. verdict_in card room (b.holding i) (shelf_is i) (b.come i) (Ok l))
+      ∙ ap (λ f. verdict_at card room f (record_at card (memory_of card memory₀ told)) (shelf_of told) (size * total told) (Ok l)) (first_is told)
       ∙ judge_agree card memory₀ told (grown card room told b.good) (shelved card room told b.good b.ranges) hold room l r
 
-  pub verdict_is : (r : Reading) → ((l : Line) → r ≡ Read l → Ranged l) → verdict_in card room memory (shelf_in s) p r ≡ verdict_on card room told r
-  verdict_is (Read l) h = verdict_line l (h l refl)
-  verdict_is (Bad wrong) h = refl
+  pub verdict_is : (r : Reading) → ((l : Line) → r ≡ Ok l → Ranged l) → verdict_in card room memory (shelf_in s) p r ≡ verdict_on card room told r
+  verdict_is (Ok l) h = verdict_line l (h l refl)
+  verdict_is (Err wrong) h = refl
 
   -- there is a place for a unit that it declares, and its limits are in their ranges
-  pub placed : (r : Reading) → ((l : Line) → r ≡ Read l → InRange l) → verdict_in card room memory (shelf_in s) p r ≡ fine → Places (shelf_in s) r
-  placed (Read (Bus bus)) h e = tt
-  placed (Read (L-as-Unit settings limits)) h e =
+  pub placed : (r : Reading) → ((l : Line) → r ≡ Ok l → InRange l) → verdict_in card room memory (shelf_in s) p r ≡ fine → Places (shelf_in s) r
+  placed (Ok (Bus bus)) h e = tt
+  placed (Ok (L-as-Unit settings limits)) h e =
       let given = h (L-as-Unit settings limits) refl in
       let within = ranged (L-as-Unit settings limits) given in
       let k = place_left card room told settings limits (sym (verdict_line (L-as-Unit settings limits) within) ∙ e) within (shelved card room told b.good b.ranges) in
       (subst (λ (h : Shelf). h.count < 32) (sym shelf_is) k, given.limits_in_lem)
-  placed (Read (Vp u v target class outvpi)) h e = tt
-  placed (Read (Drop u v)) h e = tt
-  placed (Read (Page u v top)) h e = tt
-  placed (Read (Vc u v w target class outvpi outvci)) h e = tt
-  placed (Read (Mc u session)) h e = tt
-  placed (Bad wrong) h e = tt
+  placed (Ok (Vp u v target class outvpi)) h e = tt
+  placed (Ok (Drop u v)) h e = tt
+  placed (Ok (Page u v top)) h e = tt
+  placed (Ok (Vc u v w target class outvpi outvci)) h e = tt
+  placed (Ok (Mc u session)) h e = tt
+  placed (Err wrong) h e = tt
 
   -- a line that is not fine ends it
   pub stops : (r : Reading) (rs : List Reading) → readings_of (split 10 (drop from text)) ≡ r ∷ rs → is_fine (verdict_on card room told r) ≡ false → ran_of card room text ≡ stopped told (length told + 1) (verdict_on card room told r)
@@ -169,34 +167,34 @@ module _ (card : Card) (memory₀ text : List ℕ) (told : List Line) (from : �
       sym (step_stopped card memory s (shelf_in s) p r v (verdict_in card room memory (shelf_in s) p r) (sym e) f) ∙ ap (λ q. progress q.used (q.lines + 1) v) b.come
 
   -- one that is fine is one more
-  pub goes : (l : Line) (rs : List Reading) → readings_of (split 10 (drop from text)) ≡ Read l ∷ rs → judge card room told l ≡ fine → ran_of card room text ≡ run card room (l ∷ told) (length told + 1) rs
+  pub goes : (l : Line) (rs : List Reading) → readings_of (split 10 (drop from text)) ≡ Ok l ∷ rs → judge card room told l ≡ fine → ran_of card room text ≡ run card room (l ∷ told) (length told + 1) rs
   unfolding run
   goes l rs e f = b.left ∙ ap (run card room told (length told)) e ∙ rw f
 
   -- the progress and the memory of one line more
-  more_progress : (l : Line) → judge card room told l ≡ fine → Ranged l → progress_by (verdict_in card room memory (shelf_in s) p (Read l)) p (Read l) ≡ progress_of (done (l ∷ told))
+  more_progress : (l : Line) → judge card room told l ≡ fine → Ranged l → progress_by (verdict_in card room memory (shelf_in s) p (Ok l)) p (Ok l) ≡ progress_of (done (l ∷ told))
   unfolding total
   more_progress l f r =
       let v = verdict_line l r ∙ f in
       let u : size * total told + size * takes (opens l) ≡ size * (total told + takes (opens l)) = omega arith in
-      sym (step_fine card memory s (shelf_in s) p (Read l) fine (verdict_in card room memory (shelf_in s) p (Read l)) (sym v) (p.used + size * takes (opens l)) refl refl)
+      sym (step_fine card memory s (shelf_in s) p (Ok l) fine (verdict_in card room memory (shelf_in s) p (Ok l)) (sym v) (p.used + size * takes (opens l)) refl refl)
       ∙ ap (λ q. progress (q.used + size * takes (opens l)) (q.lines + 1) fine) b.come ∙ ap₂ (λ n k. progress n k fine) u (add-one (length told))
 
-  more_memory : (l : Line) → judge card room told l ≡ fine → Ranged l → memory_after card memory (shelf_in s) (verdict_in card room memory (shelf_in s) p (Read l)) p (Read l) ≡ memory_of card memory₀ (l ∷ told)
+  more_memory : (l : Line) → judge card room told l ≡ fine → Ranged l → memory_after card memory (shelf_in s) (verdict_in card room memory (shelf_in s) p (Ok l)) p (Ok l) ≡ memory_of card memory₀ (l ∷ told)
   more_memory l f r =
       let v = verdict_line l r ∙ f in
-      sym (memory_enacted card memory s (shelf_in s) p (Read l) fine (verdict_in card room memory (shelf_in s) p (Read l)) (sym v) (memory_by card memory p.used (owner_of (shelf_in s) (unit_of l)) l) refl refl)
+      sym (memory_enacted card memory s (shelf_in s) p (Ok l) fine (verdict_in card room memory (shelf_in s) p (Ok l)) (sym v) (memory_by card memory p.used (owner_of (shelf_in s) (unit_of l)) l) refl refl)
       ∙ (λ i. memory_by card (b.holding i) (b.come i).used (owner_of (shelf_is i) (unit_of l)) l)
       ∙ memory_agree card memory₀ told (grown card room told b.good) (shelved card room told b.good b.ranges) hold l f
 
-  more_state : (l : Line) → judge card room told l ≡ fine → Ranged l → state_after s (verdict_in card room memory (shelf_in s) p (Read l)) p (Read l) ≡ state_of (l ∷ told)
+  more_state : (l : Line) → judge card room told l ≡ fine → Ranged l → state_after s (verdict_in card room memory (shelf_in s) p (Ok l)) p (Ok l) ≡ state_of (l ∷ told)
   unfolding state_of
   more_state l f r =
       let v = verdict_line l r ∙ f in
-      sym (state_enacted card memory s (shelf_in s) p (Read l) fine (verdict_in card room memory (shelf_in s) p (Read l)) (sym v) (state_by l p.used s) refl refl)
+      sym (state_enacted card memory s (shelf_in s) p (Ok l) fine (verdict_in card room memory (shelf_in s) p (Ok l)) (sym v) (state_by l p.used s) refl refl)
       ∙ (λ i. state_by l (b.come i).used (b.standing i))
 
-  pub turn : (e : ℕ) (l : Line) → from ≤ e → e < length text → readings_of (split 10 (drop from text)) ≡ Read l ∷ readings_of (split 10 (drop (e + 1) text)) → judge card room told l ≡ fine → Ranged l → Between card memory₀ text (l ∷ told) (e + 1) (progress_by (verdict_in card room memory (shelf_in s) p (Read l)) p (Read l)) (memory_after card memory (shelf_in s) (verdict_in card room memory (shelf_in s) p (Read l)) p (Read l)) (state_after s (verdict_in card room memory (shelf_in s) p (Read l)) p (Read l))
+  pub turn : (e : ℕ) (l : Line) → from ≤ e → e < length text → readings_of (split 10 (drop from text)) ≡ Ok l ∷ readings_of (split 10 (drop (e + 1) text)) → judge card room told l ≡ fine → Ranged l → Between card memory₀ text (l ∷ told) (e + 1) (progress_by (verdict_in card room memory (shelf_in s) p (Ok l)) p (Ok l)) (memory_after card memory (shelf_in s) (verdict_in card room memory (shelf_in s) p (Ok l)) p (Ok l)) (state_after s (verdict_in card room memory (shelf_in s) p (Ok l)) p (Ok l))
   turn e l h g q f r =
       let short = b.short in
       record {
@@ -215,7 +213,7 @@ module _ (card : Card) (memory₀ text : List ℕ) (told : List Line) (from : �
   abbrev verdict : Verdict
   verdict = verdict_in card (usable memory₀) memory (shelf_in s) p r
 
-  in_range : (l : Line) → r ≡ Read l → InRange l
+  in_range : (l : Line) → r ≡ Ok l → InRange l
   in_range l k = read_in_range (take (e - from) (drop from text)) (ltb e (length text)) (sym is ∙ k)
 
   by_lines : verdict ≡ verdict_on card (usable memory₀) told r
@@ -248,7 +246,7 @@ module _ (card : Card) (memory₀ text : List ℕ) (told : List Line) (from : �
     stop_state = sym (state_kept card memory s (shelf_in s) p r verdict verdict refl bad) ∙ b.standing ∙ ap (λ x. state_of (told_in x)) (sym ended)
 
   -- it was fine: it could be read, a newline ended it, and it is one line more
-  unended : ltb e (length text) ≡ false → r ≡ Bad Newline
+  unended : ltb e (length text) ≡ false → r ≡ Err Newline
   unfolding reading_of
   unended t = is ∙ ap (reading_of (take (e - from) (drop from text))) t
 
@@ -262,12 +260,12 @@ module _ (card : Card) (memory₀ text : List ℕ) (told : List Line) (from : �
         ∙ ap (λ x. x ∷ readings_of (split 10 (drop (e + 1) text))) (sym (is ∙ ap (reading_of (take (e - from) (drop from text))) (lt-ltb e (length text) was_ended)))
 
     on_by : (x : Reading) → r ≡ x → (told' : List Line) × Between card memory₀ text told' (e + 1) (progress_by (verdict_in card (usable memory₀) memory (shelf_in s) p x) p x) (memory_after card memory (shelf_in s) (verdict_in card (usable memory₀) memory (shelf_in s) p x) p x) (state_after s (verdict_in card (usable memory₀) memory (shelf_in s) p x) p x)
-    on_by (Read l) k = (
+    on_by (Ok l) k = (
       l ∷ told,
       turn card memory₀ text told from p memory s b e l (omega arith) was_ended (line_is ∙ ap (λ x. x ∷ readings_of (split 10 (drop (e + 1) text))) k)
           (sym (ap (verdict_on card (usable memory₀) told) k) ∙ sym by_lines ∙ fine_is verdict fine) (ranged l (in_range l k)),
     )
-    on_by (Bad wrong) k = absurd (false≢true (sym (ap (λ x. is_fine (verdict_in card (usable memory₀) memory (shelf_in s) p x)) k) ∙ fine))
+    on_by (Err wrong) k = absurd (false≢true (sym (ap (λ x. is_fine (verdict_in card (usable memory₀) memory (shelf_in s) p x)) k) ∙ fine))
 
     pub on : (told' : List Line) × Between card memory₀ text told' (e + 1) (progress_by verdict p r) (memory_after card memory (shelf_in s) verdict p r) (state_after s verdict p r)
     on = on_by r refl

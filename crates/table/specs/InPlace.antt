@@ -1,11 +1,10 @@
 -- The state's bytes as lines are read, and as loading leaves them. Assumes nothing.
-use Rattle.std.specs.Prelude.{ℕ, ◌*◌, cond, List, [], ◌∷◌}
+use Rattle.line.specs.Lines.{Reading}
+use Rattle.std.specs.Prelude.{ℕ, ◌*◌, cond, List, [], ◌∷◌, Err, Ok}
 use Rattle.card.specs.declared.Card.{Card}
 use Rattle.lookup.specs.Record.{size, usable}
 use Rattle.state.specs.Placing.{fresh_bytes}
 use Rattle.line.specs.declared.Line.{Line}
-use Rattle.line.specs.declared.Reading.{Reading}
-use Rattle.line.specs.declared.Reading.TheVariants.{Good, Bad}
 use Rattle.judge.specs.Verdicts.{Verdict, is_fine}
 use Rattle.meaning.specs.Told.{total, shelf_of}
 use Rattle.meaning.specs.Lines.{Ran, done, stopped}
@@ -15,8 +14,8 @@ use Rattle.table.specs.declared.Progress.{Progress}
 
 -- one line more, if it is fine
 abbrev pub state_read : Reading → ℕ → List ℕ → List ℕ
-state_read (Good l) used b = state_by l used b
-state_read (Bad wrong) used b = b
+state_read (Ok l) used b = state_by l used b
+state_read (Err wrong) used b = b
 
 abbrev pub state_after : List ℕ → Verdict → Progress → Reading → List ℕ
 state_after b verdict p reading = cond (is_fine verdict) (state_read reading p.used b) b

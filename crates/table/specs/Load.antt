@@ -5,10 +5,9 @@ use Rattle.lookup.specs.Record.{size, usable, record_at, cleared}
 use Rattle.shelf.specs.Shelves.{fresh}
 use Rattle.shelf.specs.Shelf.{Shelf}
 use Rattle.text.specs.Text.{split}
-use Rattle.line.specs.Lines.{reading_of}
+use Rattle.line.specs.Lines.{Reading, reading_of}
 use Rattle.line.specs.declared.Line.{Line}
 use Rattle.line.specs.declared.Wrong.TheVariants.{Newline}
-use Rattle.line.specs.declared.Reading.{Reading}
 use Rattle.judge.specs.declared.Fault.TheVariants.{Form}
 use Rattle.table.specs.declared.Progress.{Progress}
 use Rattle.table.specs.Loading.{Loading, LoadOutcome, refusal_of}

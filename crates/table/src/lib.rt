@@ -1,7 +1,7 @@
 // The loader: what a line that is fine gives; text into lines, lines judged and enacted; and loading as an event.
 #![tactic(auto)]
 
-ghost use Rattle.std.specs.Prelude.{◌≡◌, ◌≤◌, min, length, []};
+ghost use Rattle.std.specs.Prelude.{◌≡◌, ◌≤◌, min, length, [], Ok};
 ghost use Rattle.shelf.specs.Shelves.{declared as declared_in, find_in};
 ghost use Rattle.state.specs.Bytes.{shelf_in};
 ghost use Rattle.meaning.specs.Told.{opens, takes as takes_of, memory_of};
@@ -20,7 +20,7 @@ ghost use Rattle.table.specs.EventInPlace.{outcome_by, load_out, load_state};
 use answer::{Answer, Rises};
 use card::Card;
 use judge::{Fault, Owner, Verdict};
-use line::{Line, Reading, Wrong};
+use line::{Line, Wrong};
 use lookup::Record;
 use outlet::Outlet;
 
@@ -109,7 +109,7 @@ fn join(s: &mut [u8], number: u8, session: u8)
 // Writes a line into the state.
 #[tactic(auto, unfolding(crate::specs::GivenInPlace::state_by))]
 pub fn enter(s: &mut [u8], used: u32, line: Line)
-    requires { (length s.old ≡ 2048) × Places (shelf_in s.old) (Reading.Good line) }
+    requires { (length s.old ≡ 2048) × Places (shelf_in s.old) (Ok line) }
     ensures { s.new ≡ state_by line used s.old }
 {
     match line {
@@ -169,10 +169,10 @@ fn enact(
     line: Line,
 ) -> Progress
     requires s_len { (length s.old ≡ 2048) × (p.used ≤ 262144) × (p.lines ≤ 65536) }
-    requires places { verdict_in card room memory.old (shelf_in s.old) p (Reading.Good line) ≡ fine → Places (shelf_in s.old) (Reading.Good line) }
-    ensures value { result ≡ progress_by (verdict_in card room memory.old (shelf_in s.old) p (Reading.Good line)) p (Reading.Good line) }
-    ensures memory_after { memory.new ≡ memory_after card memory.old (shelf_in s.old) (verdict_in card room memory.old (shelf_in s.old) p (Reading.Good line)) p (Reading.Good line) }
-    ensures s_after { s.new ≡ state_after s.old (verdict_in card room memory.old (shelf_in s.old) p (Reading.Good line)) p (Reading.Good line) }
+    requires places { verdict_in card room memory.old (shelf_in s.old) p (Ok line) ≡ fine → Places (shelf_in s.old) (Ok line) }
+    ensures value { result ≡ progress_by (verdict_in card room memory.old (shelf_in s.old) p (Ok line)) p (Ok line) }
+    ensures memory_after { memory.new ≡ memory_after card memory.old (shelf_in s.old) (verdict_in card room memory.old (shelf_in s.old) p (Ok line)) p (Ok line) }
+    ensures s_after { s.new ≡ state_after s.old (verdict_in card room memory.old (shelf_in s.old) p (Ok line)) p (Ok line) }
 {
     let used = p.used;
     let lines = p.lines;
@@ -201,7 +201,7 @@ fn step(
     memory: &mut [u8],
     s: &mut [u8],
     p: Progress,
-    reading: Reading,
+    reading: Result<Line, Wrong>,
 ) -> Progress
     requires s_len { (length s.old ≡ 2048) × (p.used ≤ 262144) × (p.lines ≤ 65536) }
     requires places { verdict_in card room memory.old (shelf_in s.old) p reading ≡ fine → Places (shelf_in s.old) reading }
@@ -210,8 +210,8 @@ fn step(
     ensures s_after { s.new ≡ state_after s.old (verdict_in card room memory.old (shelf_in s.old) p reading) p reading }
 {
     match reading {
-        Reading::Good(line) => enact(card, room, memory, s, p, line),
-        Reading::Bad(wrong) => Progress {
+        Ok(line) => enact(card, room, memory, s, p, line),
+        Err(wrong) => Progress {
             used: p.used,
             lines: p.lines + 1,
             verdict: Err(Fault::Form(wrong)),

@@ -1,11 +1,12 @@
 -- What is listed is what `Listed` says. Assumes nothing.
-use mathlib.Core.Path.{◌≡◌, refl, sym, ap, ap₂, subst, ◌∙◌}
+use Rattle.std.specs.Prelude.{Ok, Option, Some, None}
+use mathlib.Core.Path.{◌≡◌, refl, sym, ap, subst, ◌∙◌}
 use mathlib.Core.Bool.{Bool, true, false, cond, not, false≢true}
 use mathlib.Core.List.{List, [], ◌∷◌, ◌++◌, append_assoc, append-nil, map}
 use mathlib.Core.Logic.{⊎_elim, ◌↔◌}
 use Prim.Native.Nat.{ℕ, zero, suc, ◌+◌, ◌-◌, ◌<◌, ◌≤◌}
 use native.Mathlib.Omega.{arith}
-use lib.Dec.{eqb, ltb}
+use lib.Dec.{ltb}
 use lib.ListN.{length, take, drop}
 use borrow.Author.Tests.{ne_eqb, ltb-true, ltb-false}
 use Rattle.card.specs.Cards.{narrow_holds}
@@ -13,12 +14,9 @@ use Rattle.card.specs.declared.Ask.{Ask}
 use Rattle.card.specs.declared.Ask.TheVariants.{Bus as A-as-Bus, On, Out}
 use Rattle.card.specs.declared.Card.TheVariants.{Narrow, Wide as W}
 use Rattle.text.specs.Text.{split, at}
-use Rattle.line.specs.Lines.{reading_of}
+use Rattle.line.specs.Lines.{Reading, reading_of}
 use Rattle.line.specs.declared.Line.{Line}
 use Rattle.line.specs.declared.Line.TheVariants.{Bus, Unit as L-as-Unit, Vp, Drop, Page, Vc, Mc}
-use Rattle.line.specs.declared.Reading.{Reading}
-use Rattle.line.specs.declared.Reading.TheVariants.{Good as Read, Bad}
-use Rattle.paper.specs.Words.{words_of, InRange}
 use Rattle.paper.proofs.Readings.{reads_iff}
 use Rattle.meaning.proofs.Grown.{decide}
 use Rattle.table.specs.Load.{readings_of, load}
@@ -33,17 +31,14 @@ use Rattle.promise.proofs.Cards.{wide_or_not, narrow_accepts, narrow_refuses_iff
 use Rattle.promise.proofs.Refusals.{all_fine, accepted, loaded_refused, refused_iff}
 use Rattle.promise.proofs.Texts.{line_read_iff}
 use Rattle.toowide.specs.Asks.{asked, ask_of, beyond}
-use Rattle.toowide.specs.Listing.{Wide, ended, over, found_at, next_in, list_at, list_in, wide_lines, onward, following}
+use Rattle.toowide.specs.Listing.{Wide, ended, found_at, next_in, list_at, list_in, wide_lines, onward, following}
 use Rattle.toowide.specs.Listed.{Asks, asks_at, asked_at, wide_of, NextByNext, WideIff, AsksIff, EveryLine, FirstNamed, NoneIfTaken, NamedFirst}
-use Rattle.toowide.specs.declared.Asking.{Asking}
-use Rattle.toowide.specs.declared.Asking.TheVariants.{Of, Nothing}
 use Rattle.toowide.specs.declared.Next.{Next}
-use Rattle.toowide.specs.declared.Next.TheVariants.{At, None}
 use Rattle.toowide.proofs.Walk.{open_nothing, no_line, step, found_skip}
 use Rattle.table.specs.Loading.{refusal_of}
 
 -- A. asking for the next one until there is none
-list_skip : (n start end : ℕ) (rest : List Wide) → list_at Nothing n start end rest ≡ rest
+list_skip : (n start end : ℕ) (rest : List Wide) → list_at None n start end rest ≡ rest
 unfolding list_at
 list_skip n start end rest = refl
 
@@ -52,10 +47,10 @@ unfolding onward
 onward_none lines rec = refl
 
 -- one line more: it is the next one, or the next one stands behind it
-turn : (a : Asking) (before start e lines : ℕ) (rec : ℕ → ℕ → List Wide) (further : Next) (rest : List Wide) → rec (e + 1) (lines + before + 1) ≡ rest → onward further lines rec ≡ rest → onward (found_at a before start e further) lines rec ≡ list_at a (lines + before + 1) start e rest
+turn : (a : Option Ask) (before start e lines : ℕ) (rec : ℕ → ℕ → List Wide) (further : Option Next) (rest : List Wide) → rec (e + 1) (lines + before + 1) ≡ rest → onward further lines rec ≡ rest → onward (found_at a before start e further) lines rec ≡ list_at a (lines + before + 1) start e rest
 unfolding onward found_at list_at
-turn (Of ask) before start e lines rec further rest h k = ap (λ x. record { number = lines + before + 1; start = start; end = e; ask = ask } ∷ x) h
-turn Nothing before start e lines rec further rest h k = k
+turn (Some ask) before start e lines rec further rest h k = ap (λ x. record { number = lines + before + 1; start = start; end = e; ask = ask } ∷ x) h
+turn None before start e lines rec further rest h k = k
 
 module _ (text : List ℕ) where
   abbrev from·on : ℕ → List (List ℕ)
@@ -91,10 +86,10 @@ unfoldable asks_in : ℕ → List Reading → List Asks
 asks_in n [] = []
 asks_in n (r ∷ rs) = asked_at n r (asked r) ++ asks_in (n + 1) rs
 
-map_list : (text : List ℕ) (a : Asking) (n start e : ℕ) (rest : List Wide) → map (asks_at text) (list_at a n start e rest) ≡ asked_at n (reading_of (take (e - start) (drop start text)) true) a ++ map (asks_at text) rest
+map_list : (text : List ℕ) (a : Option Ask) (n start e : ℕ) (rest : List Wide) → map (asks_at text) (list_at a n start e rest) ≡ asked_at n (reading_of (take (e - start) (drop start text)) true) a ++ map (asks_at text) rest
 unfolding list_at asked_at
-map_list text (Of ask) n start e rest = refl
-map_list text Nothing n start e rest = refl
+map_list text (Some ask) n start e rest = refl
+map_list text None n start e rest = refl
 
 -- one line more: a newline ended it, or the text did
 module _ (text : List ℕ) (n start e : ℕ) (q : e ≡ start + length (at (from·on text start) 0)) (g : start < length text) where
@@ -145,31 +140,31 @@ unfolding lines_of
 text_asks [] = list_asks [] 0 1 0 (omega arith) ∙ no_text
 text_asks (b ∷ t) = list_asks (b ∷ t) (length (b ∷ t)) 1 0 (omega arith) ∙ rw (ne_eqb (length (b ∷ t)) 0 (λ z. absurd (omega arith)))
 
-told_more : (l : Line) (told : List Line) (rest : List Reading) → wide_of told ++ asks_in (length told + 1) (Read l ∷ rest) ≡ (wide_of told ++ asked_at (length told + 1) (Read l) (beyond (ask_of l))) ++ asks_in (length (l ∷ told) + 1) rest
+told_more : (l : Line) (told : List Line) (rest : List Reading) → wide_of told ++ asks_in (length told + 1) (Ok l ∷ rest) ≡ (wide_of told ++ asked_at (length told + 1) (Ok l) (beyond (ask_of l))) ++ asks_in (length (l ∷ told) + 1) rest
 unfolding asks_in asked
 told_more l told rest =
     let sums : length told + 1 + 1 ≡ length (l ∷ told) + 1 = omega arith in
-    sym (append_assoc (wide_of told) (asked_at (length told + 1) (Read l) (beyond (ask_of l))) (asks_in (length told + 1 + 1) rest))
-    ∙ ap (λ n. (wide_of told ++ asked_at (length told + 1) (Read l) (beyond (ask_of l))) ++ asks_in n rest) sums
+    sym (append_assoc (wide_of told) (asked_at (length told + 1) (Ok l) (beyond (ask_of l))) (asks_in (length told + 1 + 1) rest))
+    ∙ ap (λ n. (wide_of told ++ asked_at (length told + 1) (Ok l) (beyond (ask_of l))) ++ asks_in n rest) sums
 
 told_asks : (told : List Line) (rest : List Reading) → asks_in 1 (read_then told rest) ≡ wide_of told ++ asks_in (length told + 1) rest
 unfolding read_then wide_of
 told_asks [] rest = refl
-told_asks (l ∷ told) rest = told_asks told (Read l ∷ rest) ∙ told_more l told rest
+told_asks (l ∷ told) rest = told_asks told (Ok l ∷ rest) ∙ told_more l told rest
 
 -- C. a line asks for too much exactly if it is one of 01's Wide
-beyond_iff : (ask : Ask) → ((a : Ask) × (beyond (Of ask) ≡ Of a)) ↔ (not (narrow_holds ask) ≡ true)
+beyond_iff : (ask : Ask) → ((a : Ask) × (beyond (Some ask) ≡ Some a)) ↔ (not (narrow_holds ask) ≡ true)
 unfolding beyond
 beyond_iff ask = go (narrow_holds ask)
   where
-    go : (b : Bool) → ((a : Ask) × (cond b Nothing (Of ask) ≡ Of a)) ↔ (not b ≡ true)
+    go : (b : Bool) → ((a : Ask) × (cond b None (Some ask) ≡ Some a)) ↔ (not b ≡ true)
     go true = (λ x. let e = x.1 in let z : ◌≡◌ {A = ℕ} 0 1 = cc in absurd (omega arith), λ e. absurd (false≢true e))
     go false = (λ x. refl, λ e. (ask, refl))
 
-nothing_asked : (a : Ask) → Nothing ≡ Of a → ⊥
+nothing_asked : (a : Ask) → ◌≡◌ {A = Option Ask} None (Some a) → ⊥
 nothing_asked a e = let z : ◌≡◌ {A = ℕ} 0 1 = cc in omega arith
 
-test_iff : (l : Line) → ((a : Ask) × (beyond (ask_of l) ≡ Of a)) ↔ (too_wide l ≡ true)
+test_iff : (l : Line) → ((a : Ask) × (beyond (ask_of l) ≡ Some a)) ↔ (too_wide l ≡ true)
 unfolding beyond ask_of too_wide
 test_iff (Bus n) = beyond_iff (A-as-Bus n)
 test_iff (L-as-Unit settings limits) = beyond_iff (On settings.link)
@@ -183,13 +178,13 @@ pub wide_asks : WideIff
 wide_asks l = (λ x. (wide_iff l).0 ((test_iff l).0 x), λ w. (test_iff l).1 ((wide_iff l).1 w))
 
 -- and asks for what 01's Wide names
-beyond_is : (a ask : Ask) → (beyond (Of a) ≡ Of ask) ↔ ((not (narrow_holds a) ≡ true) × (ask ≡ a))
+beyond_is : (a ask : Ask) → (beyond (Some a) ≡ Some ask) ↔ ((not (narrow_holds a) ≡ true) × (ask ≡ a))
 unfolding beyond
 beyond_is a ask = go (narrow_holds a)
   where
-    go : (b : Bool) → (cond b Nothing (Of a) ≡ Of ask) ↔ ((not b ≡ true) × (ask ≡ a))
+    go : (b : Bool) → (cond b None (Some a) ≡ Some ask) ↔ ((not b ≡ true) × (ask ≡ a))
     go true = (λ e. absurd (nothing_asked ask e), λ x. absurd (false≢true x.0))
-    go false = (λ e. (refl, cc), λ x. ap Of (sym x.1))
+    go false = (λ e. (refl, cc), λ x. ap Some (sym x.1))
 
 pub asks_iff : AsksIff
 unfolding beyond ask_of too_wide
@@ -205,12 +200,12 @@ asks_iff (Vc u v w target class outvpi outvci) ask =
     (λ e. let x = (beyond_is (Out outvpi) ask).0 e in ((wide_iff (Vc u v w target class outvpi outvci)).0 x.0, x.1), λ y. (beyond_is (Out outvpi) ask).1 ((wide_iff (Vc u v w target class outvpi outvci)).1 y.0, y.1))
 asks_iff (Mc u session) ask = (λ e. absurd (nothing_asked ask e), λ z. absurd z)
 
-asks_not : (l : Line) → (IsWide l → ⊥) → beyond (ask_of l) ≡ Nothing
+asks_not : (l : Line) → (IsWide l → ⊥) → beyond (ask_of l) ≡ None
 asks_not l n = go (beyond (ask_of l)) refl
   where
-    go : (a : Asking) → beyond (ask_of l) ≡ a → a ≡ Nothing
-    go (Of ask) e = absurd (n ((wide_asks l).0 (ask, e)))
-    go Nothing e = refl
+    go : (a : Option Ask) → beyond (ask_of l) ≡ a → a ≡ None
+    go (Some ask) e = absurd (n ((wide_asks l).0 (ask, e)))
+    go None e = refl
 
 -- D. none of the lines, and the first of them
 no_wide : (told : List Line) → NoneWide told → wide_of told ≡ []
@@ -224,10 +219,10 @@ unfolding wide_of
 more_wide [] told = ([], sym (append-nil (wide_of told)))
 more_wide (l ∷ after) told =
     let ys = more_wide after told in
-    let a = asked_at (length (after ++ told) + 1) (Read l) (beyond (ask_of l)) in
+    let a = asked_at (length (after ++ told) + 1) (Ok l) (beyond (ask_of l)) in
     (ys.0 ++ a, ap (λ x. x ++ a) ys.1 ∙ append_assoc (wide_of told) ys.0 a)
 
-alone : (before : List Line) (l : Line) (ask : Ask) → NoneWide before → beyond (ask_of l) ≡ Of ask → wide_of (l ∷ before) ≡ record { number = length before + 1; reading = Read l; ask = ask } ∷ []
+alone : (before : List Line) (l : Line) (ask : Ask) → NoneWide before → beyond (ask_of l) ≡ Some ask → wide_of (l ∷ before) ≡ record { number = length before + 1; reading = Ok l; ask = ask } ∷ []
 unfolding wide_of asked_at
 alone before l ask n e = rw (no_wide before n, e)
 
@@ -235,7 +230,7 @@ first_wide : (told : List Line) (line : ℕ) → FirstWide told line → (a : As
 first_wide told line f =
     let asks = (wide_asks f.it).1 f.wide in
     let ys = more_wide f.after (f.it ∷ f.before) in (
-      record { number = length f.before + 1; reading = Read f.it; ask = asks.0 },
+      record { number = length f.before + 1; reading = Ok f.it; ask = asks.0 },
       ys.0,
       ap wide_of f.all ∙ ys.1 ∙ ap (λ x. x ++ ys.0) (alone f.before f.it asks.0 f.none_before asks.1),
       sym f.counted,
@@ -293,21 +288,21 @@ wide_fault memory told l (twice a n) = absurd (omega arith)
 wide_fault memory told l (wide c w n) = w
 wide_fault memory told l (room x n) = absurd (omega arith)
 
-wide_line : (memory : List ℕ) (told : List Line) (bytes : List ℕ) (ended : Bool) → Condition Narrow memory told bytes ended 5 → (l : Line) × (reading_of bytes ended ≡ Read l) × IsWide l
+wide_line : (memory : List ℕ) (told : List Line) (bytes : List ℕ) (ended : Bool) → Condition Narrow memory told bytes ended 5 → (l : Line) × (reading_of bytes ended ≡ Ok l) × IsWide l
 wide_line memory told bytes ended (not_ended e n) = absurd (omega arith)
 wide_line memory told bytes ended (words_of_none h n) = absurd (omega arith)
 wide_line memory told bytes ended (fault l e r w f) =
     (l, ap (reading_of bytes) e ∙ (reads_iff bytes l).1 (r, w), wide_fault memory told l f)
 
-first_asks : (told : List Line) (l : Line) (ask : Ask) (after : List Reading) → NoneWide told → beyond (ask_of l) ≡ Of ask → asks_in 1 (read_then told (Read l ∷ after)) ≡ record { number = length told + 1; reading = Read l; ask = ask } ∷ asks_in (length told + 1 + 1) after
+first_asks : (told : List Line) (l : Line) (ask : Ask) (after : List Reading) → NoneWide told → beyond (ask_of l) ≡ Some ask → asks_in 1 (read_then told (Ok l ∷ after)) ≡ record { number = length told + 1; reading = Ok l; ask = ask } ∷ asks_in (length told + 1 + 1) after
 unfolding asks_in asked asked_at
-first_asks told l ask after n e = told_asks told (Read l ∷ after) ∙ rw (no_wide told n, e)
+first_asks told l ask after n e = told_asks told (Ok l ∷ after) ∙ rw (no_wide told n, e)
 
 named_at : (text memory : List ℕ) (line : ℕ) → AtLine Narrow text memory 5 line → (w : Wide) × (rest : List Wide) × (wide_lines text ≡ w ∷ rest) × (w.number ≡ line)
 named_at text memory line a =
     let x = wide_line memory a.before a.bytes a.ended a.faulty in
     let asks = (wide_asks x.0).1 x.2 in
-    let r = (line_read_iff text a.before (Read x.0)).1 (record { ranged = a.ranged; bytes = a.bytes; ended = a.ended; here = a.it; read = x.1 }) in
+    let r = (line_read_iff text a.before (Ok x.0)).1 (record { ranged = a.ranged; bytes = a.bytes; ended = a.ended; here = a.it; read = x.1 }) in
     let all = text_asks text ∙ ap (asks_in 1) r.1 ∙ first_asks a.before x.0 asks.0 r.0 (none_wide memory a.before a.faultless) asks.1 in
     let y = map_first text (wide_lines text) _ _ all in
     (y.0, y.1, y.2, y.3 ∙ sym a.counted)

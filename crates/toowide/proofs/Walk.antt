@@ -1,6 +1,7 @@
 -- The lines of a text from a place on: this one, and those from the next on. Assumes nothing.
+use Rattle.std.specs.Prelude.{Option, Some, None}
 use mathlib.Core.Path.{◌≡◌, refl, sym, ap, ap₂, ◌∙◌}
-use mathlib.Core.Bool.{Bool, true, false, false≢true}
+use mathlib.Core.Bool.{Bool, true, false}
 use mathlib.Core.List.{List, [], ◌∷◌}
 use Prim.Native.Nat.{ℕ, ◌+◌, ◌-◌, ◌<◌, ◌≤◌}
 use native.Mathlib.Omega.{arith}
@@ -14,8 +15,6 @@ use Rattle.line.specs.Lines.{reading_of}
 use Rattle.meaning.proofs.Grown.{decide}
 use Rattle.toowide.specs.Asks.{asked}
 use Rattle.toowide.specs.Listing.{ended, over, found_at}
-use Rattle.toowide.specs.declared.Asking.{Asking}
-use Rattle.toowide.specs.declared.Asking.TheVariants.{Of, Nothing}
 use Rattle.toowide.specs.declared.Next.{Next}
 
 some_ended : (ps : List (List ℕ)) → 0 < length ps → ended ps ≡ true
@@ -24,15 +23,15 @@ some_ended [] h = absurd (omega arith)
 some_ended (p ∷ ps) h = refl
 
 -- a line that no newline ended asks nothing
-pub open_nothing : (p : List ℕ) → asked (reading_of p false) ≡ Nothing
+pub open_nothing : (p : List ℕ) → asked (reading_of p false) ≡ None
 unfolding asked reading_of
 open_nothing p = refl
 
-pub asks_ended : (p : List ℕ) (b : Bool) (ask : Ask) → asked (reading_of p b) ≡ Of ask → b ≡ true
+pub asks_ended : (p : List ℕ) (b : Bool) (ask : Ask) → asked (reading_of p b) ≡ Some ask → b ≡ true
 asks_ended p true ask e = refl
 asks_ended p false ask e = let z : ◌≡◌ {A = ℕ} 0 1 = cc (open_nothing p) in absurd (omega arith)
 
-module _ {R : Type 0} (each : Asking → ℕ → ℕ → ℕ → R → R) (none : R) (skip : (n start end : ℕ) (rest : R) → each Nothing n start end rest ≡ rest) where
+module _ {R : Type 0} (each : Option Ask → ℕ → ℕ → ℕ → R → R) (none : R) (skip : (n start end : ℕ) (rest : R) → each None n start end rest ≡ rest) where
   one : (n from e : ℕ) (p : List ℕ) (ps : List (List ℕ)) (b : Bool) → ended ps ≡ b → from + length p ≡ e → over each none n from (p ∷ ps) ≡ each (asked (reading_of p b)) n from e (over each none (n + 1) (e + 1) ps)
   unfolding over
   one n from e p ps b h k = ap₂ (λ b e. each (asked (reading_of p b)) n from e (over each none (n + 1) (e + 1) ps)) h k
@@ -65,6 +64,6 @@ module _ {R : Type 0} (each : Asking → ℕ → ℕ → ℕ → R → R) (none 
         ap (over each none n from) (split_last 10 text from e q (ltb-false e (length text) t)) ∙ one n from e line [] (ltb e (length text)) (sym t) ends
         ∙ ap (each (asked (reading_of line (ltb e (length text)))) n from e) (sym (no_line text (n + 1) (e + 1) past)))
 
-pub found_skip : (n start end : ℕ) (rest : Next) → found_at Nothing n start end rest ≡ rest
+pub found_skip : (n start end : ℕ) (rest : Option Next) → found_at None n start end rest ≡ rest
 unfolding found_at
 found_skip n start end rest = refl

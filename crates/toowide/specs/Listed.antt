@@ -1,21 +1,17 @@
 -- What is listed of a table that the wide card takes: exactly its lines of 01's Wide, in order. Assumes nothing.
-use Rattle.std.specs.Prelude.{ℕ, ◌+◌, ◌-◌, ◌<◌, ◌≡◌, true, List, [], ◌∷◌, ◌++◌, map, ◌↔◌, length, take, drop, Ok}
+use Rattle.std.specs.Prelude.{ℕ, ◌+◌, ◌-◌, ◌<◌, ◌≡◌, true, List, [], ◌∷◌, ◌++◌, map, ◌↔◌, length, take, drop, Ok, Option, Some, None}
 use Rattle.header.specs.declared.Link.TheVariants.{Nni}
 use Rattle.card.specs.declared.Ask.{Ask}
 use Rattle.card.specs.declared.Ask.TheVariants.{Bus as A-as-Bus, On, Out}
 use Rattle.card.specs.declared.Card.TheVariants.{Narrow, Wide as W}
-use Rattle.line.specs.Lines.{reading_of}
+use Rattle.line.specs.Lines.{Reading, reading_of}
 use Rattle.line.specs.declared.Line.{Line}
 use Rattle.line.specs.declared.Line.TheVariants.{Bus, Unit as L-as-Unit, Vp, Drop, Page, Vc, Mc}
-use Rattle.line.specs.declared.Reading.{Reading}
-use Rattle.line.specs.declared.Reading.TheVariants.{Good}
 use Rattle.table.specs.Load.{load}
 use Rattle.promise.specs.Refusals.{Accepts}
 use Rattle.promise.specs.Says.{IsWide}
 use Rattle.toowide.specs.Asks.{ask_of, beyond}
 use Rattle.toowide.specs.Listing.{Wide, wide_lines, following}
-use Rattle.toowide.specs.declared.Asking.{Asking}
-use Rattle.toowide.specs.declared.Asking.TheVariants.{Of, Nothing}
 use Rattle.table.specs.Loading.{refusal_of}
 
 -- who asks for the next one until there is none gets the list
@@ -33,17 +29,17 @@ abbrev pub asks_at : List ℕ → Wide → Asks
 asks_at text w = record { number = w.number; reading = reading_of (take (w.end - w.start) (drop w.start text)) true; ask = w.ask }
 
 -- of lines, the latest first, those that ask for too much, in their order, counted from 1
-unfoldable pub asked_at : ℕ → Reading → Asking → List Asks
-asked_at number reading (Of ask) = record { number = number; reading = reading; ask = ask } ∷ []
-asked_at number reading Nothing = []
+unfoldable pub asked_at : ℕ → Reading → Option Ask → List Asks
+asked_at number reading (Some ask) = record { number = number; reading = reading; ask = ask } ∷ []
+asked_at number reading None = []
 
 unfoldable pub wide_of : List Line → List Asks
 wide_of [] = []
-wide_of (l ∷ told) = wide_of told ++ asked_at (length told + 1) (Good l) (beyond (ask_of l))
+wide_of (l ∷ told) = wide_of told ++ asked_at (length told + 1) (Ok l) (beyond (ask_of l))
 
 -- a line asks for too much exactly if it is one of 01's Wide: "`bus` 32, `nni`, or outgoing VPI above 255"
 abbrev pub WideIff : Type 0
-WideIff = (l : Line) → ((ask : Ask) × (beyond (ask_of l) ≡ Of ask)) ↔ IsWide l
+WideIff = (l : Line) → ((ask : Ask) × (beyond (ask_of l) ≡ Some ask)) ↔ IsWide l
 
 -- and what it asks is what 01's Wide names of it
 abbrev pub Names : Line → Ask → Type 0
@@ -56,7 +52,7 @@ Names (Vc a b c target class outvpi outvci) ask = (255 < outvpi) × (ask ≡ Out
 Names (Mc a session) ask = ⊥
 
 abbrev pub AsksIff : Type 0
-AsksIff = (l : Line) (ask : Ask) → (beyond (ask_of l) ≡ Of ask) ↔ Names l ask
+AsksIff = (l : Line) (ask : Ask) → (beyond (ask_of l) ≡ Some ask) ↔ Names l ask
 
 -- of a text that the wide card takes
 module _ (text memory : List ℕ) (store rows : ℕ) (told : List Line) where

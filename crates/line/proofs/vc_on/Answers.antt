@@ -1,22 +1,18 @@
-use mathlib.Core.Path.{sym, ap, ◌∙◌}
-use Rattle.line.specs.Lines.{vc_on}
-use Rattle.line.specs.Ranged.{ranged}
+use Rattle.std.proofs.Common.{arith}
+use Rattle.std.proofs.lemmas.Grind.{common_steps}
+use Rattle.text.proofs.Split.{after_fields}
+use Rattle.line.specs.Lines.{vc_on, way_of}
 use Rattle.line.proofs.UnitRests.{fourth_fields}
-use Rattle.line.proofs.Rests.{vc_way_rest}
 use Rattle.line.proofs.vc_on.Goals as goal
 
-pub returns-in-NoNum : goal.returns-in-NoNum
-unfolding vc_on
-returns-in-NoNum c = simp (sym c.number_at.ensures ∙ c.in-NoNum.is)
+pub returns-in_err-outvci : goal.returns-in_err-outvci
+unfolding vc_on way_of
+returns-in_err-outvci c =
+    let eighth = fourth_fields _ _ _ _ _ c.after-3.ensures c.after-2.ensures c.after.ensures c.after-fifth.ensures 0 in
+    grind (arith, common_steps, after_fields)
 
-pub returns-in-Is-number_at : goal.returns-in-Is-number_at
-unfolding vc_on
-returns-in-Is-number_at c = simp (sym c.number_at.ensures ∙ c.in-Is.is, sym (vc_way_rest _ _ c.after-fifth.ensures c.way_of.ensures) ∙ c.in-To.is, sym (c.number_at-in-To.ensures ∙ ap (ranged _ _ _) (fourth_fields _ _ _ _ _ c.after-in-To-2.ensures c.after-in-To.ensures c.after.ensures c.after-fifth.ensures 0)) ∙ c.in-Is-number_at.is)
-
-pub returns-in-NoNum-number_at : goal.returns-in-NoNum-number_at
-unfolding vc_on
-returns-in-NoNum-number_at c = simp (sym c.number_at.ensures ∙ c.in-Is.is, sym (vc_way_rest _ _ c.after-fifth.ensures c.way_of.ensures) ∙ c.in-To.is, sym (c.number_at-in-To.ensures ∙ ap (ranged _ _ _) (fourth_fields _ _ _ _ _ c.after-in-To-2.ensures c.after-in-To.ensures c.after.ensures c.after-fifth.ensures 0)) ∙ c.in-NoNum-number_at.is)
-
-pub returns-in-NoWay : goal.returns-in-NoWay
-unfolding vc_on
-returns-in-NoWay c = simp (sym c.number_at.ensures ∙ c.in-Is.is, sym (vc_way_rest _ _ c.after-fifth.ensures c.way_of.ensures) ∙ c.in-NoWay.is)
+pub returns : goal.returns
+unfolding vc_on way_of
+returns c =
+    let eighth = fourth_fields _ _ _ _ _ c.after-3.ensures c.after-2.ensures c.after.ensures c.after-fifth.ensures 0 in
+    grind (arith, common_steps, after_fields)

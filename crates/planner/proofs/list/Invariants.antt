@@ -1,8 +1,8 @@
 use Rattle.std.proofs.Common.{◌+◌, ◌-◌, ◌≤◌, length}
 use Rattle.planner.proofs.list.Given as goal
 
-abbrev pub invariant-loop-from : goal.invariant-loop-from
-invariant-loop-from g l = l.lines ≤ l.from
+abbrev pub invariant-loop-next : goal.invariant-loop-next
+invariant-loop-next g l = l.lines ≤ l.from
 
-abbrev pub decreases-loop-from : goal.decreases-loop-from
-decreases-loop-from g l = length l.text + 1 - l.from
+abbrev pub decreases-loop-next : goal.decreases-loop-next
+decreases-loop-next g l = length l.text + 1 - l.from

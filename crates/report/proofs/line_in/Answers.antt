@@ -1,7 +1,6 @@
 use mathlib.Core.Path.{◌≡◌, refl, sym, ◌∙◌}
 use Prim.Native.Nat.{◌-◌}
 use native.Mathlib.Nat.{sub_self}
-use Rattle.text.specs.Text.{at}
 use Rattle.text.proofs.Split.{field_is, field_next, field_none}
 use native.Mathlib.Omega.{arith}
 use Rattle.report.proofs.line_in.Goals as goal

@@ -1,12 +1,8 @@
 use borrow.Author.Tests.{ne_eqb}
-use Rattle.text.proofs.Splices.{nothing, then}
+use Rattle.text.proofs.Splices.{then}
 use Rattle.report.specs.Messages.{showing}
 use native.Mathlib.Omega.{arith}
 use Rattle.report.proofs.put_line.Goals as goal
-
-pub returns-then-line-eq0 : goal.returns-then-line-eq0
-unfolding showing
-returns-then-line-eq0 c = (rw c.if-line-eq0.true (nothing _ _), omega arith)
 
 pub returns : goal.returns
 unfolding showing

@@ -1,27 +1,29 @@
-use mathlib.Core.Path.{◌≡◌, refl}
-use Prim.Native.Nat.{◌<◌, ◌-◌, min}
-use lib.ListN.{length}
+use mathlib.Core.Path.{refl, ap, ◌∙◌}
+use Prim.Native.Nat.{◌<◌, ◌≤◌}
+use lib.ListN.{length, take}
+use Rattle.std.proofs.lemmas.List.{length-take, take_all, take_min}
 use Rattle.text.proofs.Splices.{then}
-use Rattle.report.specs.Messages.{one_shown}
-use Rattle.report.proofs.Showing.{none_shown, one_shown_lem, all_shown}
+use Rattle.report.proofs.Showing.{none_shown, one_shown_lem}
 use native.Mathlib.Omega.{arith}
 use borrow.Author.Rules.{rules}
 use Rattle.report.proofs.put_shown.Goals as goal
 
-pub loop-i-init : goal.loop-i-init
-loop-i-init c = (omega arith, omega arith, refl, none_shown c.args.out.now c.args.at)
+pub loop-b-init : goal.loop-b-init
+loop-b-init c = (omega arith, refl, none_shown c.args.out.now c.args.at)
 
-pub loop-i-preserved : goal.loop-i-preserved
-loop-i-preserved c =
-    let l = c in
-    let a = c.args in
-    let h : l.loop-i.i < length a.line.now = omega (arith, c.most-n.ensures) in
-    let e = rw c.shown_byte.ensures at c.put-next.ensures in
-    (omega arith, omega arith, search rules, rw (one_shown_lem a.line.now l.loop-i.i h) (then _ _ _ _ _ _ _ _ l.loop-i.invariant.3 e (omega arith)))
+pub loop-b-preserved : goal.loop-b-preserved
+loop-b-preserved c =
+    let i = c.loop-b.b-index in
+    let line = c.args.line.now in
+    let all = ap (λ n. take n line) c.min.ensures ∙ take_min 80 line in
+    let h : i < length (take 80 line) = rw all at c.loop-b-test.true in
+    let e = rw (c.shown_byte.ensures, all) at c.put-next.ensures in
+    (omega arith, search rules, rw (one_shown_lem (take 80 line) i h) (then _ _ _ _ _ _ _ _ c.loop-b.invariant.2 e (omega (arith, length-take 80 line))))
 
 pub returns : goal.returns
 returns c =
-    let l = c.loop-i in
-    let a = c.args in
-    let n : l.i ≡ min (length a.line.now) 80 = omega (arith, c.most-n.ensures) in
-    (then _ _ _ _ _ _ _ _ (rw (all_shown a.line.now l.i n) at l.invariant.3) c.put_cut.ensures.0 (omega arith), omega arith)
+    let line = c.args.line.now in
+    let all = ap (λ n. take n line) c.min.ensures ∙ take_min 80 line in
+    let h : length (take 80 line) ≤ c.loop-b.b-index = rw all at c.loop-b-test.false in
+    let w = rw (take_all c.loop-b.b-index (take 80 line) h) at c.loop-b.invariant.2 in
+    (then _ _ _ _ _ _ _ _ w c.put_cut.ensures.0 (omega (arith, length-take 80 line, length-take c.min.result line)), omega (arith, length-take c.min.result line))

@@ -1,12 +1,11 @@
+use Rattle.std.specs.Prelude.{None}
 use mathlib.Core.Path.{refl, sym, ap, ◌∙◌}
-use Prim.Native.Nat.{◌-◌}
 use lib.ListN.{length}
 use borrow.Author.Tests.{ltb-true}
 use Rattle.text.specs.Text.{fields_of}
 use Rattle.text.proofs.Split.{field_is}
 use Rattle.toowide.specs.Asks.{asked}
 use Rattle.toowide.specs.Listing.{found_at}
-use Rattle.toowide.specs.declared.Next.TheVariants.{None}
 use Rattle.toowide.proofs.Walk.{step, no_line, asks_ended, found_skip}
 use native.Mathlib.Omega.{arith}
 use Rattle.toowide.proofs.next_wide.Goals as goal
@@ -35,13 +34,13 @@ overflow_add-start c = omega (arith, c.line_at-stretch.ensures.1)
 pub loop-start-smaller : goal.loop-start-smaller
 loop-start-smaller c = omega (arith, c.line_at-stretch.ensures.0)
 
-pub returns-in-Of : goal.returns-in-Of
+pub returns-in-Some : goal.returns-in-Some
 unfolding found_at
-returns-in-Of c =
+returns-in-Some c =
     let l = c in
     let t = l.args.text.now in
     let e = c.line_at-stretch in
-    let asks = sym (c.too_much.ensures ∙ ap asked c.read-reading.ensures) ∙ c.in-Of.is in
+    let asks = sym (c.too_much.ensures ∙ ap asked c.read-reading.ensures) ∙ c.in-Some.is in
     let ended = asks_ended _ _ _ asks in
     (sym (l.loop-start.invariant.1 ∙ step found_at None found_skip t l.loop-start.start e.result.end e.ensures.0 l.loop-start.before ∙ rw asks), (l.loop-start.invariant.0, omega (arith, e.ensures.0), ltb-true _ _ ended))
 
