@@ -55,10 +55,7 @@ fn load(card: Card, text: &[u8], memory: &mut [u8; 262144], state: &mut [u8; 204
 // Whether the wide card takes a table.
 fn wide_takes(text: &[u8], memory: &mut [u8; 262144]) -> bool {
     let mut state = [0u8; 2048];
-    match load(Card::Wide, text, memory, &mut state) {
-        Ok(_) => true,
-        Err(_) => false,
-    }
+    load(Card::Wide, text, memory, &mut state).is_ok()
 }
 
 // One line that asks for too much.
