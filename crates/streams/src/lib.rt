@@ -55,6 +55,28 @@ pub fn get<R: Read>(
     }
 }
 
+// Reads until the input ends or the buffer is full: how many bytes came to its front. Where a read fails that is said, and there is no number.
+pub fn get_all<R: Read>(
+    rt: &(impl Eprint + Alloc),
+    from: &mut R,
+    what: &str,
+    buffer: &mut [u8],
+) -> Option<usize>
+    ensures in_bounds { IfSome result (λ n. n ≤ length buffer.new) }
+    ensures bytes { IfSome result (λ n. Consumes (R.remaining from.old) (R.remaining from.new) (take n buffer.new)) }
+    ensures end { IfSome result (λ n. n < length buffer.new → IsAtEnd (R.remaining from.new)) }
+{
+    let mut n: usize = 0;
+    while n < buffer.len() {
+        let more = get(rt, from, what, &mut buffer[n..])?;
+        if more == 0 {
+            return Some(n);
+        }
+        n += more;
+    }
+    Some(n)
+}
+
 // The program's first argument, to the front of the word; how long it is, 0 where there is none or it is longer.
 pub fn argument(rt: &impl Env, word: &mut [u8]) -> usize
     ensures { result ≤ length word.new }
