@@ -2,20 +2,13 @@
 // then its verdict; where it cannot read or write, it ends without one.
 #![tactic(auto)]
 
-ghost use Rattle.std.specs.Prelude.{◌≡◌, ◌-◌, ◌≤◌, length};
+ghost use Rattle.std.specs.Prelude.{◌≤◌, length, IfSome};
 
 use card::Card;
 use std::env::Env;
 use std::io::Read;
 use table::Outcome;
 use toowide::Next;
-
-// The input: so many bytes of it are kept, and whether nothing failed.
-#[derive(Clone, Copy)]
-struct Input {
-    kept: usize,
-    good: bool,
-}
 
 // Which cards are asked for.
 #[derive(Clone, Copy)]
@@ -175,12 +168,6 @@ fn asked(rt: &impl Env) -> Cards {
 // How far an input is read on that is too long to be a table: it may have no end.
 const FURTHER: usize = 16777216;
 
-fn less(left: usize, n: usize) -> usize
-    ensures { result ≡ left - n }
-{
-    if n < left { left - n } else { 0 }
-}
-
 // Reads on, so that who writes the input is not stopped.
 fn read_on(rt: &(impl Eprint + Alloc), from: &mut impl Read) -> bool {
     let mut left = FURTHER;
@@ -192,35 +179,20 @@ fn read_on(rt: &(impl Eprint + Alloc), from: &mut impl Read) -> bool {
         if n == 0 {
             return true;
         }
-        left = less(left, n);
+        left = left.saturating_sub(n);
     }
     true
 }
 
-// Reads the input and keeps what there is room for, which is more than a table may have.
-fn read(rt: &(impl Eprint + Alloc), from: &mut impl Read, text: &mut [u8]) -> Input
-    ensures { result.kept ≤ length text.new }
+// Reads the input and keeps what there is room for, which is more than a table may have: how many bytes are kept, if nothing failed.
+fn read(rt: &(impl Eprint + Alloc), from: &mut impl Read, text: &mut [u8]) -> Option<usize>
+    ensures { IfSome result (λ n. n ≤ length text.new) }
 {
-    let mut n: usize = 0;
-    while n < text.len() {
-        let Some(more) = streams::get(rt, from, "standard input", &mut text[n..]) else {
-            return Input {
-                kept: n,
-                good: false,
-            };
-        };
-        if more == 0 {
-            return Input {
-                kept: n,
-                good: true,
-            };
-        }
-        n += more;
+    let n = streams::get_all(rt, from, "standard input", text)?;
+    if n == text.len() && !read_on(rt, from) {
+        return None;
     }
-    Input {
-        kept: n,
-        good: read_on(rt, from),
-    }
+    Some(n)
 }
 
 // What comes of a table on the cards that are asked for.
@@ -240,10 +212,8 @@ fn main(rt: HostRuntime) {
     // one byte more than a text may have tells a longer one
     let mut text = [0u8; 65537];
     let mut from = rt.stdin();
-    let input = read(&rt, &mut from, &mut text);
-    if !input.good {
+    let Some(n) = read(&rt, &mut from, &mut text) else {
         return;
-    }
-    let n = input.kept;
+    };
     check(&rt, asked(&rt), &text[..n]);
 }
