@@ -258,7 +258,7 @@ pub fn count_line(s: &[u8]) -> Option<Command>
     unit_at(s, 2).map(Command::Count)
 }
 
-// A line that calls for an event, by its word and how many fields it has.
+// A line that calls for an event, by its word and how many fields it has (no `match` on its bytes: `event::read` says why).
 #[tactic(auto, unfolding(crate::specs::Commands::event_line))]
 fn event_line(s: &[u8], word: &[u8], fields: usize) -> Option<Command>
     ensures { result ≡ event_line s.now word.now fields }

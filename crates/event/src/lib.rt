@@ -68,7 +68,7 @@ fn arrive_event(unit: &[u8], header: &[u8], byte: &[u8]) -> Option<Event>
     })
 }
 
-// The event that a line says, its newline left out.
+// The event that a line says, its newline left out. A `match` on the bytes of four words would leave 26 goals, one for each way to be none of them.
 #[tactic(auto, unfolding(crate::specs::Events::event_in))]
 pub fn read(text: &[u8]) -> Option<Event>
     ensures { result ≡ event_of text.now }

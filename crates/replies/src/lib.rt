@@ -16,7 +16,7 @@ use answer::{Answer, Arrival, Counters, Hearing};
 use arbiter::NOBODY;
 use event::Event;
 
-// Writes a tab and a text.
+// Writes a tab and a text. A place goes beside the buffer here and below, as in the writers of `text`, whose contracts other rooms rest on.
 pub fn put_field(out: &mut [u8], at: usize, text: &[u8]) -> usize
     requires { at + 1 + length text.now ≤ length out.old }
     ensures { Wrote out.old at (tabbed text.now) result out.new }
