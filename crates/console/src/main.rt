@@ -202,9 +202,7 @@ fn set_up(
         Command::Lend { bank, length, byte } => {
             lend_bank(w, memory, store, bank, length as usize, byte)
         }
-        Command::Poke { bank, at, .. } => {
-            poke_bank(w, memory, store, bank, at as usize, bytes)
-        }
+        Command::Poke { bank, at, .. } => { poke_bank(w, memory, store, bank, at as usize, bytes) }
         Command::PokeState { at, .. } => {
             w.good = poke(state, 2048, at as usize, bytes);
             w
@@ -218,9 +216,8 @@ fn wanted(command: Command) -> usize
     ensures { result ≤ 1000 }
 {
     match command {
-        Command::Frame(length)
-        | Command::Take { length, .. }
-        | Command::Collect { length, .. } => usize::from(length).min(1000),
+        Command::Frame(length) | Command::Take { length, .. } | Command::Collect { length, .. } =>
+            usize::from(length).min(1000),
         _ => 0,
     }
 }
