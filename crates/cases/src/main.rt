@@ -2,238 +2,214 @@
 #![tactic(auto)]
 
 use answer::{Answer, Arrival, Counters, Hearing};
+use arbiter::NOBODY;
 use bus::Target;
 use card::Card;
-use std::io;
+use std::{fmt, io};
 
-// The counter rows; an array by itself cannot take a call's result.
+// A unit's number, or `-` for nobody.
 #[derive(Clone, Copy)]
-struct Tally {
+struct Who(u8);
+
+impl fmt::Display for Who {
+    fn fmt<W: fmt::Write>(&self, f: &mut fmt::Formatter<W>) -> fmt::Result {
+        if self.0 == NOBODY {
+            write!(f, "-")
+        } else {
+            write!(f, "{}", self.0)
+        }
+    }
+}
+
+fn arrival_word(fate: Arrival) -> &'static str {
+    match fate {
+        Arrival::Hec => "hec",
+        Arrival::Ignored => "ignored",
+        Arrival::Misrouted => "misrouted",
+        Arrival::Inletfull => "inletfull",
+        Arrival::Queued => "queued",
+    }
+}
+
+fn hearing_word(fate: Hearing) -> &'static str {
+    match fate {
+        Hearing::Damaged => "damaged",
+        Hearing::Other => "other",
+        Hearing::Wide => "wide",
+        Hearing::Full => "full",
+        Hearing::Clp => "clp",
+        Hearing::Queued => "queued",
+    }
+}
+
+// An answer as it is printed.
+#[derive(Clone, Copy)]
+struct Said(Answer);
+
+impl fmt::Display for Said {
+    fn fmt<W: fmt::Write>(&self, f: &mut fmt::Formatter<W>) -> fmt::Result {
+        match self.0 {
+            Answer::Loaded(used) => write!(f, "table ok {used}"),
+            Answer::Unloaded { number, line } => write!(f, "table refused {number} {line}"),
+            Answer::Refused(number) => write!(f, "refused {number}"),
+            Answer::Arrived(fate) => write!(f, "arrive {}", arrival_word(fate)),
+            Answer::Framed {
+                number,
+                sender,
+                granted,
+                copies,
+            } => write!(
+                f,
+                "frame {number} {} {} {copies}",
+                Who(sender),
+                Who(granted)
+            ),
+            Answer::Heard(fate) => write!(f, "hear {}", hearing_word(fate)),
+            Answer::Taken => write!(f, "take"),
+            Answer::Empty => write!(f, "take empty"),
+            Answer::Handed => write!(f, "hand"),
+        }
+    }
+}
+
+// What the card keeps of the shelf, and the 40 counter rows.
+#[derive(Drop)]
+struct Shelf {
+    state: [u8; 2048],
+    memory: [u8; 16384],
+    store: [u8; 16384],
     rows: [Counters; 40],
 }
 
-fn say(rt: &impl Print, text: &str) -> io::Result<()> {
-    rt.print(text)
-}
-
-fn say_number(rt: &impl Print, n: u64) -> io::Result<()> {
-    print!(rt; " {n}")
-}
-
-// A unit's number, or `-` for nobody.
-fn say_unit(rt: &impl Print, n: u8) -> io::Result<()> {
-    if n == 255 {
-        say(rt, " -")
-    } else {
-        say_number(rt, n as u64)
+// A shelf that no table was loaded on: its bytes are anything.
+fn unloaded() -> Shelf {
+    Shelf {
+        state: [7; 2048],
+        memory: [7; 16384],
+        store: [7; 16384],
+        rows: [Counters::zero(); 40],
     }
 }
 
-fn say_arrival(rt: &impl Print, fate: Arrival) -> io::Result<()> {
-    match fate {
-        Arrival::Hec => say(rt, " hec"),
-        Arrival::Ignored => say(rt, " ignored"),
-        Arrival::Misrouted => say(rt, " misrouted"),
-        Arrival::Inletfull => say(rt, " inletfull"),
-        Arrival::Queued => say(rt, " queued"),
+// The events on the wide card: what each answers.
+impl Shelf {
+    // The rows are kept; a field that is an array takes no other field's value but by a variable.
+    fn answered(&mut self, after: owned::After) -> Said {
+        let rows = after.rows;
+        self.rows = rows;
+        Said(after.answer)
+    }
+
+    fn load(&mut self, text: &[u8]) -> Said {
+        let after = owned::load(
+            Card::Wide,
+            text,
+            &mut self.memory,
+            &mut self.state,
+            &self.store,
+            self.rows,
+            40,
+        );
+        self.answered(after)
+    }
+
+    fn arrive(&mut self, unit: u8, cell: &[u8]) -> Said {
+        let after = owned::arrive(
+            Card::Wide,
+            &mut self.state,
+            &self.memory,
+            &mut self.store,
+            self.rows,
+            40,
+            unit,
+            cell,
+        );
+        self.answered(after)
+    }
+
+    fn frame(&mut self) -> Said {
+        let after = owned::frame(
+            Card::Wide,
+            &mut self.state,
+            &mut self.store,
+            self.rows,
+            40,
+            &mut [238; 57],
+        );
+        self.answered(after)
+    }
+
+    fn hear(&mut self, unit: u8, frame: &[u8]) -> Said {
+        let after = owned::hear(
+            Card::Wide,
+            &mut self.state,
+            &mut self.store,
+            self.rows,
+            40,
+            unit,
+            frame,
+        );
+        self.answered(after)
+    }
+
+    fn take(&mut self, unit: u8, buffer: &mut [u8; 53]) -> Said {
+        let after = owned::take(
+            Card::Wide,
+            &mut self.state,
+            &self.store,
+            self.rows,
+            40,
+            unit,
+            buffer,
+        );
+        self.answered(after)
+    }
+
+    fn count(&self, unit: u8) -> Counted {
+        owned::count(Card::Wide, &self.state, &self.store, self.rows, 40, unit)
     }
 }
 
-fn say_hearing(rt: &impl Print, fate: Hearing) -> io::Result<()> {
-    match fate {
-        Hearing::Damaged => say(rt, " damaged"),
-        Hearing::Other => say(rt, " other"),
-        Hearing::Wide => say(rt, " wide"),
-        Hearing::Full => say(rt, " full"),
-        Hearing::Clp => say(rt, " clp"),
-        Hearing::Queued => say(rt, " queued"),
-    }
+fn say(rt: &impl Print, said: Said) -> io::Result<()> {
+    println!(rt; "{said}")
 }
 
-fn say_answer(rt: &impl Print, answer: Answer) -> io::Result<()> {
-    match answer {
-        Answer::Loaded(used) => {
-            say(rt, "table ok")?;
-            say_number(rt, used as u64)
-        }
-        Answer::Unloaded { number, line } => {
-            say(rt, "table refused")?;
-            say_number(rt, number as u64)?;
-            say_number(rt, line as u64)
-        }
-        Answer::Refused(number) => {
-            say(rt, "refused")?;
-            say_number(rt, number as u64)
-        }
-        Answer::Arrived(fate) => {
-            say(rt, "arrive")?;
-            say_arrival(rt, fate)
-        }
-        Answer::Framed {
-            number,
-            sender,
-            granted,
-            copies,
-        } => {
-            say(rt, "frame")?;
-            say_number(rt, number as u64)?;
-            say_unit(rt, sender)?;
-            say_unit(rt, granted)?;
-            say_number(rt, copies as u64)
-        }
-        Answer::Heard(fate) => {
-            say(rt, "hear")?;
-            say_hearing(rt, fate)
-        }
-        Answer::Taken => say(rt, "take"),
-        Answer::Empty => say(rt, "take empty"),
-        Answer::Handed => say(rt, "hand"),
-    }
-}
-
-fn kept(after: owned::After) -> Tally {
-    let rows = after.rows;
-    Tally { rows }
-}
-
-// Prints the answer; the rows afterwards.
-fn settled(rt: &impl Print, after: owned::After) -> io::Result<Tally> {
-    let answer = after.answer;
-    say_answer(rt, answer)?;
-    say(rt, "\n")?;
-    Ok(kept(after))
-}
-
-fn load(
-    rt: &impl Print,
-    text: &[u8],
-    state: &mut [u8; 2048],
-    memory: &mut [u8],
-    store: &[u8],
-) -> io::Result<Tally> {
-    let after = owned::load(
-        Card::Wide,
-        text,
-        memory,
-        state,
-        store,
-        [Counters::zero(); 40],
-        40,
-    );
-    settled(rt, after)
-}
-
-fn arrive(
-    rt: &impl Print,
-    tally: Tally,
-    state: &mut [u8; 2048],
-    memory: &[u8],
-    store: &mut [u8],
-    unit: u8,
-    cell: &[u8],
-) -> io::Result<Tally> {
-    let rows = tally.rows;
-    settled(
-        rt,
-        owned::arrive(Card::Wide, state, memory, store, rows, 40, unit, cell),
+// Prints the answer, and the header, the check and the first payload byte of the cell.
+fn take(rt: &impl Print, shelf: &mut Shelf, unit: u8) -> io::Result<()> {
+    let mut cell = [238u8; 53];
+    let said = shelf.take(unit, &mut cell);
+    println!(rt;
+        "{said} {} {} {} {} {} {}",
+        cell[0], cell[1], cell[2], cell[3], cell[4], cell[5]
     )
-}
-
-fn frame(
-    rt: &impl Print,
-    tally: Tally,
-    state: &mut [u8; 2048],
-    store: &mut [u8],
-    buffer: &mut [u8],
-) -> io::Result<Tally> {
-    let rows = tally.rows;
-    settled(rt, owned::frame(Card::Wide, state, store, rows, 40, buffer))
-}
-
-fn hear(
-    rt: &impl Print,
-    tally: Tally,
-    state: &mut [u8; 2048],
-    store: &mut [u8],
-    unit: u8,
-    frame: &[u8],
-) -> io::Result<Tally> {
-    let rows = tally.rows;
-    settled(
-        rt,
-        owned::hear(Card::Wide, state, store, rows, 40, unit, frame),
-    )
-}
-
-fn say_small(rt: &impl Print, n: u32) -> io::Result<()> {
-    say_number(rt, n as u64)
-}
-
-fn say_byte(rt: &impl Print, n: u8) -> io::Result<()> {
-    say_number(rt, n as u64)
-}
-
-// The header, the check and the first payload byte.
-fn say_bytes(rt: &impl Print, buffer: [u8; 53]) -> io::Result<()> {
-    say_byte(rt, buffer[0])?;
-    say_byte(rt, buffer[1])?;
-    say_byte(rt, buffer[2])?;
-    say_byte(rt, buffer[3])?;
-    say_byte(rt, buffer[4])?;
-    say_byte(rt, buffer[5])?;
-    say(rt, "\n")
-}
-
-// Prints the header, the check and the first payload byte of the cell, or that there is none.
-fn take(
-    rt: &impl Print,
-    tally: Tally,
-    state: &mut [u8; 2048],
-    store: &[u8],
-    unit: u8,
-) -> io::Result<Tally> {
-    let rows = tally.rows;
-    let mut buffer = [238u8; 53];
-    let after = owned::take(Card::Wide, state, store, rows, 40, unit, &mut buffer);
-    let answer = after.answer;
-    say_answer(rt, answer)?;
-    say_bytes(rt, buffer)?;
-    Ok(kept(after))
 }
 
 fn say_counters(rt: &impl Print, c: Counters) -> io::Result<()> {
-    say(rt, "count")?;
-    say_small(rt, c.arrived)?;
-    say_small(rt, c.hec)?;
-    say_small(rt, c.ignored)?;
-    say_small(rt, c.misrouted)?;
-    say_small(rt, c.inletfull)?;
-    say_small(rt, c.sent)?;
-    say_small(rt, c.unheard)?;
-    say_small(rt, c.damaged)?;
-    say_small(rt, c.queued)?;
-    say_small(rt, c.full)?;
-    say_small(rt, c.clp)?;
-    say_small(rt, c.wide)?;
-    say_small(rt, c.taken)
+    let Counters {
+        arrived,
+        hec,
+        ignored,
+        misrouted,
+        inletfull,
+        sent,
+        unheard,
+        damaged,
+        queued,
+        full,
+        clp,
+        wide,
+        taken,
+    } = c;
+    println!(rt;
+        "count {arrived} {hec} {ignored} {misrouted} {inletfull} {sent} {unheard} {damaged} {queued} {full} {clp} {wide} {taken}"
+    )
 }
 
-fn count(
-    rt: &impl Print,
-    tally: Tally,
-    state: &[u8; 2048],
-    store: &[u8],
-    unit: u8,
-) -> io::Result<()> {
-    let rows = tally.rows;
-    match owned::count(Card::Wide, state, store, rows, 40, unit) {
-        Ok(c) => say_counters(rt, c)?,
-        Err(number) => {
-            say(rt, "count refused")?;
-            say_number(rt, number as u64)?;
-        }
+fn count(rt: &impl Print, shelf: &Shelf, unit: u8) -> io::Result<()> {
+    match shelf.count(unit) {
+        Ok(c) => say_counters(rt, c),
+        Err(number) => println!(rt; "count refused {number}"),
     }
-    say(rt, "\n")
 }
 
 // A line cell of this header and check, its payload one byte over and over.
@@ -265,87 +241,52 @@ fn frame_of(class: u8, header: u32) -> [u8; 57] {
 }
 
 // One step of a script, by its letter.
-fn step(
-    rt: &impl Print,
-    tally: Tally,
-    state: &mut [u8; 2048],
-    memory: &[u8],
-    store: &mut [u8],
-    letter: u8,
-) -> io::Result<Tally> {
+fn step(rt: &impl Print, shelf: &mut Shelf, letter: u8) -> io::Result<()> {
     match letter {
         // a good cell arrives at unit 0, one with a wrong check; at a unit that is not declared; one byte short
-        b'A' => arrive(
-            rt,
-            tally,
-            state,
-            memory,
-            store,
-            0,
-            &cell_of(5243408, 43, 165),
-        ),
-        b'B' => arrive(
-            rt,
-            tally,
-            state,
-            memory,
-            store,
-            0,
-            &cell_of(273678864, 79, 165),
-        ),
-        b'C' => arrive(
-            rt,
-            tally,
-            state,
-            memory,
-            store,
-            9,
-            &cell_of(5243408, 43, 165),
-        ),
-        b'D' => arrive(rt, tally, state, memory, store, 0, &[0; 52]),
+        b'A' => say(rt, shelf.arrive(0, &cell_of(5243408, 43, 165))),
+        b'B' => say(rt, shelf.arrive(0, &cell_of(273678864, 79, 165))),
+        b'C' => say(rt, shelf.arrive(9, &cell_of(5243408, 43, 165))),
+        b'D' => say(rt, shelf.arrive(0, &[0; 52])),
         // a frame
-        b'F' => frame(rt, tally, state, store, &mut [238; 57]),
+        b'F' => say(rt, shelf.frame()),
         // unit 0 hears a cell of each class with CLP 0, and with CLP 1
-        b'0' => hear(rt, tally, state, store, 0, &frame_of(0, 16)),
-        b'1' => hear(rt, tally, state, store, 0, &frame_of(1, 16)),
-        b'2' => hear(rt, tally, state, store, 0, &frame_of(2, 16)),
-        b'3' => hear(rt, tally, state, store, 0, &frame_of(3, 16)),
-        b'4' => hear(rt, tally, state, store, 0, &frame_of(0, 17)),
-        b'5' => hear(rt, tally, state, store, 0, &frame_of(1, 17)),
-        b'6' => hear(rt, tally, state, store, 0, &frame_of(2, 17)),
-        b'7' => hear(rt, tally, state, store, 0, &frame_of(3, 17)),
+        b'0' => say(rt, shelf.hear(0, &frame_of(0, 16))),
+        b'1' => say(rt, shelf.hear(0, &frame_of(1, 16))),
+        b'2' => say(rt, shelf.hear(0, &frame_of(2, 16))),
+        b'3' => say(rt, shelf.hear(0, &frame_of(3, 16))),
+        b'4' => say(rt, shelf.hear(0, &frame_of(0, 17))),
+        b'5' => say(rt, shelf.hear(0, &frame_of(1, 17))),
+        b'6' => say(rt, shelf.hear(0, &frame_of(2, 17))),
+        b'7' => say(rt, shelf.hear(0, &frame_of(3, 17))),
         // at an NNI, by VPI: to a unit that nobody declared, to all, to a UNI with VPI 256, dropped, without a record; VPI 0 with VCI 0
-        b'a' => arrive(rt, tally, state, memory, store, 0, &sound_cell(1048592)),
-        b'b' => arrive(rt, tally, state, memory, store, 0, &sound_cell(2097168)),
-        b'c' => arrive(rt, tally, state, memory, store, 0, &sound_cell(4194320)),
-        b'd' => arrive(rt, tally, state, memory, store, 0, &sound_cell(5242896)),
-        b'e' => arrive(rt, tally, state, memory, store, 0, &sound_cell(6291472)),
-        b'f' => arrive(rt, tally, state, memory, store, 0, &sound_cell(0)),
+        b'a' => say(rt, shelf.arrive(0, &sound_cell(1048592))),
+        b'b' => say(rt, shelf.arrive(0, &sound_cell(2097168))),
+        b'c' => say(rt, shelf.arrive(0, &sound_cell(4194320))),
+        b'd' => say(rt, shelf.arrive(0, &sound_cell(5242896))),
+        b'e' => say(rt, shelf.arrive(0, &sound_cell(6291472))),
+        b'f' => say(rt, shelf.arrive(0, &sound_cell(0))),
         // a frame of bad parity, one for another unit, 57 zero bytes
-        b'z' => hear(rt, tally, state, store, 0, &[1; 57]),
-        b'o' => hear(rt, tally, state, store, 3, &frame_of(1, 16)),
-        b'Z' => hear(rt, tally, state, store, 0, &[0; 57]),
+        b'z' => say(rt, shelf.hear(0, &[1; 57])),
+        b'o' => say(rt, shelf.hear(3, &frame_of(1, 16))),
+        b'Z' => say(rt, shelf.hear(0, &[0; 57])),
         // a cell is taken at units 3 and 0
-        b'S' => take(rt, tally, state, store, 3),
-        b'T' => take(rt, tally, state, store, 0),
-        _ => Ok(tally),
+        b'S' => take(rt, shelf, 3),
+        b'T' => take(rt, shelf, 0),
+        _ => Ok(()),
     }
 }
 
 // Loads a table, goes through a script, and counts units 0, 3 and 9.
 fn run(rt: &impl Print, text: &[u8], script: &[u8]) -> io::Result<()> {
-    let mut state = [7u8; 2048];
-    let mut memory = [7u8; 16384];
-    let mut store = [7u8; 16384];
-    let mut tally = load(rt, text, &mut state, &mut memory, &store)?;
-    let mut i: usize = 0;
-    while i < script.len() {
-        tally = step(rt, tally, &mut state, &memory, &mut store, script[i])?;
-        i += 1;
+    let mut shelf = unloaded();
+    say(rt, shelf.load(text))?;
+    for letter in script {
+        step(rt, &mut shelf, *letter)?;
     }
-    count(rt, tally, &state, &store, 0)?;
-    count(rt, tally, &state, &store, 3)?;
-    count(rt, tally, &state, &store, 9)
+    count(rt, &shelf, 0)?;
+    count(rt, &shelf, 3)?;
+    count(rt, &shelf, 9)
 }
 
 fn main(rt: HostRuntime) -> io::Result<()> {

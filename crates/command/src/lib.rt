@@ -1,113 +1,58 @@
 // A line of the console, read: what a field says; the lines that choose a card, lend, poke and show; those that call for an event; and the command.
 #![tactic(auto)]
 
-ghost use Rattle.std.specs.Prelude.{◌≡◌, get_or};
+ghost use Rattle.std.specs.Prelude.{◌≡◌, ◌≤◌, IfSome};
 ghost use Rattle.text.specs.Text.{fields_of};
-ghost use Rattle.command.specs.Fields.{place_in, number_in, unit_in, byte_in, span_in};
-ghost use Rattle.command.specs.SetUpLines.{card_line, lend_bank, lend_rows, lend_line, poke_bank, poke_state, poke_line, show_lent, show_unit, show_line};
+ghost use Rattle.command.specs.Fields.{number_in, unit_in, byte_in, span_in, bank_of, place_and_span, unit_and_span, unit_and_length};
+ghost use Rattle.command.specs.SetUpLines.{card_line, lend_bank, lend_rows, lend_line, poke_line, show_lent, show_unit};
 ghost use Rattle.command.specs.EventLines.{load_line, arrive_line, hear_line, frame_line, take_line, hand_line, collect_line, count_line};
-ghost use Rattle.command.specs.Commands.{counts, lines, spoken as spoken_by, reading_of};
-ghost use Rattle.command.specs.Names.{commands};
+ghost use Rattle.command.specs.Commands.{event_line, spoken, reading_of};
 
 use card::Card;
-use text::Numeral;
-
-// A number in its range, or none.
-#[derive(Clone, Copy)]
-pub enum Num {
-    Is(u64),
-    NoNum,
-}
-
-// A byte or a unit, or none.
-#[derive(Clone, Copy)]
-pub enum Octet {
-    Byte(u8),
-    NoByte,
-}
-
-// Where a field of bytes starts, or that it is none.
-#[derive(Clone, Copy)]
-pub enum Span {
-    From(usize),
-    NoSpan,
-}
-
-const TAB: u8 = b'\t';
-
-// The place of a word among names that are parted by tabs, and how many there are where it is none of them.
-pub fn find(names: &[u8], w: &[u8]) -> usize
-    ensures { result ≡ place_in (fields_of names.now) w.now }
-{
-    let mut from: usize = 0;
-    let mut k: usize = 0;
-    loop {
-        let e = text::field_end(names, from, TAB);
-        if text::is(&names[from..e], w) {
-            return k;
-        }
-        k += 1;
-        if names.len() <= e {
-            return k;
-        }
-        from = e + 1;
-    }
-}
 
 // The number in field f, up to the most that it may be.
-pub fn number_at(s: &[u8], f: u8, most: u64) -> Num
-    ensures { result ≡ number_in (fields_of s.now) f most }
+pub fn number_at(s: &[u8], f: u8, most: u64) -> Option<u64>
+    ensures says { result ≡ number_in (fields_of s.now) f most }
+    ensures within { IfSome result (λ n. n ≤ most) }
 {
-    match text::number(text::field(s, f), most) {
-        Numeral::Is(n) => Num::Is(n),
-        Numeral::Above => Num::NoNum,
-        Numeral::None => Num::NoNum,
-    }
+    text::number(text::field(s, f), most).ok()
 }
 
 // The unit in field f: 255, which is never declared, for all that a byte does not hold.
-pub fn unit_at(s: &[u8], f: u8) -> Octet
+pub fn unit_at(s: &[u8], f: u8) -> Option<u8>
     ensures { result ≡ unit_in (fields_of s.now) f }
 {
-    match text::number(text::field(s, f), 255) {
-        Numeral::Is(n) => Octet::Byte(n as u8),
-        Numeral::Above => Octet::Byte(255),
-        Numeral::None => Octet::NoByte,
-    }
+    event::unit_of(text::field(s, f))
 }
 
 // The byte in field f.
-pub fn byte_at(s: &[u8], f: u8) -> Octet
+#[tactic(auto, unfolding(crate::specs::Fields::byte_in))]
+pub fn byte_at(s: &[u8], f: u8) -> Option<u8>
     ensures { result ≡ byte_in (fields_of s.now) f }
 {
-    let h = text::field(s, f);
-    if h.len() != 2 {
-        return Octet::NoByte;
+    let hex = text::field(s, f);
+    if hex.len() != 2 || !text::is_hex(hex) {
+        return None;
     }
-    if text::is_hex(h) {
-        let mut byte = [0u8; 1];
-        text::unhex(h, &mut byte, 0);
-        return Octet::Byte(byte[0]);
-    }
-    Octet::NoByte
+    let mut byte = [0u8; 1];
+    text::unhex(hex, &mut byte, 0);
+    Some(byte[0])
 }
 
 // Where field f, the last one, starts, if it is bytes in hex and no more than these.
-pub fn span_at(s: &[u8], f: u8, most: usize) -> Span
+#[tactic(auto, unfolding(crate::specs::Fields::span_in))]
+pub fn span_at(s: &[u8], f: u8, most: usize) -> Option<usize>
     ensures { result ≡ span_in s.now f most }
 {
-    let h = text::field(s, f);
-    if most < h.len() / 2 {
-        return Span::NoSpan;
+    let hex = text::field(s, f);
+    if most < hex.len() / 2 || !text::is_hex(hex) {
+        return None;
     }
-    if text::is_hex(h) {
-        return Span::From(s.len() - h.len());
-    }
-    Span::NoSpan
+    Some(s.len().saturating_sub(hex.len()))
 }
 
 // What is lent in bytes.
-#[derive(Clone, Copy)]
+#[derive(Clone, Copy, Debug, PartialEq, Eq)]
 pub enum Bank {
     Memory,
     Store,
@@ -136,315 +81,248 @@ pub enum Command {
     ShowUnit(u8),
 }
 
-// What reading a line comes to.
-#[derive(Clone, Copy)]
-pub enum Reading {
-    Does(Command),
-    Bad,
+// The bytes that a word names.
+#[tactic(auto, unfolding(crate::specs::Fields::bank_of))]
+fn bank_named(w: &[u8]) -> Option<Bank>
+    ensures { result ≡ bank_of w.now }
+{
+    if text::is(w, b"memory") {
+        return Some(Bank::Memory);
+    }
+    if text::is(w, b"store") {
+        return Some(Bank::Store);
+    }
+    None
 }
 
-pub fn card_line(s: &[u8]) -> Reading
+#[tactic(auto, unfolding(crate::specs::SetUpLines::card_line))]
+pub fn card_line(s: &[u8]) -> Option<Command>
     ensures { result ≡ card_line (fields_of s.now) }
 {
     let which = text::field(s, 2);
     if text::is(which, b"narrow") {
-        return Reading::Does(Command::Card(Card::Narrow));
+        return Some(Command::Card(Card::Narrow));
     }
     if text::is(which, b"wide") {
-        return Reading::Does(Command::Card(Card::Wide));
+        return Some(Command::Card(Card::Wide));
     }
-    Reading::Bad
+    None
 }
 
-fn lend_bank(s: &[u8], bank: Bank) -> Reading
+#[tactic(auto, unfolding(crate::specs::SetUpLines::lend_bank))]
+fn lend_bank(s: &[u8], bank: Bank) -> Option<Command>
     ensures { result ≡ lend_bank (fields_of s.now) bank }
 {
-    match number_at(s, 3, 300000) {
-        Num::Is(n) => match byte_at(s, 4) {
-            Octet::Byte(byte) => {
-                let length = n as u32;
-                Reading::Does(Command::Lend { bank, length, byte })
-            }
-            Octet::NoByte => Reading::Bad,
-        },
-        Num::NoNum => Reading::Bad,
-    }
+    let length = number_at(s, 3, 300000)? as u32;
+    let byte = byte_at(s, 4)?;
+    Some(Command::Lend { bank, length, byte })
 }
 
-fn lend_rows(s: &[u8]) -> Reading
+#[tactic(auto, unfolding(crate::specs::SetUpLines::lend_rows))]
+fn lend_rows(s: &[u8]) -> Option<Command>
     ensures { result ≡ lend_rows (fields_of s.now) }
 {
-    match number_at(s, 3, 40) {
-        Num::Is(count) => match number_at(s, 4, 4294967295) {
-            Num::Is(value) => Reading::Does(Command::LendRows {
-                count: count as u8,
-                value: value as u32,
-            }),
-            Num::NoNum => Reading::Bad,
-        },
-        Num::NoNum => Reading::Bad,
-    }
+    let count = number_at(s, 3, 40)? as u8;
+    let value = number_at(s, 4, 4294967295)? as u32;
+    Some(Command::LendRows { count, value })
 }
 
-pub fn lend_line(s: &[u8]) -> Reading
+#[tactic(auto, unfolding(crate::specs::SetUpLines::lend_line))]
+pub fn lend_line(s: &[u8]) -> Option<Command>
     ensures { result ≡ lend_line (fields_of s.now) }
 {
     let which = text::field(s, 2);
-    if text::is(which, b"memory") {
-        return lend_bank(s, Bank::Memory);
-    }
-    if text::is(which, b"store") {
-        return lend_bank(s, Bank::Store);
-    }
     if text::is(which, b"rows") {
         return lend_rows(s);
     }
-    Reading::Bad
+    lend_bank(s, bank_named(which)?)
 }
 
-fn poke_bank(s: &[u8], bank: Bank) -> Reading
-    ensures { result ≡ poke_bank s.now bank }
+// A place and bytes, as a `poke` has them.
+fn place_and_span(s: &[u8]) -> Option<(u32, usize)>
+    ensures { result ≡ place_and_span s.now }
 {
-    match number_at(s, 3, 300000) {
-        Num::Is(n) => match span_at(s, 4, 75000) {
-            Span::From(from) => {
-                let at = n as u32;
-                Reading::Does(Command::Poke { bank, at, from })
-            }
-            Span::NoSpan => Reading::Bad,
-        },
-        Num::NoNum => Reading::Bad,
-    }
+    let place = number_at(s, 3, 300000)? as u32;
+    Some((place, span_at(s, 4, 75000)?))
 }
 
-fn poke_state(s: &[u8]) -> Reading
-    ensures { result ≡ poke_state s.now }
-{
-    match number_at(s, 3, 300000) {
-        Num::Is(n) => match span_at(s, 4, 75000) {
-            Span::From(from) => {
-                let at = n as u32;
-                Reading::Does(Command::PokeState { at, from })
-            }
-            Span::NoSpan => Reading::Bad,
-        },
-        Num::NoNum => Reading::Bad,
-    }
-}
-
-pub fn poke_line(s: &[u8]) -> Reading
+#[tactic(auto, unfolding(crate::specs::SetUpLines::poke_line))]
+pub fn poke_line(s: &[u8]) -> Option<Command>
     ensures { result ≡ poke_line s.now }
 {
     let which = text::field(s, 2);
-    if text::is(which, b"memory") {
-        return poke_bank(s, Bank::Memory);
-    }
-    if text::is(which, b"store") {
-        return poke_bank(s, Bank::Store);
-    }
+    let (at, from) = place_and_span(s)?;
     if text::is(which, b"state") {
-        return poke_state(s);
+        return Some(Command::PokeState { at, from });
     }
-    Reading::Bad
+    let bank = bank_named(which)?;
+    Some(Command::Poke { bank, at, from })
 }
 
-fn show_lent(s: &[u8]) -> Reading
+#[tactic(auto, unfolding(crate::specs::SetUpLines::show_lent))]
+fn show_lent(s: &[u8]) -> Option<Command>
     ensures { result ≡ show_lent (fields_of s.now) }
 {
     let which = text::field(s, 2);
-    if text::is(which, b"memory") {
-        return Reading::Does(Command::Show(Bank::Memory));
-    }
-    if text::is(which, b"store") {
-        return Reading::Does(Command::Show(Bank::Store));
-    }
     if text::is(which, b"rows") {
-        return Reading::Does(Command::ShowRows);
+        return Some(Command::ShowRows);
     }
     if text::is(which, b"state") {
-        return Reading::Does(Command::ShowState);
+        return Some(Command::ShowState);
     }
-    Reading::Bad
+    bank_named(which).map(Command::Show)
 }
 
-fn show_unit(s: &[u8]) -> Reading
+#[tactic(auto, unfolding(crate::specs::SetUpLines::show_unit))]
+fn show_unit(s: &[u8]) -> Option<Command>
     ensures { result ≡ show_unit (fields_of s.now) }
 {
     if text::is(text::field(s, 2), b"unit") {
-        return match unit_at(s, 3) {
-            Octet::Byte(unit) => Reading::Does(Command::ShowUnit(unit)),
-            Octet::NoByte => Reading::Bad,
-        };
+        return unit_at(s, 3).map(Command::ShowUnit);
     }
-    Reading::Bad
+    None
 }
 
-// The one command whose lines have two fields or three.
-pub fn show_line(s: &[u8]) -> Reading
-    ensures { result ≡ show_line (fields_of s.now) }
-{
-    match text::count(s) {
-        2 => show_lent(s),
-        3 => show_unit(s),
-        _ => Reading::Bad,
-    }
-}
-
-pub fn load_line(s: &[u8]) -> Reading
+#[tactic(auto, unfolding(crate::specs::EventLines::load_line))]
+pub fn load_line(s: &[u8]) -> Option<Command>
     ensures { result ≡ load_line s.now }
 {
-    match span_at(s, 2, 70000) {
-        Span::From(from) => Reading::Does(Command::Load(from)),
-        Span::NoSpan => Reading::Bad,
-    }
+    span_at(s, 2, 70000).map(Command::Load)
 }
 
-pub fn arrive_line(s: &[u8]) -> Reading
+// A unit and bytes, as `arrive`, `hear` and `hand` have them.
+fn unit_and_span(s: &[u8]) -> Option<(u8, usize)>
+    ensures { result ≡ unit_and_span s.now }
+{
+    Some((unit_at(s, 2)?, span_at(s, 3, 70000)?))
+}
+
+#[tactic(auto, unfolding(crate::specs::EventLines::arrive_line))]
+pub fn arrive_line(s: &[u8]) -> Option<Command>
     ensures { result ≡ arrive_line s.now }
 {
-    match unit_at(s, 2) {
-        Octet::Byte(unit) => match span_at(s, 3, 70000) {
-            Span::From(from) => Reading::Does(Command::Arrive { unit, from }),
-            Span::NoSpan => Reading::Bad,
-        },
-        Octet::NoByte => Reading::Bad,
-    }
+    let (unit, from) = unit_and_span(s)?;
+    Some(Command::Arrive { unit, from })
 }
 
-pub fn hear_line(s: &[u8]) -> Reading
+#[tactic(auto, unfolding(crate::specs::EventLines::hear_line))]
+pub fn hear_line(s: &[u8]) -> Option<Command>
     ensures { result ≡ hear_line s.now }
 {
-    match unit_at(s, 2) {
-        Octet::Byte(unit) => match span_at(s, 3, 70000) {
-            Span::From(from) => Reading::Does(Command::Hear { unit, from }),
-            Span::NoSpan => Reading::Bad,
-        },
-        Octet::NoByte => Reading::Bad,
-    }
+    let (unit, from) = unit_and_span(s)?;
+    Some(Command::Hear { unit, from })
 }
 
-pub fn frame_line(s: &[u8]) -> Reading
-    ensures { result ≡ frame_line (fields_of s.now) }
-{
-    match number_at(s, 2, 1000) {
-        Num::Is(length) => Reading::Does(Command::Frame(length as u16)),
-        Num::NoNum => Reading::Bad,
-    }
-}
-
-pub fn take_line(s: &[u8]) -> Reading
-    ensures { result ≡ take_line (fields_of s.now) }
-{
-    match unit_at(s, 2) {
-        Octet::Byte(unit) => match number_at(s, 3, 1000) {
-            Num::Is(n) => {
-                let length = n as u16;
-                Reading::Does(Command::Take { unit, length })
-            }
-            Num::NoNum => Reading::Bad,
-        },
-        Octet::NoByte => Reading::Bad,
-    }
-}
-
-pub fn hand_line(s: &[u8]) -> Reading
+#[tactic(auto, unfolding(crate::specs::EventLines::hand_line))]
+pub fn hand_line(s: &[u8]) -> Option<Command>
     ensures { result ≡ hand_line s.now }
 {
-    match unit_at(s, 2) {
-        Octet::Byte(unit) => match span_at(s, 3, 70000) {
-            Span::From(from) => Reading::Does(Command::Hand { unit, from }),
-            Span::NoSpan => Reading::Bad,
-        },
-        Octet::NoByte => Reading::Bad,
-    }
+    let (unit, from) = unit_and_span(s)?;
+    Some(Command::Hand { unit, from })
 }
 
-pub fn collect_line(s: &[u8]) -> Reading
+#[tactic(auto, unfolding(crate::specs::EventLines::frame_line))]
+pub fn frame_line(s: &[u8]) -> Option<Command>
+    ensures { result ≡ frame_line (fields_of s.now) }
+{
+    Some(Command::Frame(number_at(s, 2, 1000)? as u16))
+}
+
+// A unit and the length of a buffer, as `take` and `collect` have them.
+fn unit_and_length(s: &[u8]) -> Option<(u8, u16)>
+    ensures { result ≡ unit_and_length (fields_of s.now) }
+{
+    Some((unit_at(s, 2)?, number_at(s, 3, 1000)? as u16))
+}
+
+#[tactic(auto, unfolding(crate::specs::EventLines::take_line))]
+pub fn take_line(s: &[u8]) -> Option<Command>
+    ensures { result ≡ take_line (fields_of s.now) }
+{
+    let (unit, length) = unit_and_length(s)?;
+    Some(Command::Take { unit, length })
+}
+
+#[tactic(auto, unfolding(crate::specs::EventLines::collect_line))]
+pub fn collect_line(s: &[u8]) -> Option<Command>
     ensures { result ≡ collect_line (fields_of s.now) }
 {
-    match unit_at(s, 2) {
-        Octet::Byte(unit) => match number_at(s, 3, 1000) {
-            Num::Is(n) => {
-                let length = n as u16;
-                Reading::Does(Command::Collect { unit, length })
-            }
-            Num::NoNum => Reading::Bad,
-        },
-        Octet::NoByte => Reading::Bad,
-    }
+    let (unit, length) = unit_and_length(s)?;
+    Some(Command::Collect { unit, length })
 }
 
-pub fn count_line(s: &[u8]) -> Reading
+#[tactic(auto, unfolding(crate::specs::EventLines::count_line))]
+pub fn count_line(s: &[u8]) -> Option<Command>
     ensures { result ≡ count_line (fields_of s.now) }
 {
-    match unit_at(s, 2) {
-        Octet::Byte(unit) => Reading::Does(Command::Count(unit)),
-        Octet::NoByte => Reading::Bad,
-    }
+    unit_at(s, 2).map(Command::Count)
 }
 
-// For each command but `show` how many fields its lines have.
-const COUNTS: [usize; 12] = [2, 4, 2, 3, 3, 2, 3, 3, 3, 2, 4, 1];
-
-// The place of `show` among the commands: its lines have two fields or three.
-const SHOW: usize = 12;
-
-// The line of the k-th command.
-fn line_of(k: usize, s: &[u8]) -> Reading
-    ensures { result ≡ get_or (lines s.now) k Reading.Bad }
+// A line that calls for an event, by its word and how many fields it has (no `match` on its bytes: `event::read` says why).
+#[tactic(auto, unfolding(crate::specs::Commands::event_line))]
+fn event_line(s: &[u8], word: &[u8], fields: usize) -> Option<Command>
+    ensures { result ≡ event_line s.now word.now fields }
 {
-    match k {
-        0 => card_line(s),
-        1 => lend_line(s),
-        2 => load_line(s),
-        3 => arrive_line(s),
-        4 => hear_line(s),
-        5 => frame_line(s),
-        6 => take_line(s),
-        7 => hand_line(s),
-        8 => collect_line(s),
-        9 => count_line(s),
-        10 => poke_line(s),
-        11 => Reading::Does(Command::Help),
-        _ => Reading::Bad,
+    if fields == 2 && text::is(word, b"load") {
+        return load_line(s);
     }
+    if fields == 3 && text::is(word, b"arrive") {
+        return arrive_line(s);
+    }
+    if fields == 3 && text::is(word, b"hear") {
+        return hear_line(s);
+    }
+    if fields == 2 && text::is(word, b"frame") {
+        return frame_line(s);
+    }
+    if fields == 3 && text::is(word, b"take") {
+        return take_line(s);
+    }
+    if fields == 3 && text::is(word, b"hand") {
+        return hand_line(s);
+    }
+    if fields == 3 && text::is(word, b"collect") {
+        return collect_line(s);
+    }
+    if fields == 2 && text::is(word, b"count") {
+        return count_line(s);
+    }
+    None
 }
 
-// How many fields the lines of the k-th command have; no line has 0.
-fn count_of(k: usize) -> usize
-    ensures { result ≡ get_or counts k 0 }
+// A line by its word and how many fields it has.
+#[tactic(auto, unfolding(crate::specs::Commands::spoken))]
+fn spoken(s: &[u8], word: &[u8], fields: usize) -> Option<Command>
+    ensures { result ≡ spoken s.now word.now fields }
 {
-    if k < 12 { COUNTS[k] } else { 0 }
-}
-
-fn spoken(k: usize, s: &[u8]) -> Reading
-    ensures { result ≡ spoken_by k s.now }
-{
-    if k == SHOW {
-        return show_line(s);
+    if fields == 2 && text::is(word, b"card") {
+        return card_line(s);
     }
-    if text::count(s) == count_of(k) {
-        return line_of(k, s);
+    if fields == 4 && text::is(word, b"lend") {
+        return lend_line(s);
     }
-    Reading::Bad
-}
-
-// The place of a command among all.
-fn command_named(w: &[u8]) -> usize
-    ensures { result ≡ place_in commands w.now }
-{
-    find(
-        b"card\tlend\tload\tarrive\thear\tframe\ttake\thand\tcollect\tcount\tpoke\thelp\tshow",
-        w,
-    )
+    if fields == 4 && text::is(word, b"poke") {
+        return poke_line(s);
+    }
+    if fields == 1 && text::is(word, b"help") {
+        return Some(Command::Help);
+    }
+    if fields == 2 && text::is(word, b"show") {
+        return show_lent(s);
+    }
+    if fields == 3 && text::is(word, b"show") {
+        return show_unit(s);
+    }
+    event_line(s, word, fields)
 }
 
 // What a line says.
-pub fn read(s: &[u8]) -> Reading
+#[tactic(auto, unfolding(crate::specs::Commands::reading_of))]
+pub fn read(s: &[u8]) -> Option<Command>
     ensures { result ≡ reading_of s.now }
 {
     if s.len() <= 150000 {
-        return spoken(command_named(text::field(s, 1)), s);
+        return spoken(s, text::field(s, 1), text::count(s));
     }
-    Reading::Bad
+    None
 }

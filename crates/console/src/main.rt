@@ -3,11 +3,10 @@
 #![tactic(auto)]
 
 ghost use Rattle.std.specs.Prelude.{◌≡◌, ◌+◌, ◌≤◌, ◌<◌, length};
-ghost use Rattle.io.specs.Counts.{IsPrefixLen};
 
 use answer::{Answer, Counters};
 use card::Card;
-use command::{Bank, Command, Reading};
+use command::{Bank, Command};
 use owned::After;
 use std::env::Env;
 use std::io::Read;
@@ -40,26 +39,12 @@ const MOST: usize = 150000;
 
 const FULL: usize = 180000;
 
-fn least(a: usize, b: usize) -> usize
-    ensures { (result ≤ a) × (result ≤ b) }
-{
-    if a < b { a } else { b }
-}
-
-// At most n, and no more than b has: what a part of b asks.
-fn within(n: usize, b: &[u8]) -> usize
-    ensures { IsPrefixLen result b.now × (result ≤ n) }
-{
-    least(n, b.len())
-}
-
 // The bytes from a place to another, as far as there are any.
 fn part_of(b: &[u8], from: usize, to: usize) -> &[u8]
     ensures { length result.now ≤ to }
 {
-    let e = within(to, b);
-    let f = least(from, e);
-    &b[f..e]
+    let e = to.min(b.len());
+    &b[from.min(e)..e]
 }
 
 // Nothing is lent and nothing is read yet.
@@ -118,34 +103,9 @@ fn cleared(rt: &(impl Print + Eprint + Alloc), w: World, out: &[u8; 200000]) -> 
 
 // The first n bytes of b, as far as there are any, each with this value; how many they are.
 fn fill(b: &mut [u8], n: usize, byte: u8) -> usize {
-    let e = least(n, b.len());
-    let mut i: usize = 0;
-    while i < e {
-        b[i] = byte;
-        i += 1;
-    }
+    let e = n.min(b.len());
+    b[..e].fill(byte);
     e
-}
-
-fn set_card(w: World, card: Card) -> World
-    ensures { result.at ≡ w.at }
-{
-    let rows = w.rows;
-    World {
-        card,
-        rows,
-        lent: w.lent,
-        memory: w.memory,
-        store: w.store,
-        from: w.from,
-        to: w.to,
-        end: w.end,
-        at: w.at,
-        long: w.long,
-        open: w.open,
-        good: w.good,
-        lost: w.lost,
-    }
 }
 
 fn lend_bank(
@@ -190,14 +150,12 @@ fn lend_rows(mut w: World, n: usize, value: u32) -> World
 
 // Writes bytes from a place on, if they all lie inside what is lent.
 fn poke(b: &mut [u8], lent: usize, to: usize, bytes: &[u8]) -> bool {
-    let e = least(lent, b.len());
-    if to <= e {
-        if bytes.len() <= e - to {
-            octets::copy(bytes, b, to);
-            return true;
-        }
+    let e = lent.min(b.len());
+    if e < to || e - to < bytes.len() {
+        return false;
     }
-    false
+    octets::copy(bytes, b, to);
+    true
 }
 
 fn poke_bank(
@@ -222,7 +180,7 @@ fn choose(w: World, command: Command) -> World
     ensures { result.at ≡ w.at }
 {
     match command {
-        Command::Card(card) => set_card(w, card),
+        Command::Card(card) => World { card, ..w },
         Command::LendRows { count, value } => lend_rows(w, count as usize, value),
         _ => w,
     }
@@ -243,10 +201,8 @@ fn set_up(
         Command::Lend { bank, length, byte } => {
             lend_bank(w, memory, store, bank, length as usize, byte)
         }
-        Command::Poke { bank, at, from: _ } => {
-            poke_bank(w, memory, store, bank, at as usize, bytes)
-        }
-        Command::PokeState { at, from: _ } => {
+        Command::Poke { bank, at, .. } => { poke_bank(w, memory, store, bank, at as usize, bytes) }
+        Command::PokeState { at, .. } => {
             w.good = poke(state, 2048, at as usize, bytes);
             w
         }
@@ -259,9 +215,8 @@ fn wanted(command: Command) -> usize
     ensures { result ≤ 1000 }
 {
     match command {
-        Command::Frame(length) => least(length as usize, 1000),
-        Command::Take { unit: _, length } => least(length as usize, 1000),
-        Command::Collect { unit: _, length } => least(length as usize, 1000),
+        Command::Frame(length) | Command::Take { length, .. } | Command::Collect { length, .. } =>
+            usize::from(length).min(1000),
         _ => 0,
     }
 }
@@ -279,13 +234,13 @@ fn act(
     let card = w.card;
     let rows = w.rows;
     let lent = w.lent;
-    let m = within(w.memory, memory);
-    let s = within(w.store, store);
+    let m = w.memory.min(memory.len());
+    let s = w.store.min(store.len());
     match command {
         Command::Load(_) => {
             owned::load(card, text, &mut memory[..m], state, &store[..s], rows, lent)
         }
-        Command::Arrive { unit, from: _ } => {
+        Command::Arrive { unit, .. } => {
             owned::arrive(
                 card,
                 state,
@@ -313,11 +268,11 @@ fn call(
     let card = w.card;
     let rows = w.rows;
     let lent = w.lent;
-    let n = within(wanted(command), buffer);
+    let n = wanted(command).min(buffer.len());
     match command {
-        Command::Hear { unit, from: _ } => owned::hear(card, state, store, rows, lent, unit, text),
+        Command::Hear { unit, .. } => owned::hear(card, state, store, rows, lent, unit, text),
         Command::Frame(_) => owned::frame(card, state, store, rows, lent, &mut buffer[..n]),
-        Command::Take { unit, length: _ } => {
+        Command::Take { unit, .. } => {
             owned::take(card, state, store, rows, lent, unit, &mut buffer[..n])
         }
         _ => serve(w, state, store, text, &mut buffer[..n], command),
@@ -337,11 +292,11 @@ fn serve(
     let rows = w.rows;
     let lent = w.lent;
     match command {
-        Command::Hand { unit, from: _ } => {
+        Command::Hand { unit, .. } => {
             let answer = owned::hand(card, state, store, rows, lent, unit, text);
             owned::joined(answer, rows)
         }
-        Command::Collect { unit, length: _ } => {
+        Command::Collect { unit, .. } => {
             owned::collect(card, state, store, rows, lent, unit, buffer)
         }
         _ => owned::joined(Answer::Empty, rows),
@@ -353,8 +308,7 @@ fn word_of(line: &[u8]) -> &[u8]
     ensures { length result.now ≤ 20 }
 {
     let word = text::field(line, 1);
-    let n = within(20, word);
-    &word[..n]
+    &word[..word.len().min(20)]
 }
 
 // The answer of an event but for its buffer.
@@ -407,12 +361,12 @@ fn say_after(
     let n = wanted(command);
     match command {
         Command::Load(_) => say_event(out, at, line, 0, answer),
-        Command::Arrive { unit, from: _ } => say_event(out, at, line, unit, answer),
-        Command::Hear { unit, from: _ } => say_event(out, at, line, unit, answer),
+        Command::Arrive { unit, .. } => say_event(out, at, line, unit, answer),
+        Command::Hear { unit, .. } => say_event(out, at, line, unit, answer),
         Command::Frame(_) => say_buffer(out, at, line, 0, answer, buffer, n),
-        Command::Take { unit, length: _ } => say_buffer(out, at, line, unit, answer, buffer, n),
-        Command::Hand { unit, from: _ } => say_event(out, at, line, unit, answer),
-        Command::Collect { unit, length: _ } => say_buffer(out, at, line, unit, answer, buffer, n),
+        Command::Take { unit, .. } => say_buffer(out, at, line, unit, answer, buffer, n),
+        Command::Hand { unit, .. } => say_event(out, at, line, unit, answer),
+        Command::Collect { unit, .. } => say_buffer(out, at, line, unit, answer, buffer, n),
         _ => say_done(out, at, line, good),
     }
 }
@@ -443,8 +397,8 @@ fn say_sum(out: &mut [u8; 200000], at: usize, line: &[u8], b: &[u8], lent: usize
     requires { at ≤ 180000 }
 {
     let part = part_of(b, 0, lent);
-    let n = within(20, line);
-    replies::summed(out, at, &line[..n], part.len() as u64, text::fnv(part))
+    let words = &line[..line.len().min(20)];
+    replies::summed(out, at, words, part.len() as u64, text::fnv(part))
 }
 
 fn show_bank(
@@ -482,7 +436,7 @@ fn tell(
         Command::Show(bank) => show_bank(w, memory, store, bank, line, out),
         Command::ShowRows => {
             let rows = w.rows;
-            replies::rows(out, w.at, least(w.lent, 40), rows)
+            replies::rows(out, w.at, &rows[..w.lent.min(40)])
         }
         Command::ShowState => replies::state(out, w.at, state),
         Command::ShowUnit(unit) => named::unit(out, w.at, state, unit),
@@ -523,40 +477,26 @@ fn obey(
     w
 }
 
-// A line that was too long to be kept is bad.
-fn reading_of(long: bool, line: &[u8]) -> Reading {
-    if long {
-        return Reading::Bad;
-    }
-    command::read(line)
+// The command of a line; one that was too long to be kept says none.
+fn reading_of(long: bool, line: &[u8]) -> Option<Command> {
+    if long { None } else { command::read(line) }
 }
 
 // Where the first line of what is not answered ends; at the end of it if no newline has come.
 fn line_end(input: &[u8], from: usize, end: usize) -> usize {
-    let e = within(end, input);
-    text::field_end(&input[..e], least(from, e), NEWLINE)
-}
-
-// What stands from a place on comes to the front.
-fn shift(input: &mut [u8], from: usize, end: usize) -> usize {
-    let mut i: usize = 0;
-    let e = least(end, input.len());
-    let mut k = from;
-    while k < e {
-        input[i] = input[k];
-        i += 1;
-        k += 1;
-    }
-    i
+    let e = end.min(input.len());
+    text::field_end(&input[..e], from.min(e), NEWLINE)
 }
 
 // The start of a line comes to the front, unless it is too long already; how many bytes are kept.
 fn kept(input: &mut [u8], from: usize, end: usize) -> usize {
-    let f = least(from, end);
-    if MOST < end - f {
+    let e = end.min(input.len());
+    let f = from.min(e);
+    if MOST < e - f {
         return 0;
     }
-    shift(input, f, end)
+    input.copy_within(f..e, 0);
+    e - f
 }
 
 // The world after more was read; at the end of the input a last line without a newline gets one.
@@ -585,7 +525,7 @@ fn more(
     input: &mut [u8],
     kept: usize,
 ) -> World {
-    let n = within(kept, input);
+    let n = kept.min(input.len());
     let Some(got) = streams::get(rt, source, "standard input", &mut input[n..]) else {
         w.lost = true;
         return w;
@@ -628,25 +568,25 @@ fn tell_person(
 // What a person may have got wrong in a line that is bad.
 fn hint(rt: &(impl Print + Eprint + Alloc), w: World, out: &[u8; 200000], line: &[u8]) -> World {
     match text::slip_in(line) {
-        Slip::Blanks => tell_person(
+        Some(Slip::Blanks) => tell_person(
             rt,
             w,
             out,
             "hint: a blank stands in this line; fields are parted by one tab\n",
         ),
-        Slip::Return => tell_person(
+        Some(Slip::Return) => tell_person(
             rt,
             w,
             out,
             "hint: this line ends in a carriage return; a line ends in a newline alone\n",
         ),
-        Slip::Both => tell_person(
+        Some(Slip::Both) => tell_person(
             rt,
             w,
             out,
             "hint: a blank stands in this line, and a carriage return ends it; fields are parted by one tab, lines by a newline\n",
         ),
-        Slip::NoSlip => w,
+        None => w,
     }
 }
 
@@ -717,7 +657,7 @@ fn turn(
     w = cleared(rt, w, out);
     w.good = true;
     match reading_of(w.long, line) {
-        Reading::Does(command) => {
+        Some(command) => {
             w = obey(
                 w,
                 state,
@@ -730,22 +670,13 @@ fn turn(
             );
             list(rt, w, out, command)
         }
-        Reading::Bad => say_bad(rt, w, line, out),
+        None => say_bad(rt, w, line, out),
     }
 }
 
-// One turn less; none after the end of the input and its last line, or where a read or a write failed.
-fn left(turns: u64, w: World) -> u64
-    requires { 0 < turns }
-    ensures { result < turns }
-{
-    if w.lost {
-        return 0;
-    }
-    if w.open || w.from < w.end {
-        return turns - 1;
-    }
-    0
+// Whether nothing is left to do: the input and its last line are at their end, or a read or a write failed.
+fn is_done(w: World) -> bool {
+    w.lost || (!w.open && w.end <= w.from)
 }
 
 // Where it is asked to, the program says on descriptor 3 that nothing was lost. `std` gives no descriptor by its number, and `io` writes to one.
@@ -757,7 +688,7 @@ fn say_kept(rt: &impl Env) {
     }
 }
 
-// Reads to the end of the input; nothing says that there is one, so turns are counted.
+// Reads to the end of the input: nothing says that there is one, so turns are counted, to a number that no run comes to.
 fn run(
     rt: &(impl Print + Eprint + Alloc + Env),
     source: &mut impl Read,
@@ -769,11 +700,12 @@ fn run(
     out: &mut [u8; 200000],
 ) {
     let mut w = begun();
-    let mut turns: u64 = 18446744073709551615;
-    while 0 < turns {
+    for _ in 0..u64::MAX {
         w = lined(rt, source, w, input, out);
         w = turn(rt, w, state, memory, store, text, input, out);
-        turns = left(turns, w);
+        if is_done(w) {
+            break;
+        }
     }
     w = written(rt, w, out);
     if !w.lost {

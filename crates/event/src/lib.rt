@@ -3,11 +3,11 @@
 
 ghost use Rattle.std.specs.Prelude.{◌≡◌, true, length};
 ghost use Rattle.text.specs.Text.{fields_of, field_of};
-ghost use Rattle.event.specs.Events.{unit_of, on, hexes as hexes_of, head_of, arrive_of, event_of};
+ghost use Rattle.event.specs.Events.{unit_of, hexes as hexes_of, head_of, arrive_of, event_of};
 
-use text::Numeral;
+use text::NotNumber;
 
-#[derive(Clone, Copy)]
+#[derive(Clone, Copy, Debug, PartialEq, Eq)]
 pub enum Event {
     // a cell of this header, check and payload byte arrives
     Arrive {
@@ -19,25 +19,16 @@ pub enum Event {
     Frame,
     Take(u8),
     Count(u8),
-    // no event at all
-    Bad,
-}
-
-// A unit that a field names, or none.
-#[derive(Clone, Copy)]
-pub enum Named {
-    Unit(u8),
-    Nothing,
 }
 
 // The unit that s names.
-pub fn unit_of(s: &[u8]) -> Named
+pub fn unit_of(s: &[u8]) -> Option<u8>
     ensures { result ≡ unit_of s.now }
 {
     match text::number(s, 254) {
-        Numeral::Is(n) => Named::Unit(n as u8),
-        Numeral::Above => Named::Unit(255),
-        Numeral::None => Named::Nothing,
+        Ok(n) => Some(n as u8),
+        Err(NotNumber::Above) => Some(255),
+        Err(NotNumber::Malformed) => None,
     }
 }
 
@@ -45,10 +36,7 @@ pub fn unit_of(s: &[u8]) -> Named
 fn hexes(s: &[u8], n: usize) -> bool
     ensures { result ≡ hexes_of n s.now }
 {
-    if s.len() != n {
-        return false;
-    }
-    text::is_hex(s)
+    s.len() == n && text::is_hex(s)
 }
 
 // The header, its check and the payload byte.
@@ -63,75 +51,45 @@ fn head(header: &[u8], byte: &[u8]) -> [u8; 6]
 }
 
 // The event that the three fields of an `arrive` line give.
-fn arrive_event(unit: &[u8], header: &[u8], byte: &[u8]) -> Event
+#[tactic(auto, unfolding(crate::specs::Events::arrive_of))]
+fn arrive_event(unit: &[u8], header: &[u8], byte: &[u8]) -> Option<Event>
     ensures { result ≡ arrive_of unit.now header.now byte.now }
 {
-    let Named::Unit(u) = unit_of(unit) else {
-        return Event::Bad;
-    };
-    if !hexes(header, 10) {
-        return Event::Bad;
-    }
-    if !hexes(byte, 2) {
-        return Event::Bad;
+    let unit = unit_of(unit)?;
+    if !hexes(header, 10) || !hexes(byte, 2) {
+        return None;
     }
     let bytes = head(header, byte);
-    Event::Arrive {
-        unit: u,
+    Some(Event::Arrive {
+        unit,
         header: octets::four(&bytes, 0),
         check: bytes[4],
         byte: bytes[5],
-    }
+    })
 }
 
-fn take_event(unit: &[u8]) -> Event
-    ensures { result ≡ on (unit_of unit.now) Event.Take }
-{
-    match unit_of(unit) {
-        Named::Unit(u) => Event::Take(u),
-        Named::Nothing => Event::Bad,
-    }
-}
-
-fn count_event(unit: &[u8]) -> Event
-    ensures { result ≡ on (unit_of unit.now) Event.Count }
-{
-    match unit_of(unit) {
-        Named::Unit(u) => Event::Count(u),
-        Named::Nothing => Event::Bad,
-    }
-}
-
-// The event that a line says, its newline left out.
-pub fn read(text: &[u8]) -> Event
+// The event that a line says, its newline left out. A `match` on the bytes of four words would leave 26 goals, one for each way to be none of them.
+#[tactic(auto, unfolding(crate::specs::Events::event_in))]
+pub fn read(text: &[u8]) -> Option<Event>
     ensures { result ≡ event_of text.now }
 {
-    let n = text::count(text);
     let word = text::field(text, 1);
-    if text::is(word, b"arrive") {
-        if n != 4 {
-            return Event::Bad;
-        }
+    let fields = text::count(text);
+    if fields == 4 && text::is(word, b"arrive") {
         return arrive_event(
             text::field(text, 2),
             text::field(text, 3),
             text::field(text, 4),
         );
     }
-    if text::is(word, b"frame") {
-        if n != 1 {
-            return Event::Bad;
-        }
-        return Event::Frame;
+    if fields == 1 && text::is(word, b"frame") {
+        return Some(Event::Frame);
     }
-    if n != 2 {
-        return Event::Bad;
+    if fields == 2 && text::is(word, b"take") {
+        return unit_of(text::field(text, 2)).map(Event::Take);
     }
-    if text::is(word, b"take") {
-        return take_event(text::field(text, 2));
+    if fields == 2 && text::is(word, b"count") {
+        return unit_of(text::field(text, 2)).map(Event::Count);
     }
-    if text::is(word, b"count") {
-        return count_event(text::field(text, 2));
-    }
-    Event::Bad
+    None
 }

@@ -23,6 +23,7 @@ fn put_more(out: &mut [u8], at: usize, s: &[u8], column: usize, i: usize) -> usi
     text::put_number(out, at, state::at(s, column, i) as u64)
 }
 
+#[tactic(auto, unfolding(crate::specs::Named::link_text))]
 fn put_link(out: &mut [u8], at: usize, byte: u8) -> usize
     requires { at + 30 ≤ length out.old }
     ensures { Wrote out.old at (link_text byte) result out.new × (result ≤ at + 30) }
@@ -34,6 +35,7 @@ fn put_link(out: &mut [u8], at: usize, byte: u8) -> usize
     }
 }
 
+#[tactic(auto, unfolding(crate::specs::Named::mode_text))]
 fn put_mode(out: &mut [u8], at: usize, byte: u8) -> usize
     requires { at + 30 ≤ length out.old }
     ensures { Wrote out.old at (mode_text byte) result out.new × (result ≤ at + 30) }
@@ -120,6 +122,7 @@ fn put_outs(out: &mut [u8], at: usize, s: &[u8], i: usize) -> usize
 }
 
 // A session that is heard.
+#[tactic(auto, unfolding(crate::specs::Named::session_text))]
 fn put_session(out: &mut [u8], at: usize, sessions: [u8; 32], session: u8) -> usize
     requires { at + 21 ≤ length out.old }
     ensures { Wrote out.old at (session_text sessions session) result out.new × (result ≤ at + 21) }
@@ -135,10 +138,8 @@ fn put_sessions(out: &mut [u8], at: usize, sessions: [u8; 32]) -> usize
     ensures { Wrote out.old at (sessions_text sessions) result out.new × (result ≤ at + 5400) }
 {
     let mut next = text::put(out, at, b"\tsessions");
-    let mut i: usize = 0;
-    while i < 256 {
-        next = put_session(out, next, sessions, i as u8);
-        i += 1;
+    for session in 0..256usize {
+        next = put_session(out, next, sessions, session as u8);
     }
     next
 }

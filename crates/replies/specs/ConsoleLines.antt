@@ -1,5 +1,5 @@
 -- The answer lines of docs/CONSOLE.md up to their newline, as bytes. Assumes nothing.
-use Rattle.std.specs.Prelude.{ℕ, List, [], ◌∷◌, ◌++◌, take}
+use Rattle.std.specs.Prelude.{ℕ, List, [], ◌∷◌, ◌++◌, length}
 use Rattle.octets.specs.Octets.{be4, cat}
 use Rattle.text.specs.Decimals.{number_field, number_fields}
 use Rattle.text.specs.Hex.{hex_of}
@@ -95,5 +95,5 @@ state_text bytes = t_show_state ++ (9 ∷ hex_of bytes)
 abbrev pub row_fields : Counters → List ℕ
 row_fields c = number_fields (listed c)
 
-abbrev pub rows_text : ℕ → List Counters → List ℕ
-rows_text count rows = (t_show_rows ++ number_field count) ++ cat row_fields (take count rows)
+abbrev pub rows_text : List Counters → List ℕ
+rows_text rows = (t_show_rows ++ number_field (length rows)) ++ cat row_fields rows

@@ -9,14 +9,14 @@ ghost use Rattle.text.specs.Hex.{hex_of};
 ghost use Rattle.text.specs.Decimals.{decimal, number_fields, number_field};
 ghost use Rattle.replies.specs.LineFields.{tabbed, who, fields};
 ghost use Rattle.replies.specs.Answers.{w_refused, w_ok, w_empty, byte_at, header_bytes, answer_fields};
-ghost use Rattle.replies.specs.Lines.{outcome_text, word_of, unit_of, table_line, event_line, fitting};
+ghost use Rattle.replies.specs.Lines.{outcome_text, word_of, unit_of, table_line, event_line, bad_line, fitting};
 ghost use Rattle.replies.specs.ConsoleLines.{frame_text, said_text, count_text, sum_text, state_text, rows_text};
 
 use answer::{Answer, Arrival, Counters, Hearing};
 use arbiter::NOBODY;
 use event::Event;
 
-// Writes a tab and a text.
+// Writes a tab and a text. A place goes beside the buffer here and below, as in the writers of `text`, whose contracts other rooms rest on.
 pub fn put_field(out: &mut [u8], at: usize, text: &[u8]) -> usize
     requires { at + 1 + length text.now ≤ length out.old }
     ensures { Wrote out.old at (tabbed text.now) result out.new }
@@ -37,6 +37,7 @@ pub fn put_who(out: &mut [u8], at: usize, n: u8) -> usize
 }
 
 // Writes a tab and the fate of an arrival.
+#[tactic(auto, unfolding(answer::specs::Answers::arrival_word))]
 pub fn put_arrival(out: &mut [u8], at: usize, fate: Arrival) -> usize
     requires { at + 10 ≤ length out.old }
     ensures { Wrote out.old at (tabbed (arrival_word fate)) result out.new × (result ≤ at + 10) }
@@ -51,6 +52,7 @@ pub fn put_arrival(out: &mut [u8], at: usize, fate: Arrival) -> usize
 }
 
 // Writes a tab and the fate of a heard frame.
+#[tactic(auto, unfolding(answer::specs::Answers::hearing_word))]
 pub fn put_hearing(out: &mut [u8], at: usize, fate: Hearing) -> usize
     requires { at + 8 ≤ length out.old }
     ensures { Wrote out.old at (tabbed (hearing_word fate)) result out.new × (result ≤ at + 8) }
@@ -70,19 +72,19 @@ pub fn listed(c: Counters) -> [u64; 13]
     ensures { result ≡ listed_of c }
 {
     [
-        c.arrived as u64,
-        c.hec as u64,
-        c.ignored as u64,
-        c.misrouted as u64,
-        c.inletfull as u64,
-        c.sent as u64,
-        c.unheard as u64,
-        c.damaged as u64,
-        c.queued as u64,
-        c.full as u64,
-        c.clp as u64,
-        c.wide as u64,
-        c.taken as u64,
+        u64::from(c.arrived),
+        u64::from(c.hec),
+        u64::from(c.ignored),
+        u64::from(c.misrouted),
+        u64::from(c.inletfull),
+        u64::from(c.sent),
+        u64::from(c.unheard),
+        u64::from(c.damaged),
+        u64::from(c.queued),
+        u64::from(c.full),
+        u64::from(c.clp),
+        u64::from(c.wide),
+        u64::from(c.taken),
     ]
 }
 
@@ -110,10 +112,7 @@ fn put_framed(out: &mut [u8], at: usize, number: u16, sender: u8, granted: u8, c
 fn byte_at(cell: &[u8], k: usize) -> u8
     ensures { result ≡ byte_at cell.now k }
 {
-    if k < cell.len() {
-        return cell[k];
-    }
-    0
+    *cell.get(k).unwrap_or(&0)
 }
 
 // Writes a tab, the header and its check in hex.
@@ -207,6 +206,7 @@ fn put_unloaded(out: &mut [u8], at: usize, number: u8, line: u32) -> usize
 }
 
 // Writes the fields of an answer.
+#[tactic(auto, unfolding(crate::specs::Answers::answer_fields))]
 pub fn put_answer(out: &mut [u8], at: usize, unit: u8, answer: Answer, cell: &[u8]) -> usize
     requires { at + 84 ≤ length out.old }
     ensures { Wrote out.old at (fields (answer_fields unit answer cell.now)) result out.new × (result ≤ at + 84) }
@@ -232,7 +232,6 @@ pub fn put_answer(out: &mut [u8], at: usize, unit: u8, answer: Answer, cell: &[u
 // What is said of an event.
 #[derive(Clone, Copy)]
 pub enum Outcome {
-    Nothing,
     Answered(Answer),
     Counted(Counters),
 }
@@ -250,51 +249,39 @@ fn put_counters(out: &mut [u8], at: usize, unit: u8, c: Counters) -> usize
 }
 
 // Writes what is said of an event behind its word.
+#[tactic(auto, unfolding(crate::specs::Lines::outcome_text))]
 fn put_outcome(out: &mut [u8], at: usize, unit: u8, outcome: Outcome, cell: &[u8]) -> usize
     requires { at + 294 ≤ length out.old }
     ensures { Wrote out.old at (outcome_text unit outcome cell.now) result out.new × (result ≤ at + 294) }
 {
     match outcome {
-        Outcome::Nothing => at,
         Outcome::Answered(answer) => put_answer(out, at, unit, answer, cell),
         Outcome::Counted(c) => put_counters(out, at, unit, c),
     }
 }
 
 // Writes the word of an event.
+#[tactic(auto, unfolding(crate::specs::Lines::word_of))]
 fn put_word(out: &mut [u8], event: Event) -> usize
     requires { 6 ≤ length out.old }
     ensures { Wrote out.old 0 (word_of event) result out.new × (result ≤ 6) }
 {
     match event {
-        Event::Arrive {
-            unit: _,
-            header: _,
-            check: _,
-            byte: _,
-        } => text::put(out, 0, b"arrive"),
+        Event::Arrive { .. } => text::put(out, 0, b"arrive"),
         Event::Frame => text::put(out, 0, b"frame"),
         Event::Take(_) => text::put(out, 0, b"take"),
         Event::Count(_) => text::put(out, 0, b"count"),
-        Event::Bad => text::put(out, 0, b"bad"),
     }
 }
 
 // The unit that an event names; 0 where it names none.
+#[tactic(auto, unfolding(crate::specs::Lines::unit_of))]
 fn unit_of(event: Event) -> u8
     ensures { result ≡ unit_of event }
 {
     match event {
-        Event::Arrive {
-            unit,
-            header: _,
-            check: _,
-            byte: _,
-        } => unit,
+        Event::Arrive { unit, .. } | Event::Take(unit) | Event::Count(unit) => unit,
         Event::Frame => 0,
-        Event::Take(unit) => unit,
-        Event::Count(unit) => unit,
-        Event::Bad => 0,
     }
 }
 
@@ -308,6 +295,16 @@ pub fn event_line(event: Event, outcome: Outcome, cell: &[u8], out: &mut [u8]) -
     let word = put_word(out, event);
     let next = put_outcome(out, word, unit_of(event), outcome, cell);
     text::put(out, next, b"\n")
+}
+
+// Writes the line of what is no event to the front of out, and says how long it is.
+pub fn bad_line(out: &mut [u8]) -> usize
+    ensures { Wrote out.old 0 (fitting out.old bad_line) result out.new }
+{
+    if out.len() < ROOM {
+        return 0;
+    }
+    text::put(out, 0, b"bad\n")
 }
 
 // Writes the line of a table to the front of out, and says how long it is.
@@ -342,6 +339,7 @@ fn put_frame(out: &mut [u8], at: usize, number: u16, sender: u8, granted: u8, co
 }
 
 // What an event answers, but for its buffer: the word is that of an event that is refused, or of one that took a cell or found none.
+#[tactic(auto, unfolding(crate::specs::ConsoleLines::said_text))]
 pub fn said(out: &mut [u8], at: usize, word: &[u8], unit: u8, answer: Answer) -> usize
     requires { (length word.now ≤ 20) × (at + 100 ≤ length out.old) }
     ensures { Wrote out.old at (said_text word.now unit answer) result out.new × (result ≤ at + 100) }
@@ -424,16 +422,13 @@ pub fn state(out: &mut [u8], at: usize, bytes: &[u8]) -> usize
 }
 
 // How many rows there are, and the counters of each.
-pub fn rows(out: &mut [u8], at: usize, count: usize, rows: [Counters; 40]) -> usize
-    requires { (count ≤ 40) × (at + 10950 ≤ length out.old) }
-    ensures { Wrote out.old at (rows_text count rows) result out.new }
+pub fn rows(out: &mut [u8], at: usize, rows: &[Counters]) -> usize
+    requires { (length rows.now ≤ 40) × (at + 10950 ≤ length out.old) }
+    ensures { Wrote out.old at (rows_text rows.now) result out.new }
 {
-    let mut next = say(out, at, b"show\trows", count as u64);
-    let mut i: usize = 0;
-    while i < count {
-        let row = rows[i];
-        next = text::put_numbers(out, next, &listed(row));
-        i += 1;
+    let mut next = say(out, at, b"show\trows", rows.len() as u64);
+    for row in rows {
+        next = text::put_numbers(out, next, &listed(*row));
     }
     next
 }

@@ -1,11 +1,11 @@
 -- What the planner's tool says of a table on a card: each message as bytes, a line with its newline. Assumes nothing.
-use Rattle.std.specs.Prelude.{ℕ, cond, ◌&&◌, List, [], ◌∷◌, ◌++◌, eqb, leb, ltb, length, take}
+use Rattle.std.specs.Prelude.{ℕ, cond, ◌&&◌, List, [], ◌∷◌, ◌++◌, eqb, leb, ltb, length, take, Option, Some, None}
 use Rattle.octets.specs.Octets.{cat}
 use Rattle.text.specs.Text.{split, field_of}
 use Rattle.text.specs.Decimals.{decimal}
 use Rattle.text.specs.Slips.{slip_of}
 use Rattle.text.specs.declared.Slip.{Slip}
-use Rattle.text.specs.declared.Slip.TheVariants.{Blanks, Return, Both, NoSlip}
+use Rattle.text.specs.declared.Slip.TheVariants.{Blanks, Return, Both}
 use Rattle.card.specs.declared.Card.{Card}
 use Rattle.card.specs.declared.Card.TheVariants.{Narrow, Wide}
 use Rattle.card.specs.declared.Ask.{Ask}
@@ -65,11 +65,11 @@ abbrev pub wide_line : ℕ → List ℕ → Ask → List ℕ
 wide_line line bytes ask = ((head Narrow 5 line ++ showing bytes) ++ ask_words ask) ++ newline
 
 -- a table's line has no blank and no carriage return; what else may be wrong in its form where it has neither
-unfoldable pub slip_words : Slip → List ℕ
-slip_words Blanks = t_blanks
-slip_words Return = t_return
-slip_words Both = t_both
-slip_words NoSlip = t_form
+unfoldable pub slip_words : Option Slip → List ℕ
+slip_words (Some Blanks) = t_blanks
+slip_words (Some Return) = t_return
+slip_words (Some Both) = t_both
+slip_words None = t_form
 
 unfoldable pub form_words : List ℕ → ℕ → List ℕ
 form_words text line = cond (eqb (length text) 0) t_empty (slip_words (slip_of (line_in text line)))

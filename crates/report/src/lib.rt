@@ -132,23 +132,24 @@ fn put_ask(out: &mut [u8], at: usize, ask: Ask) -> usize
 }
 
 // What is wrong in the form of a line that a person may have got wrong so.
-fn put_slip(out: &mut [u8], at: usize, slip: Slip) -> usize
+#[tactic(auto, unfolding(crate::specs::Messages::slip_words))]
+fn put_slip(out: &mut [u8], at: usize, slip: Option<Slip>) -> usize
     requires { at + 104 ≤ length out.old }
     ensures { Wrote out.old at (slip_words slip) result out.new × (result ≤ at + 104) }
 {
     match slip {
-        Slip::Blanks => text::put(
+        Some(Slip::Blanks) => text::put(
             out,
             at,
             b"fields are parted by one tab, and this line has blanks",
         ),
-        Slip::Return => text::put(out, at, b"the line ends in a carriage return"),
-        Slip::Both => text::put(
+        Some(Slip::Return) => text::put(out, at, b"the line ends in a carriage return"),
+        Some(Slip::Both) => text::put(
             out,
             at,
             b"fields are parted by one tab, and this line has blanks and ends in a carriage return",
         ),
-        Slip::NoSlip => text::put(
+        None => text::put(
             out,
             at,
             b"unknown word, wrong field count, field outside its range, or no newline at its end",

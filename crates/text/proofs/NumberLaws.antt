@@ -1,21 +1,22 @@
 -- Decimal numbers, digit by digit. Assumes nothing.
-use mathlib.Core.Path.{◌≡◌, refl, sym, ap, ap₂, ◌∙◌}
+use mathlib.Core.Path.{◌≡◌, sym, ap, ap₂, ◌∙◌}
 use mathlib.Core.Bool.{Bool, true, false, cond}
 use mathlib.Core.List.{List, [], ◌∷◌, ◌++◌, append_assoc}
 use Prim.Native.Nat.{ℕ, zero, suc, ◌+◌, ◌*◌, ◌-◌, ◌/◌, ◌%◌, ◌^◌, ◌≤◌, ◌<◌}
 use native.Mathlib.Nat.{pow-suc, lt_of_lt_of_le}
 use native.Mathlib.Numerals.{add-one}
 use native.Mathlib.Omega.{arith}
-use lib.Dec.{ltb, leb}
+use lib.Dec.{ltb}
 use lib.ListN.{length, get_or, drop, take, set, length-append, length-set, length-drop}
 use lib.Seq.{drop-cons, drop-set-lt, get_or-set_same, take_all, take-suc}
-use borrow.Author.Tests.{lt-ltb, le-ltb, le-leb, lt-leb, leb-true}
+use borrow.Author.Tests.{lt-ltb, le-ltb, le-leb, lt-leb}
 use Rattle.text.specs.Digits.{decimal_of, value}
 use Rattle.text.proofs.Numbers.{value_on, grows}
 use Rattle.octets.specs.Octets.{cat}
 use Rattle.text.specs.Writing.{Wrote}
 use Rattle.text.proofs.Splices.{nothing, cat_snoc}
-use Rattle.text.specs.declared.Numeral.TheVariants.{Is, Above, None}
+use Rattle.std.specs.Prelude.{Ok, Err}
+use Rattle.text.specs.declared.NotNumber.TheVariants.{Above, Malformed}
 use Rattle.text.specs.Decimals.{digits_to, decimal, number_field, number_fields, number_of}
 
 -- a digit written behind the others
@@ -91,27 +92,17 @@ past s i v most h e m = rw (e, value_on s i h v) (lt_of_lt_of_le m (grows (v * 1
 
 -- each answer of the reader
 module _ (most : ℕ) (s : List ℕ) where
-  pub no_numeral : decimal_of s ≡ false → None ≡ number_of most s
+  pub no_numeral : decimal_of s ≡ false → Err Malformed ≡ number_of most s
   unfolding number_of
   no_numeral d = simp d
 
-  pub numeral_above : decimal_of s ≡ true → most < value 0 s → Above ≡ number_of most s
+  pub numeral_above : decimal_of s ≡ true → most < value 0 s → Err Above ≡ number_of most s
   unfolding number_of
   numeral_above d h = simp (d, lt-leb _ _ h)
 
-  pub numeral_is : (v : ℕ) → decimal_of s ≡ true → value 0 s ≡ v → v ≤ most → Is v ≡ number_of most s
+  pub numeral_is : (v : ℕ) → decimal_of s ≡ true → value 0 s ≡ v → v ≤ most → Ok v ≡ number_of most s
   unfolding number_of
   numeral_is v d e h = simp (d, e, le-leb _ _ h)
-
-  -- a number that is read is at most the most
-  pub number_in : {n : ℕ} → number_of most s ≡ Is n → n ≤ most
-  unfolding number_of
-  number_in {n} e = go (decimal_of s) (leb (value 0 s) most) refl e
-    where
-      go : (d t : Bool) → leb (value 0 s) most ≡ t → cond d (cond t (Is (value 0 s)) Above) None ≡ Is n → n ≤ most
-      go true true p q = let z : value 0 s ≡ n = cc in rw z at (leb-true (value 0 s) most p)
-      go true false p q = absurd (let z : ◌≡◌ {A = ℕ} 0 1 = cc in omega arith)
-      go false t p q = absurd (let z : ◌≡◌ {A = ℕ} 0 1 = cc in omega arith)
 
 -- no number is written, and one more
 pub no_fields : (b : List ℕ) (k : ℕ) → Wrote b k (number_fields []) k b

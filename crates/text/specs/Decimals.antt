@@ -1,9 +1,9 @@
 -- Numbers in decimal, written and read: "Numbers are decimal without needless zeros." Assumes nothing.
-use Rattle.std.specs.Prelude.{ℕ, zero, suc, ◌+◌, ◌/◌, ◌%◌, cond, List, [], ◌∷◌, ◌++◌, leb, ltb}
+use Rattle.std.specs.Prelude.{ℕ, zero, suc, ◌+◌, ◌/◌, ◌%◌, cond, List, [], ◌∷◌, ◌++◌, leb, ltb, Result, Ok, Err}
 use Rattle.octets.specs.Octets.{cat}
 use Rattle.text.specs.Digits.{decimal_of, value}
-use Rattle.text.specs.declared.Numeral as N
-use Rattle.text.specs.declared.Numeral.TheVariants.{Is, Above, None}
+use Rattle.text.specs.declared.NotNumber.{NotNumber}
+use Rattle.text.specs.declared.NotNumber.TheVariants.{Above, Malformed}
 
 -- the digits of n, if there are at most k: below 10 the one digit, else those of n / 10 and then the last
 unfoldable pub digits_to : ℕ → ℕ → List ℕ
@@ -23,5 +23,5 @@ abbrev pub number_fields : List ℕ → List ℕ
 number_fields numbers = cat number_field numbers
 
 -- the number that a text says, up to most
-unfoldable pub number_of : ℕ → List ℕ → N.Numeral
-number_of most s = cond (decimal_of s) (cond (leb (value 0 s) most) (Is (value 0 s)) Above) None
+unfoldable pub number_of : ℕ → List ℕ → Result ℕ NotNumber
+number_of most s = cond (decimal_of s) (cond (leb (value 0 s) most) (Ok (value 0 s)) (Err Above)) (Err Malformed)

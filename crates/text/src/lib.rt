@@ -2,7 +2,7 @@
 // what a person may have got wrong in a line.
 #![tactic(auto)]
 
-ghost use Rattle.std.specs.Prelude.{◌≡◌, ◌+◌, ◌<◌, ◌≤◌, ◌*◌, ◌/◌, length, drop, true};
+ghost use Rattle.std.specs.Prelude.{◌≡◌, ◌+◌, ◌<◌, ◌≤◌, ◌*◌, ◌/◌, length, drop, true, IfOk};
 ghost use Rattle.octets.specs.Octets.{splice};
 ghost use Rattle.text.specs.Text.{line_from, at, split, fields_of, field_of, after_of, same};
 ghost use Rattle.text.specs.Digits.{digits as digits_of, decimal_of};
@@ -168,13 +168,12 @@ pub fn put_hex(out: &mut [u8], at: usize, bytes: &[u8]) -> usize
     at + 2 * bytes.len()
 }
 
-// What a text says as a number.
-#[derive(Clone, Copy)]
-pub enum Numeral {
-    Is(u64),
+// Why a text is no number that was asked for.
+#[derive(Clone, Copy, Debug, PartialEq, Eq)]
+pub enum NotNumber {
     // a number above the most that is asked for
     Above,
-    None,
+    Malformed,
 }
 
 // Writes a text, and says where it ends.
@@ -227,27 +226,23 @@ pub fn put_numbers(out: &mut [u8], at: usize, numbers: &[u64]) -> usize
 }
 
 // The number that s says, if it is at most most.
-pub fn number(s: &[u8], most: u64) -> Numeral
-    ensures { result ≡ number_of most s.now }
+pub fn number(s: &[u8], most: u64) -> Result<u64, NotNumber>
+    ensures says { result ≡ number_of most s.now }
+    ensures within { IfOk result (λ n. n ≤ most) }
 {
     if !decimal(s) {
-        return Numeral::None;
+        return Err(NotNumber::Malformed);
     }
     let mut v: u64 = 0;
-    let mut i: usize = 0;
-    while i < s.len() {
-        let digit = (s[i] - b'0') as u64;
-        if most < digit {
-            return Numeral::Above;
-        }
+    for byte in s {
+        let digit = (*byte - b'0') as u64;
         // that v * 10 + digit is above most, said without a sum that wraps
-        if (most - digit) / 10 < v {
-            return Numeral::Above;
+        if most < digit || (most - digit) / 10 < v {
+            return Err(NotNumber::Above);
         }
         v = v * 10 + digit;
-        i += 1;
     }
-    Numeral::Is(v)
+    Ok(v)
 }
 
 // The sum after one byte more.
@@ -269,12 +264,11 @@ pub fn fnv(bytes: &[u8]) -> u32
 }
 
 // What a person may have got wrong in a line of fields.
-#[derive(Clone, Copy)]
+#[derive(Clone, Copy, Debug, PartialEq, Eq)]
 pub enum Slip {
     Blanks,
     Return,
     Both,
-    NoSlip,
 }
 
 const BLANK: u8 = b' ';
@@ -296,17 +290,14 @@ fn ends_in(s: &[u8], byte: u8) -> bool
 }
 
 // Blanks where tabs should be, or a line end of two bytes.
-pub fn slip_in(s: &[u8]) -> Slip
+#[tactic(auto, unfolding(crate::specs::Slips::slip_of))]
+pub fn slip_in(s: &[u8]) -> Option<Slip>
     ensures { result ≡ slip_of s.now }
 {
-    if ends_in(s, RETURN) {
-        if has(s, BLANK) {
-            return Slip::Both;
-        }
-        return Slip::Return;
+    match (ends_in(s, RETURN), has(s, BLANK)) {
+        (true, true) => Some(Slip::Both),
+        (true, false) => Some(Slip::Return),
+        (false, true) => Some(Slip::Blanks),
+        (false, false) => None,
     }
-    if has(s, BLANK) {
-        return Slip::Blanks;
-    }
-    Slip::NoSlip
 }

@@ -3,10 +3,6 @@ use Rattle.replies.specs.ConsoleLines.{said_text}
 use native.Mathlib.Omega.{arith}
 use Rattle.replies.proofs.said.Goals as goal
 
-pub returns-in-Loaded : goal.returns-in-Loaded
-unfolding said_text
-returns-in-Loaded c = (rw c.in-Loaded.is c.say.ensures.0, omega arith)
-
 pub returns-in-Unloaded : goal.returns-in-Unloaded
 unfolding said_text
 returns-in-Unloaded c = (rw c.in-Unloaded.is (then _ _ _ _ _ _ _ _ c.say-next.ensures.0 c.put_number.ensures.0 (omega arith)), omega arith)
@@ -18,10 +14,6 @@ returns-in-Refused c = (rw c.in-Refused.is (then _ _ _ _ _ _ _ _ c.put-next.ensu
 pub returns-in-Arrived : goal.returns-in-Arrived
 unfolding said_text
 returns-in-Arrived c = (rw c.in-Arrived.is (then _ _ _ _ _ _ _ _ c.say-next-in-Arrived.ensures.0 c.put_arrival.ensures.0 (omega arith)), omega arith)
-
-pub returns-in-Framed : goal.returns-in-Framed
-unfolding said_text
-returns-in-Framed c = (rw c.in-Framed.is c.put_frame.ensures.0, omega arith)
 
 pub returns-in-Heard : goal.returns-in-Heard
 unfolding said_text

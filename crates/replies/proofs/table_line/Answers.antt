@@ -1,5 +1,5 @@
 use native.Mathlib.Omega.{arith}
-use Rattle.replies.specs.Lines.{w_table}
+use Rattle.std.specs.Prelude.{codes}
 use Rattle.replies.proofs.Joins.{three, fits, no_line}
 use Rattle.replies.proofs.table_line.Goals as goal
 
@@ -9,4 +9,4 @@ returns-then-out-lt-ROOM c = no_line _ _ c.if-out-lt-ROOM.true
 pub returns : goal.returns
 returns c =
     rw (fits _ _ c.if-out-lt-ROOM.false)
-    (three c.args.out.now c.put-word.new.out c.put_answer-next.new.out _ w_table _ _ _ _ _ c.put-word.ensures c.put_answer-next.ensures.0 c.put.ensures (omega arith) (omega arith))
+    (three c.args.out.now c.put-word.new.out c.put_answer-next.new.out _ (codes "table") _ _ _ _ _ c.put-word.ensures c.put_answer-next.ensures.0 c.put.ensures (omega arith) (omega arith))
