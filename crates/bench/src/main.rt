@@ -92,7 +92,7 @@ impl Shelf {
     fn count(&self, unit: u8) -> Outcome {
         match owned::count(Card::Wide, &self.state, &self.store, self.rows, 40, unit) {
             Ok(c) => Outcome::Counted(c),
-            Err(number) => Outcome::Answered(Answer::Refused((number % 256) as u8)),
+            Err(number) => Outcome::Answered(Answer::Refused(number)),
         }
     }
 }

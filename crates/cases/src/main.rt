@@ -165,7 +165,7 @@ impl Shelf {
         self.answered(after)
     }
 
-    fn count(&self, unit: u8) -> Counted {
+    fn count(&self, unit: u8) -> Result<Counters, u8> {
         owned::count(Card::Wide, &self.state, &self.store, self.rows, 40, unit)
     }
 }

@@ -386,7 +386,7 @@ fn say_count(
     match owned::count(card, state, part_of(store, 0, w.store), rows, w.lent, unit) {
         Ok(c) => replies::counted(out, w.at, unit, c),
         Err(number) => {
-            let answer = Answer::Refused((number % 256) as u8);
+            let answer = Answer::Refused(number);
             say_event(out, w.at, line, unit, answer)
         }
     }
