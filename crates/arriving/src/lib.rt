@@ -34,7 +34,13 @@ fn way_by(looked: Looked) -> Result<Headers, Arrival>
 }
 
 // Where a cell that arrives at a unit goes; its records begin at a byte of the memory.
-fn way_of(card: Card, settings: Settings, at: u32, memory: &[u8], cell: &[u8]) -> Result<Headers, Arrival>
+fn way_of(
+    card: Card,
+    settings: Settings,
+    at: u32,
+    memory: &[u8],
+    cell: &[u8],
+) -> Result<Headers, Arrival>
     requires { length cell.now ≡ 53 }
     ensures { result ≡ way_for card settings at memory.now cell.now }
 {
@@ -67,13 +73,18 @@ fn arrive_at(
     ensures kept { (s.new ≡ state_at card s.old place memory.now cell.now) × (store.new ≡ store_at card (shelf_in s.old) place memory.now store.old cell.now) }
 {
     let settings = state::settings_at(s, place);
-    let Headers { routing, header } =
-        match way_of(card, settings, state::place_at(s, place), memory, cell) {
-            Ok(headers) => headers,
-            Err(fate) => {
-                return arrived(place, fate);
-            }
-        };
+    let Headers { routing, header } = match way_of(
+        card,
+        settings,
+        state::place_at(s, place),
+        memory,
+        cell,
+    ) {
+        Ok(headers) => headers,
+        Err(fate) => {
+            return arrived(place, fate);
+        }
+    };
     let inlet = state::ring_at(s, 14, 15, place);
     if Unit::INLET <= inlet.count {
         return arrived(place, Arrival::Inletfull);

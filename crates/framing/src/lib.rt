@@ -225,7 +225,13 @@ fn send(s: &mut [u8], place: usize, store: &mut [u8], buffer: &mut [u8], each: &
 {
     let at = let_out(s, place);
     bus::seal(store::get_cell(store, at), buffer);
-    let heeded = hear_all(s, hearing::address_of(&buffer[..56]), &buffer[..56], store, each);
+    let heeded = hear_all(
+        s,
+        hearing::address_of(&buffer[..56]),
+        &buffer[..56],
+        store,
+        each,
+    );
     each[place] = each[place] | sent_rises(heeded.addressed);
     heeded
 }

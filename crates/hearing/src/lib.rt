@@ -136,13 +136,7 @@ pub fn address_of(cell: &[u8]) -> Address
 }
 
 // The unit in a place hears a frame of this cell, with this address.
-pub fn heed(
-    s: &mut [u8],
-    place: usize,
-    address: Address,
-    cell: &[u8],
-    store: &mut [u8],
-) -> Hearing
+pub fn heed(s: &mut [u8], place: usize, address: Address, cell: &[u8], store: &mut [u8]) -> Hearing
     requires { (length s.old ≡ 2048) × (length cell.now ≡ 56) × Housed place (unit_in s.old place) (length store.old) }
     ensures value { result ≡ fate_by (plan_of (unit_in s.old place) (heard_as address cell.now)) }
     ensures kept { (s.new ≡ state_by (plan_of (unit_in s.old place) (heard_as address cell.now)) s.old place)

@@ -311,7 +311,10 @@ pub fn judge(
         Line::Bus(_) => Err(Fault::Order(1)),
         Line::Unit { settings, .. } => judge_unit(card, bus, o.is_some(), room, used, settings),
         Line::Vp {
-            vpi, target, outvpi, ..
+            vpi,
+            target,
+            outvpi,
+            ..
         } => judge_vp(card, memory, bus, named?, vpi, target, outvpi),
         Line::Drop { vpi, .. } => judge_drop(card, memory, named?, vpi),
         Line::Page { vpi, top, .. } => judge_page(card, memory, room, used, named?, vpi, top),

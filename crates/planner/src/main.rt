@@ -48,7 +48,12 @@ fn say_refused(
 }
 
 // Loads at full size: 32 units, their store and 262,144 bytes of memory.
-fn load(card: Card, text: &[u8], memory: &mut [u8; 262144], state: &mut [u8; 2048]) -> Result<u32, Refusal> {
+fn load(
+    card: Card,
+    text: &[u8],
+    memory: &mut [u8; 262144],
+    state: &mut [u8; 2048],
+) -> Result<u32, Refusal> {
     table::load_text(card, text, memory, state, 262144, 32)
 }
 
