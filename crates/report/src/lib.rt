@@ -78,18 +78,7 @@ fn put_shown(out: &mut [u8], at: usize, line: &[u8]) -> usize
 pub fn line_in(text: &[u8], line: u32) -> &[u8]
     ensures { result.now ≡ line_in text.now line }
 {
-    let mut from: usize = 0;
-    let mut left = line;
-    while 1 < left {
-        let e = text::field_end(text, from, b'\n');
-        if text.len() <= e {
-            return &text[e..e];
-        }
-        from = e + 1;
-        left -= 1;
-    }
-    let e = text::field_end(text, from, b'\n');
-    &text[from..e]
+    text::part(text, u64::from(line), b'\n')
 }
 
 #[tactic(auto, unfolding(crate::specs::Messages::place), using(text::proofs::Splices::nothing))]
