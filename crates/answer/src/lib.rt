@@ -260,7 +260,7 @@ pub fn risen(c: Counters, rise: u16) -> Counters
 }
 
 // By the empty set a row stays as it is. It does nothing: `raise` calls it where a row is left alone, for what it says. A function that answers the row,
-// or None where it stays, makes a frame of 16 units 1,741 instructions, this 1,556.
+// or None where it stays, makes a frame of 16 units 1,741 instructions, this 1,548.
 #[tactic(auto, unfolding(crate::specs::Counting::raised))]
 fn unraised(_c: Counters)
     ensures { raised_by _c 0 ≡ _c }

@@ -1,5 +1,5 @@
 -- Notes as one number: that of twice as many is that of the first, with that of the others above it. Assumes nothing.
-use Rattle.std.proofs.Common.{◌≡◌, ℕ, ◌+◌, ◌-◌, ◌*◌, ◌/◌, ◌%◌, ◌^◌, ◌<◌, ◌≤◌, List, get_or, sym, ap, ◌∙◌, ap₂, lt_of_lt_of_le, mod-eq_of_lt, mul_assoc, div-one, arith, pow_mono, pow-add, shl_lt, shr-shr}
+use Rattle.std.proofs.Common.{◌≡◌, ℕ, ◌+◌, ◌-◌, ◌*◌, ◌/◌, ◌%◌, ◌^◌, ◌<◌, ◌≤◌, List, get_or, sym, ap, ◌∙◌, ap₂, lt_of_lt_of_le, mul_assoc, arith, pow_mono, pow-add, shl_lt, shr-shr}
 use native.Mathlib.Nat.{div-eq_of_lt, mul-mod_left}
 use lib.Bits.{bit_or, or_shr, or_mod, or_lt, or_zero_l, or_zero_r}
 use lib.Pow.{shl-shr}
