@@ -3,7 +3,7 @@
 #![tactic(auto)]
 
 ghost use Rattle.std.specs.Prelude.{◌≡◌, ℕ, ◌<◌, ◌≤◌, min, List, length, replicate, slice_index};
-ghost use Rattle.bus.specs.Frame.{heard_as, carried};
+ghost use Rattle.bus.specs.Frame.{heard_as};
 ghost use Rattle.store.specs.Places.{slot_at, Inside};
 ghost use Rattle.state.specs.Bytes.{unit_in, shelf_in};
 ghost use Rattle.answer.specs.Done.{outcome_of};
@@ -164,27 +164,6 @@ fn is_addressed(fate: Hearing) -> bool
     }
 }
 
-// The unit in a place hears a frame of this cell, with this address.
-fn heed(s: &mut [u8], place: usize, address: Address, cell: &[u8], store: &mut [u8]) -> Hearing
-    requires { (length s.old ≡ 2048) × (length cell.now ≡ 56) × Housed place (unit_in s.old place) (length store.old) }
-    ensures value { result ≡ fate_by (plan_of (unit_in s.old place) (heard_as address cell.now)) }
-    ensures kept { (s.new ≡ heard_state (plan_of (unit_in s.old place) (heard_as address cell.now)) s.old place)
-        × (store.new ≡ store_of (unit_in s.old place) (heard_as address cell.now) place store.old cell.now) }
-{
-    match address {
-        Address::Bad => Hearing::Damaged,
-        Address::To { target, class } => {
-            if !hearing::addressed_at(s, place, target) {
-                return Hearing::Other;
-            }
-            hearing::accept(s, place, class, octets::four(cell, 4), cell, store)
-        }
-        Address::Third { class, number } => hearing::hear_third(
-            s, place, class, number, cell, store,
-        ),
-    }
-}
-
 // Every declared unit hears a frame of this cell, with this address. The counters that rise at each are written where the caller lends room for them, here and below.
 fn hear_all(
     s: &mut [u8],
@@ -202,7 +181,7 @@ fn hear_all(
     let mut copies: u8 = 0;
     let mut addressed = false;
     for i in 0..end {
-        let fate = heed(s, i, address, cell, store);
+        let fate = hearing::heed(s, i, address, cell, store);
         each[i] = each[i] | answer::hearing_rises(fate);
         copies = copies + queued_one(fate);
         addressed = addressed | is_addressed(fate);
@@ -240,14 +219,6 @@ fn let_out(s: &mut [u8], place: usize) -> usize
     store::slot_at(place, store::LOOPBACK_IN)
 }
 
-// The address of a cell. Of a frame that was just made no more is asked: its parity is right.
-fn address_of(cell: &[u8]) -> Address
-    requires { length cell.now ≡ 56 }
-    ensures { heard_as result cell.now ≡ carried cell.now }
-{
-    bus::read(octets::two(cell, 0))
-}
-
 // The unit in a place sends a cell, and all hear it.
 fn send(s: &mut [u8], place: usize, store: &mut [u8], buffer: &mut [u8], each: &mut [u16]) -> Heeded
     requires { (length s.old ≡ 2048) × (length buffer.old ≡ 57) × (place < min (slice_index s.old 805) 32) × AllHousedIn s.old (length store.old) × (length each.old ≡ 32) }
@@ -258,7 +229,13 @@ fn send(s: &mut [u8], place: usize, store: &mut [u8], buffer: &mut [u8], each: &
 {
     let at = let_out(s, place);
     bus::seal(store::get_cell(store, at), buffer);
-    let heeded = hear_all(s, address_of(&buffer[..56]), &buffer[..56], store, each);
+    let heeded = hear_all(
+        s,
+        hearing::address_of(&buffer[..56]),
+        &buffer[..56],
+        store,
+        each,
+    );
     each[place] = each[place] | sent_rises(heeded.addressed);
     heeded
 }

@@ -3,7 +3,7 @@
 
 ghost use Rattle.std.specs.Prelude.{◌≡◌, ◌<◌, ◌≤◌, length, get_or, take};
 ghost use Rattle.answer.specs.Answers.{outcome_by};
-ghost use Rattle.bus.specs.Frame.{third, carried, heard as heard_of};
+ghost use Rattle.bus.specs.Frame.{third, carried, heard_as, heard as heard_of};
 ghost use Rattle.bus.specs.Heard.{Control, Loopback};
 ghost use Rattle.state.specs.Bytes.{unit_in};
 ghost use Rattle.soundness.specs.Admission.{Housed};
@@ -127,14 +127,22 @@ pub fn hear_third(
     Hearing::Damaged
 }
 
-// The unit in a place hears a frame of this cell, its parity being right.
-fn hear_cell(s: &mut [u8], place: usize, cell: &[u8], store: &mut [u8]) -> Hearing
-    requires { (length s.old ≡ 2048) × (length cell.now ≡ 56) × Housed place (unit_in s.old place) (length store.old) }
-    ensures value { result ≡ fate_by (plan_of (unit_in s.old place) (carried cell.now)) }
-    ensures kept { (s.new ≡ state_by (plan_of (unit_in s.old place) (carried cell.now)) s.old place)
-        × (store.new ≡ store_of (unit_in s.old place) (carried cell.now) place store.old cell.now) }
+// The address of a cell. Of a frame that was just made no more is asked: its parity is right.
+pub fn address_of(cell: &[u8]) -> Address
+    requires { length cell.now ≡ 56 }
+    ensures { heard_as result cell.now ≡ carried cell.now }
 {
-    match bus::read(octets::two(cell, 0)) {
+    bus::read(octets::two(cell, 0))
+}
+
+// The unit in a place hears a frame of this cell, with this address.
+pub fn heed(s: &mut [u8], place: usize, address: Address, cell: &[u8], store: &mut [u8]) -> Hearing
+    requires { (length s.old ≡ 2048) × (length cell.now ≡ 56) × Housed place (unit_in s.old place) (length store.old) }
+    ensures value { result ≡ fate_by (plan_of (unit_in s.old place) (heard_as address cell.now)) }
+    ensures kept { (s.new ≡ state_by (plan_of (unit_in s.old place) (heard_as address cell.now)) s.old place)
+        × (store.new ≡ store_of (unit_in s.old place) (heard_as address cell.now) place store.old cell.now) }
+{
+    match address {
         Address::Bad => Hearing::Damaged,
         Address::To { target, class } => {
             if !addressed_at(s, place, target) {
@@ -144,6 +152,17 @@ fn hear_cell(s: &mut [u8], place: usize, cell: &[u8], store: &mut [u8]) -> Heari
         }
         Address::Third { class, number } => hear_third(s, place, class, number, cell, store),
     }
+}
+
+// The unit in a place hears a frame of this cell, its parity being right.
+fn hear_cell(s: &mut [u8], place: usize, cell: &[u8], store: &mut [u8]) -> Hearing
+    requires { (length s.old ≡ 2048) × (length cell.now ≡ 56) × Housed place (unit_in s.old place) (length store.old) }
+    ensures value { result ≡ fate_by (plan_of (unit_in s.old place) (carried cell.now)) }
+    ensures kept { (s.new ≡ state_by (plan_of (unit_in s.old place) (carried cell.now)) s.old place)
+        × (store.new ≡ store_of (unit_in s.old place) (carried cell.now) place store.old cell.now) }
+{
+    let address = address_of(cell);
+    heed(s, place, address, cell, store)
 }
 
 // What comes of this fate in a place.

@@ -1,7 +1,7 @@
 use Rattle.std.proofs.Common.{ap, ◌∙◌}
 use Rattle.bus.specs.Routing.{address}
 use Rattle.bus.specs.Frame.{heard_as, carried}
-use Rattle.framing.proofs.address_of.Goals as goal
+use Rattle.hearing.proofs.address_of.Goals as goal
 
 pub returns : goal.returns
 unfolding carried

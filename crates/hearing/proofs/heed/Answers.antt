@@ -5,7 +5,7 @@ use Rattle.answer.specs.declared.Hearing.TheVariants.{Other}
 use Rattle.state.specs.Bytes.{unit_in}
 use Rattle.hearing.specs.Hearings.{Lost, plan_to, plan_of}
 use Rattle.hearing.proofs.InPlace.{lost_all, by_plan}
-use Rattle.framing.proofs.heed.Goals as goal
+use Rattle.hearing.proofs.heed.Goals as goal
 
 pub returns-then-not-addressed_at : goal.returns-then-not-addressed_at
 unfolding plan_of
