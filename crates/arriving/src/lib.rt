@@ -62,13 +62,13 @@ fn arrived(place: usize, fate: Arrival) -> Single
 // A cell arrives at the unit in a place. A routed one is queued behind the others in the inlet.
 fn arrive_at(
     card: Card,
-    s: &mut [u8],
+    s: &mut [u8; 2048],
     place: usize,
     memory: &[u8],
     store: &mut [u8],
     cell: &[u8],
 ) -> Single
-    requires { (length s.old ≡ 2048) × (length cell.now ≡ 53) × Housed place (unit_in s.old place) (length store.old) }
+    requires { (length cell.now ≡ 53) × Housed place (unit_in s.old place) (length store.old) }
     ensures result_value { outcome_by result ≡ outcome_of (done_at card (shelf_in s.old) place memory.now cell.now) }
     ensures kept { (s.new ≡ state_at card s.old place memory.now cell.now) × (store.new ≡ store_at card (shelf_in s.old) place memory.now store.old cell.now) }
 {

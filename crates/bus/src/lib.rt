@@ -101,8 +101,8 @@ pub fn parity(bytes: &[u8]) -> u8
 }
 
 // Writes the 56 bytes of a cell as it goes on the bus, before parity. The tandem header is zero.
-pub fn compose(routing: u16, header: u32, payload: &[u8], bytes: &mut [u8])
-    requires { (length payload.now ≡ 48) × (length bytes.old ≡ 56) }
+pub fn compose(routing: u16, header: u32, payload: &[u8], bytes: &mut [u8; 56])
+    requires { length payload.now ≡ 48 }
     ensures { bytes.new ≡ cell routing 0 header payload.now }
 {
     octets::put_two(bytes, 0, routing);
@@ -124,8 +124,7 @@ pub fn seal(bytes: &[u8], frame: &mut [u8])
 }
 
 // A loopback cell becomes a control cell for the unit named in its first tandem byte.
-pub fn turn_back(cell: &mut [u8])
-    requires { length cell.old ≡ 56 }
+pub fn turn_back(cell: &mut [u8; 56])
     ensures { cell.new ≡ returned_as cell.old }
 {
     let unit = cell[2];

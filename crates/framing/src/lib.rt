@@ -39,8 +39,7 @@ pub struct Framed {
 }
 
 // Whether a loopback cell stands in some outlet: mostly none does, and then nothing moves.
-fn some_looped(s: &[u8]) -> bool
-    requires { length s.now ≡ 2048 }
+fn some_looped(s: &[u8; 2048]) -> bool
     ensures { result ≡ some_looped s.now 0 32 }
 {
     let mut some = false;
@@ -51,8 +50,8 @@ fn some_looped(s: &[u8]) -> bool
 }
 
 // The loopback cell of the unit in a place moves to the inlet, as a control cell, if one waits and the inlet's place is free. The counters that rise.
-fn move_one(s: &mut [u8], i: usize, store: &mut [u8]) -> u16
-    requires { (length s.old ≡ 2048) × (i < 32) × Inside i (length store.old) }
+fn move_one(s: &mut [u8; 2048], i: usize, store: &mut [u8]) -> u16
+    requires { (i < 32) × Inside i (length store.old) }
     ensures value { result ≡ moved_rises (unit_in s.old i) }
     ensures kept { (s.new ≡ moved_state s.old i) × (store.new ≡ moved_store (unit_in s.old i) i store.old) }
 {
@@ -73,8 +72,8 @@ fn move_one(s: &mut [u8], i: usize, store: &mut [u8]) -> u16
 }
 
 // All loopback cells that can move do.
-fn move_all(s: &mut [u8], store: &mut [u8], each: &mut [u16])
-    requires { (length s.old ≡ 2048) × AllHousedIn s.old (length store.old) × (each.old ≡ replicate 32 0) }
+fn move_all(s: &mut [u8; 2048], store: &mut [u8], each: &mut [u16; 32])
+    requires { AllHousedIn s.old (length store.old) × (each.old ≡ replicate 32 0) }
     ensures { (s.new ≡ (moved_in s.old store.old).bytes)
         × ((store.new ≡ (moved_in s.old store.old).store)
         × (each.new ≡ (moved_in s.old store.old).each)) }
@@ -86,8 +85,7 @@ fn move_all(s: &mut [u8], store: &mut [u8], each: &mut [u16])
 }
 
 // What each declared unit asks now, by its number.
-fn asking_now(s: &[u8]) -> [u8; 32]
-    requires { length s.now ≡ 2048 }
+fn asking_now(s: &[u8; 2048]) -> [u8; 32]
     ensures { result ≡ asking_now (shelf_in s.now) }
 {
     let end = shelf::declared_count(s[805]);
@@ -118,8 +116,8 @@ fn asks_noted(held: [u8; 32]) -> [u8; 32]
 }
 
 // The loopback cells move. What each declared unit asks then: where none moves, as it was noted before.
-fn settle(s: &mut [u8], store: &mut [u8], each: &mut [u16], held: &[u8; 32]) -> [u8; 32]
-    requires { (length s.old ≡ 2048) × AllHousedIn s.old (length store.old) × (each.old ≡ replicate 32 0) × (asked_by held.now ≡ asking_now (shelf_in s.old)) }
+fn settle(s: &mut [u8; 2048], store: &mut [u8], each: &mut [u16; 32], held: &[u8; 32]) -> [u8; 32]
+    requires { AllHousedIn s.old (length store.old) × (each.old ≡ replicate 32 0) × (asked_by held.now ≡ asking_now (shelf_in s.old)) }
     ensures value { result ≡ asking_now (shelf_in (moved_in s.old store.old).bytes) }
     ensures kept { (s.new ≡ (moved_in s.old store.old).bytes)
         × ((store.new ≡ (moved_in s.old store.old).store)
@@ -133,8 +131,8 @@ fn settle(s: &mut [u8], store: &mut [u8], each: &mut [u16], held: &[u8; 32]) -> 
 }
 
 // The requests of all declared units, of what they ask now.
-fn renew_all(s: &[u8], asks: [u8; 32]) -> Arbiter
-    requires { (length s.now ≡ 2048) × (asks ≡ asking_now (shelf_in s.now)) }
+fn renew_all(s: &[u8; 2048], asks: [u8; 32]) -> Arbiter
+    requires { asks ≡ asking_now (shelf_in s.now) }
     ensures { result ≡ requests (shelf_in s.now) }
 {
     let arbiter = state::arbiter_at(s);
@@ -166,13 +164,13 @@ fn is_addressed(fate: Hearing) -> bool
 
 // Every declared unit hears a frame of this cell, with this address. The counters that rise at each are written where the caller lends room for them, here and below.
 fn hear_all(
-    s: &mut [u8],
+    s: &mut [u8; 2048],
     address: Address,
     cell: &[u8],
     store: &mut [u8],
-    each: &mut [u16],
+    each: &mut [u16; 32],
 ) -> Heeded
-    requires { (length s.old ≡ 2048) × (length cell.now ≡ 56) × AllHousedIn s.old (length store.old) × (length each.old ≡ 32) }
+    requires { (length cell.now ≡ 56) × AllHousedIn s.old (length store.old) }
     ensures each_after { tallied_by result each.new ≡ (heeded_by (heard_as address cell.now) cell.now s.old store.old each.old).tally }
     ensures kept { (s.new ≡ (heeded_by (heard_as address cell.now) cell.now s.old store.old each.old).bytes)
         × (store.new ≡ (heeded_by (heard_as address cell.now) cell.now s.old store.old each.old).store) }
@@ -201,8 +199,8 @@ fn sent_rises(addressed: bool) -> u16
 }
 
 // The unit in a place is without the cell that it sends: the oldest data cell, else the control cell, else the loopback cell. Where that stands in the store.
-fn let_out(s: &mut [u8], place: usize) -> usize
-    requires { (length s.old ≡ 2048) × (place < 32) }
+fn let_out(s: &mut [u8; 2048], place: usize) -> usize
+    requires { place < 32 }
     ensures value { result ≡ slot_at place (send_slot (unit_in s.old place)) }
     ensures kept { s.new ≡ out_state s.old place }
 {
@@ -220,8 +218,14 @@ fn let_out(s: &mut [u8], place: usize) -> usize
 }
 
 // The unit in a place sends a cell, and all hear it.
-fn send(s: &mut [u8], place: usize, store: &mut [u8], buffer: &mut [u8], each: &mut [u16]) -> Heeded
-    requires { (length s.old ≡ 2048) × (length buffer.old ≡ 57) × (place < min (slice_index s.old 805) 32) × AllHousedIn s.old (length store.old) × (length each.old ≡ 32) }
+fn send(
+    s: &mut [u8; 2048],
+    place: usize,
+    store: &mut [u8],
+    buffer: &mut [u8],
+    each: &mut [u16; 32],
+) -> Heeded
+    requires { (length buffer.old ≡ 57) × (place < min (slice_index s.old 805) 32) × AllHousedIn s.old (length store.old) }
     ensures each_after { tallied_by result each.new ≡ heeded_of (sent_by (shelf_in s.old) place store.old each.old) }
     ensures kept { (s.new ≡ sent_state s.old place store.old)
         × ((store.new ≡ sent_store (shelf_in s.old) place store.old)
@@ -251,8 +255,13 @@ fn silence() -> Heeded
 }
 
 // The unit granted in the frame before sends, if there is one.
-fn send_granted(s: &mut [u8], store: &mut [u8], buffer: &mut [u8], each: &mut [u16]) -> Heeded
-    requires { (length s.old ≡ 2048) × (length buffer.old ≡ 57) × AllHousedIn s.old (length store.old) × (length each.old ≡ 32) }
+fn send_granted(
+    s: &mut [u8; 2048],
+    store: &mut [u8],
+    buffer: &mut [u8],
+    each: &mut [u16; 32],
+) -> Heeded
+    requires { (length buffer.old ≡ 57) × AllHousedIn s.old (length store.old) }
     ensures each_after { tallied_by result each.new ≡ heeded_of (listened_of (shelf_in s.old) store.old each.old) }
     ensures kept { (s.new ≡ state_by (sender (shelf_in s.old)) s.old store.old)
         × ((store.new ≡ turn_store (shelf_in s.old) store.old)
@@ -266,13 +275,13 @@ fn send_granted(s: &mut [u8], store: &mut [u8], buffer: &mut [u8], each: &mut [u
 
 // Requests, sending and grant on a sound state, where this is asked and the moves counted what stands at each unit.
 fn turn_on(
-    s: &mut [u8],
+    s: &mut [u8; 2048],
     store: &mut [u8],
     buffer: &mut [u8],
-    each: &mut [u16],
+    each: &mut [u16; 32],
     asks: [u8; 32],
 ) -> Framed
-    requires { (length s.old ≡ 2048) × (length buffer.old ≡ 57) × AllHousedIn s.old (length store.old) × (length each.old ≡ 32) × (asks ≡ asking_now (shelf_in s.old)) }
+    requires { (length buffer.old ≡ 57) × AllHousedIn s.old (length store.old) × (asks ≡ asking_now (shelf_in s.old)) }
     ensures each_after { framed_by result each.new ≡ outcome_of (turn_done (shelf_in s.old) store.old each.old) }
     ensures kept { (s.new ≡ turn_state s.old store.old)
         × ((store.new ≡ turn_store (shelf_in s.old) store.old)
@@ -305,13 +314,13 @@ fn turn_on(
 
 // A frame on a sound state, of which this is noted.
 fn frame_on(
-    s: &mut [u8],
+    s: &mut [u8; 2048],
     store: &mut [u8],
     buffer: &mut [u8],
-    each: &mut [u16],
+    each: &mut [u16; 32],
     held: &[u8; 32],
 ) -> Framed
-    requires { (length s.old ≡ 2048) × (length buffer.old ≡ 57) × AllHousedIn s.old (length store.old) × (each.old ≡ replicate 32 0) × (asked_by held.now ≡ asking_now (shelf_in s.old)) }
+    requires { (length buffer.old ≡ 57) × AllHousedIn s.old (length store.old) × (each.old ≡ replicate 32 0) × (asked_by held.now ≡ asking_now (shelf_in s.old)) }
     ensures each_after { framed_by result each.new ≡ outcome_of (done_at (shelf_in s.old) store.old) }
     ensures kept { (s.new ≡ state_at s.old store.old)
         × ((store.new ≡ store_at (shelf_in s.old) store.old)

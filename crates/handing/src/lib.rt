@@ -15,8 +15,8 @@ use card::Card;
 use shelf::Unit;
 
 // A cell is handed in at the unit in a place, if its place in the inlet is free.
-fn hand_at(s: &mut [u8], place: usize, store: &mut [u8], cell: &[u8]) -> Single
-    requires { (length s.old ≡ 2048) × (length cell.now ≡ 56) × Housed place (unit_in s.old place) (length store.old) }
+fn hand_at(s: &mut [u8; 2048], place: usize, store: &mut [u8], cell: &[u8]) -> Single
+    requires { (length cell.now ≡ 56) × Housed place (unit_in s.old place) (length store.old) }
     ensures result_value { outcome_by result ≡ outcome_of (hand_at (shelf_in s.old) place) }
     ensures kept { (s.new ≡ hand_state_at s.old place) × (store.new ≡ hand_store_at (shelf_in s.old) place store.old cell.now) }
 {
@@ -48,8 +48,8 @@ pub fn hand(
 }
 
 // The oldest cell leaves the control outlet of the unit in a place.
-fn collect_at(s: &mut [u8], place: usize, store: &[u8], buffer: &mut [u8]) -> Single
-    requires { (length s.old ≡ 2048) × (length buffer.old ≡ 56) × Housed place (unit_in s.old place) (length store.now) }
+fn collect_at(s: &mut [u8; 2048], place: usize, store: &[u8], buffer: &mut [u8]) -> Single
+    requires { (length buffer.old ≡ 56) × Housed place (unit_in s.old place) (length store.now) }
     ensures result_value { outcome_by result ≡ outcome_of (collect_at (shelf_in s.old) place) }
     ensures kept { (s.new ≡ collect_state_at s.old place) × (buffer.new ≡ collect_buffer_at (shelf_in s.old) place store.now buffer.old) }
 {

@@ -17,8 +17,8 @@ use outlet::Fate;
 use shelf::Unit;
 
 // Whether a cell to this target is for the unit in a place.
-pub fn addressed_at(s: &[u8], place: usize, target: Target) -> bool
-    requires { (length s.now ≡ 2048) × (place < 32) }
+pub fn addressed_at(s: &[u8; 2048], place: usize, target: Target) -> bool
+    requires { place < 32 }
     ensures { result ≡ addressed_to (unit_in s.now place) target }
 {
     match target {
@@ -31,14 +31,14 @@ pub fn addressed_at(s: &[u8], place: usize, target: Target) -> bool
 // What becomes of a copy of this class with this header that is addressed to the unit in a place. A queued copy goes
 // behind the others in its queue. Of the outlet only the limits and that queue's ring are read.
 pub fn accept(
-    s: &mut [u8],
+    s: &mut [u8; 2048],
     place: usize,
     class: u8,
     header: u32,
     cell: &[u8],
     store: &mut [u8],
 ) -> Hearing
-    requires { (length s.old ≡ 2048) × (length cell.now ≡ 56) × Housed place (unit_in s.old place) (length store.old) }
+    requires { (length cell.now ≡ 56) × Housed place (unit_in s.old place) (length store.old) }
     ensures value { result ≡ fate_by (plan_to (unit_in s.old place) class header) }
     ensures kept { (s.new ≡ state_by (plan_to (unit_in s.old place) class header) s.old place)
         × (store.new ≡ store_by (plan_to (unit_in s.old place) class header) (unit_in s.old place) place store.old cell.now) }
@@ -64,8 +64,14 @@ pub fn accept(
 }
 
 // A control cell for this unit is heard in a place. A queued one goes behind the others in the control outlet.
-fn hear_control(s: &mut [u8], place: usize, unit: u8, cell: &[u8], store: &mut [u8]) -> Hearing
-    requires { (length s.old ≡ 2048) × (length cell.now ≡ 56) × Housed place (unit_in s.old place) (length store.old) }
+fn hear_control(
+    s: &mut [u8; 2048],
+    place: usize,
+    unit: u8,
+    cell: &[u8],
+    store: &mut [u8],
+) -> Hearing
+    requires { (length cell.now ≡ 56) × Housed place (unit_in s.old place) (length store.old) }
     ensures value { result ≡ fate_by (plan_of (unit_in s.old place) (Control unit)) }
     ensures kept { (s.new ≡ state_by (plan_of (unit_in s.old place) (Control unit)) s.old place)
         × (store.new ≡ store_of (unit_in s.old place) (Control unit) place store.old cell.now) }
@@ -84,8 +90,14 @@ fn hear_control(s: &mut [u8], place: usize, unit: u8, cell: &[u8], store: &mut [
 }
 
 // A loopback cell for this unit is heard in a place.
-fn hear_loopback(s: &mut [u8], place: usize, unit: u8, cell: &[u8], store: &mut [u8]) -> Hearing
-    requires { (length s.old ≡ 2048) × (length cell.now ≡ 56) × Housed place (unit_in s.old place) (length store.old) }
+fn hear_loopback(
+    s: &mut [u8; 2048],
+    place: usize,
+    unit: u8,
+    cell: &[u8],
+    store: &mut [u8],
+) -> Hearing
+    requires { (length cell.now ≡ 56) × Housed place (unit_in s.old place) (length store.old) }
     ensures value { result ≡ fate_by (plan_of (unit_in s.old place) (Loopback unit)) }
     ensures kept { (s.new ≡ state_by (plan_of (unit_in s.old place) (Loopback unit)) s.old place)
         × (store.new ≡ store_of (unit_in s.old place) (Loopback unit) place store.old cell.now) }
@@ -103,14 +115,14 @@ fn hear_loopback(s: &mut [u8], place: usize, unit: u8, cell: &[u8], store: &mut 
 
 // A cell of kind 3 with this class and number is heard in a place.
 pub fn hear_third(
-    s: &mut [u8],
+    s: &mut [u8; 2048],
     place: usize,
     class: u8,
     number: u8,
     cell: &[u8],
     store: &mut [u8],
 ) -> Hearing
-    requires { (length s.old ≡ 2048) × (length cell.now ≡ 56) × Housed place (unit_in s.old place) (length store.old) }
+    requires { (length cell.now ≡ 56) × Housed place (unit_in s.old place) (length store.old) }
     ensures value { result ≡ fate_by (plan_of (unit_in s.old place) (third class number (get_or cell.now 2 0))) }
     ensures kept { (s.new ≡ state_by (plan_of (unit_in s.old place) (third class number (get_or cell.now 2 0))) s.old place)
         × (store.new ≡ store_of (unit_in s.old place) (third class number (get_or cell.now 2 0)) place store.old cell.now) }
@@ -137,8 +149,14 @@ pub fn address_of(cell: &[u8]) -> Address
 
 // The unit in a place hears a frame of this cell, with this address. It is taken into the loop over the units: a call for each costs up to an eighth of a frame.
 #[inline(always)]
-pub fn heed(s: &mut [u8], place: usize, address: Address, cell: &[u8], store: &mut [u8]) -> Hearing
-    requires { (length s.old ≡ 2048) × (length cell.now ≡ 56) × Housed place (unit_in s.old place) (length store.old) }
+pub fn heed(
+    s: &mut [u8; 2048],
+    place: usize,
+    address: Address,
+    cell: &[u8],
+    store: &mut [u8],
+) -> Hearing
+    requires { (length cell.now ≡ 56) × Housed place (unit_in s.old place) (length store.old) }
     ensures value { result ≡ fate_by (plan_of (unit_in s.old place) (heard_as address cell.now)) }
     ensures kept { (s.new ≡ state_by (plan_of (unit_in s.old place) (heard_as address cell.now)) s.old place)
         × (store.new ≡ store_of (unit_in s.old place) (heard_as address cell.now) place store.old cell.now) }
@@ -156,8 +174,8 @@ pub fn heed(s: &mut [u8], place: usize, address: Address, cell: &[u8], store: &m
 }
 
 // The unit in a place hears a frame of this cell, its parity being right.
-fn hear_cell(s: &mut [u8], place: usize, cell: &[u8], store: &mut [u8]) -> Hearing
-    requires { (length s.old ≡ 2048) × (length cell.now ≡ 56) × Housed place (unit_in s.old place) (length store.old) }
+fn hear_cell(s: &mut [u8; 2048], place: usize, cell: &[u8], store: &mut [u8]) -> Hearing
+    requires { (length cell.now ≡ 56) × Housed place (unit_in s.old place) (length store.old) }
     ensures value { result ≡ fate_by (plan_of (unit_in s.old place) (carried cell.now)) }
     ensures kept { (s.new ≡ state_by (plan_of (unit_in s.old place) (carried cell.now)) s.old place)
         × (store.new ≡ store_of (unit_in s.old place) (carried cell.now) place store.old cell.now) }
@@ -174,8 +192,8 @@ fn fated(place: usize, fate: Hearing) -> Single
 }
 
 // The unit in a place hears a frame handed in.
-fn hear_at(s: &mut [u8], place: usize, store: &mut [u8], frame: &[u8]) -> Single
-    requires { (length s.old ≡ 2048) × (length frame.now ≡ 57) × Housed place (unit_in s.old place) (length store.old) }
+fn hear_at(s: &mut [u8; 2048], place: usize, store: &mut [u8], frame: &[u8]) -> Single
+    requires { (length frame.now ≡ 57) × Housed place (unit_in s.old place) (length store.old) }
     ensures result_value { outcome_by result ≡ outcome_at place (fate_by (plan_of (unit_in s.old place) (heard_of frame.now))) }
     ensures kept { (s.new ≡ state_at s.old place frame.now)
         × (store.new ≡ store_of (unit_in s.old place) (heard_of frame.now) place store.old (take 56 frame.now)) }

@@ -1,5 +1,5 @@
 -- What is wrong with a line, tried as Order, Twice, Wide, Room. The judges take what stands where, as values. Assumes nothing.
-use Rattle.std.specs.Prelude.{ℕ, ◌+◌, Bool, cond, leb, ltb, Option, Some, None, Err, Ok}
+use Rattle.std.specs.Prelude.{ℕ, ◌+◌, Bool, cond, leb, ltb, Option, Some, None, Err}
 use Rattle.header.specs.declared.Link.{Link}
 use Rattle.bus.specs.declared.Target.{Target}
 use Rattle.card.specs.declared.Card.{Card}

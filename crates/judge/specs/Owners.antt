@@ -1,5 +1,5 @@
 -- The declared unit that a line names, and the place of its record. Assumes nothing.
-use Rattle.std.specs.Prelude.{ℕ, ◌+◌, ◌*◌, true, false, cond, List, get_or, None, Option, Some, Err}
+use Rattle.std.specs.Prelude.{ℕ, ◌+◌, ◌*◌, List, get_or, None, Option, Some, Err}
 use Rattle.arbiter.specs.Arbitration.{nobody}
 use Rattle.lookup.specs.Record.{size}
 use Rattle.shelf.specs.Shelves.{blank, declared, find_in}

@@ -1,5 +1,5 @@
 -- What stands in the shelf and in a memory that a line is judged by. Assumes nothing.
-use Rattle.std.specs.Prelude.{ℕ, ◌+◌, ◌*◌, Bool, cond, None, Option, Some, is_some, Err, Ok}
+use Rattle.std.specs.Prelude.{ℕ, ◌+◌, ◌*◌, Bool, cond, None, Option, Some, is_some, Err}
 use Rattle.bus.specs.declared.Target.{Target}
 use Rattle.card.specs.declared.Card.{Card}
 use Rattle.card.specs.declared.Ask.TheVariants.{Bus as A-as-Bus}

@@ -89,8 +89,7 @@ pub fn taken(got: Option<Record>) -> bool
 }
 
 // The declared unit with a number.
-fn find_owner(s: &[u8], number: u8) -> Option<Owner>
-    requires { length s.now ≡ 2048 }
+fn find_owner(s: &[u8; 2048], number: u8) -> Option<Owner>
     ensures { (result ≡ owner_of (shelf_in s.now) number) × IfSome result (λ o. o.at < 32) }
 {
     let at = state::find(s, number)?;
@@ -117,8 +116,7 @@ fn unit_of(line: Line) -> u8
 }
 
 // The declared unit that a line names.
-pub fn owner_of(s: &[u8], line: Line) -> Option<Owner>
-    requires { length s.now ≡ 2048 }
+pub fn owner_of(s: &[u8; 2048], line: Line) -> Option<Owner>
     ensures { (result ≡ owner_of (shelf_in s.now) (unit_of line)) × IfSome result (λ o. o.at < 32) }
 {
     find_owner(s, unit_of(line))
@@ -268,8 +266,8 @@ fn judge_vc(
 }
 
 // An `mc` line: of a declared unit that does not hear the session yet.
-fn judge_mc(s: &[u8], o: Owner, session: u8) -> Verdict
-    requires { (length s.now ≡ 2048) × (o.at < 32) }
+fn judge_mc(s: &[u8; 2048], o: Owner, session: u8) -> Verdict
+    requires { o.at < 32 }
     ensures { result ≡ judge_mc (hears (sessions_at (shelf_in s.now) o) session) }
 {
     if state::hears_at(s, o.at, session) {
@@ -294,12 +292,12 @@ pub fn judge(
     room: usize,
     first: bool,
     memory: &[u8],
-    s: &[u8],
+    s: &[u8; 2048],
     used: u32,
     o: Option<Owner>,
     line: Line,
 ) -> Verdict
-    requires { (length s.now ≡ 2048) × IfSome o (λ o. o.at < 32) }
+    requires { IfSome o (λ o. o.at < 32) }
     ensures { result ≡ judge_by card room first (record_at card memory.now) (shelf_in s.now) used o line }
 {
     if first {

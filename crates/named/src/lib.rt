@@ -8,16 +8,23 @@ ghost use Rattle.state.specs.Bytes.{col, place_by};
 ghost use Rattle.named.specs.Named.{link_text, mode_text, settings_text, cbr_text, limits_text, inlet_text, four_text, ins_text, outs_text, session_text, sessions_text, front_text, rings_text, cells_text, place_text, unit_text};
 
 // A name and the byte of a column.
-fn put_column(out: &mut [u8], at: usize, name: &[u8], s: &[u8], column: usize, i: usize) -> usize
-    requires { (length s.now ≡ 2048) × (column < 32) × (i < 32) × (at + length name.now + 21 ≤ length out.old) }
+fn put_column(
+    out: &mut [u8],
+    at: usize,
+    name: &[u8],
+    s: &[u8; 2048],
+    column: usize,
+    i: usize,
+) -> usize
+    requires { (column < 32) × (i < 32) × (at + length name.now + 21 ≤ length out.old) }
     ensures { Wrote out.old at (name.now ++ number_field (col s.now i column)) result out.new × (result ≤ at + length name.now + 21) }
 {
     replies::say(out, at, name, state::at(s, column, i) as u64)
 }
 
 // The byte of a column alone.
-fn put_more(out: &mut [u8], at: usize, s: &[u8], column: usize, i: usize) -> usize
-    requires { (length s.now ≡ 2048) × (column < 32) × (i < 32) × (at + 21 ≤ length out.old) }
+fn put_more(out: &mut [u8], at: usize, s: &[u8; 2048], column: usize, i: usize) -> usize
+    requires { (column < 32) × (i < 32) × (at + 21 ≤ length out.old) }
     ensures { Wrote out.old at (number_field (col s.now i column)) result out.new × (result ≤ at + 21) }
 {
     text::put_number(out, at, state::at(s, column, i) as u64)
@@ -47,15 +54,15 @@ fn put_mode(out: &mut [u8], at: usize, byte: u8) -> usize
     }
 }
 
-fn top_at(s: &[u8], i: usize) -> u16
-    requires { (length s.now ≡ 2048) × (i < 32) }
+fn top_at(s: &[u8; 2048], i: usize) -> u16
+    requires { i < 32 }
     ensures { result ≡ col s.now i 2 * 256 + col s.now i 3 }
 {
     state::two_of(state::at(s, 2, i), state::at(s, 3, i))
 }
 
-fn put_settings(out: &mut [u8], at: usize, s: &[u8], i: usize) -> usize
-    requires { (length s.now ≡ 2048) × (i < 32) × (at + 120 ≤ length out.old) }
+fn put_settings(out: &mut [u8], at: usize, s: &[u8; 2048], i: usize) -> usize
+    requires { (i < 32) × (at + 120 ≤ length out.old) }
     ensures { Wrote out.old at (settings_text (col s.now i)) result out.new × (result ≤ at + 120) }
 {
     let numbered = put_column(out, at, b"show\tunit", s, 0, i);
@@ -64,16 +71,16 @@ fn put_settings(out: &mut [u8], at: usize, s: &[u8], i: usize) -> usize
     put_column(out, topped, b"\tpriority", s, 4, i)
 }
 
-fn put_cbr(out: &mut [u8], at: usize, s: &[u8], i: usize) -> usize
-    requires { (length s.now ≡ 2048) × (i < 32) × (at + 70 ≤ length out.old) }
+fn put_cbr(out: &mut [u8], at: usize, s: &[u8; 2048], i: usize) -> usize
+    requires { (i < 32) × (at + 70 ≤ length out.old) }
     ensures { Wrote out.old at (cbr_text (col s.now i)) result out.new × (result ≤ at + 70) }
 {
     let long = put_column(out, at, b"\tcbrlength", s, 6, i);
     put_column(out, long, b"\tcbrlimit", s, 7, i)
 }
 
-fn put_limits(out: &mut [u8], at: usize, s: &[u8], i: usize) -> usize
-    requires { (length s.now ≡ 2048) × (i < 32) × (at + 160 ≤ length out.old) }
+fn put_limits(out: &mut [u8], at: usize, s: &[u8; 2048], i: usize) -> usize
+    requires { (i < 32) × (at + 160 ≤ length out.old) }
     ensures { Wrote out.old at (limits_text (col s.now i)) result out.new × (result ≤ at + 160) }
 {
     let moded = put_mode(out, at, state::at(s, 5, i));
@@ -82,8 +89,8 @@ fn put_limits(out: &mut [u8], at: usize, s: &[u8], i: usize) -> usize
     put_column(out, full, b"\tmark", s, 9, i)
 }
 
-fn put_inlet(out: &mut [u8], at: usize, s: &[u8], i: usize) -> usize
-    requires { (length s.now ≡ 2048) × (i < 32) × (at + 100 ≤ length out.old) }
+fn put_inlet(out: &mut [u8], at: usize, s: &[u8; 2048], i: usize) -> usize
+    requires { (i < 32) × (at + 100 ≤ length out.old) }
     ensures { Wrote out.old at (inlet_text (col s.now i)) result out.new × (result ≤ at + 100) }
 {
     let placed = replies::say(out, at, b"\tplace", state::place_at(s, i) as u64);
@@ -92,8 +99,15 @@ fn put_inlet(out: &mut [u8], at: usize, s: &[u8], i: usize) -> usize
 }
 
 // Four columns under one name.
-fn put_four(out: &mut [u8], at: usize, name: &[u8], s: &[u8], column: usize, i: usize) -> usize
-    requires { (length s.now ≡ 2048) × (column < 29) × (i < 32) × (at + length name.now + 84 ≤ length out.old) }
+fn put_four(
+    out: &mut [u8],
+    at: usize,
+    name: &[u8],
+    s: &[u8; 2048],
+    column: usize,
+    i: usize,
+) -> usize
+    requires { (column < 29) × (i < 32) × (at + length name.now + 84 ≤ length out.old) }
     ensures { Wrote out.old at (four_text name.now (col s.now i) column) result out.new × (result ≤ at + length name.now + 84) }
 {
     let first = put_column(out, at, name, s, column, i);
@@ -103,8 +117,8 @@ fn put_four(out: &mut [u8], at: usize, name: &[u8], s: &[u8], column: usize, i: 
 }
 
 // The processor's cell in the inlet, and the one that came back to it.
-fn put_ins(out: &mut [u8], at: usize, s: &[u8], i: usize) -> usize
-    requires { (length s.now ≡ 2048) × (i < 32) × (at + 70 ≤ length out.old) }
+fn put_ins(out: &mut [u8], at: usize, s: &[u8; 2048], i: usize) -> usize
+    requires { (i < 32) × (at + 70 ≤ length out.old) }
     ensures { Wrote out.old at (ins_text (col s.now i)) result out.new × (result ≤ at + 70) }
 {
     let control = put_column(out, at, b"\tcontrolin", s, 26, i);
@@ -112,8 +126,8 @@ fn put_ins(out: &mut [u8], at: usize, s: &[u8], i: usize) -> usize
 }
 
 // The control outlet, and the cell in the loopback outlet.
-fn put_outs(out: &mut [u8], at: usize, s: &[u8], i: usize) -> usize
-    requires { (length s.now ≡ 2048) × (i < 32) × (at + 110 ≤ length out.old) }
+fn put_outs(out: &mut [u8], at: usize, s: &[u8; 2048], i: usize) -> usize
+    requires { (i < 32) × (at + 110 ≤ length out.old) }
     ensures { Wrote out.old at (outs_text (col s.now i)) result out.new × (result ≤ at + 110) }
 {
     let headed = put_column(out, at, b"\tcontrolhead", s, 28, i);
@@ -145,8 +159,8 @@ fn put_sessions(out: &mut [u8], at: usize, sessions: [u8; 32]) -> usize
 }
 
 // The settings and the limits.
-fn put_front(out: &mut [u8], at: usize, s: &[u8], i: usize) -> usize
-    requires { (length s.now ≡ 2048) × (i < 32) × (at + 280 ≤ length out.old) }
+fn put_front(out: &mut [u8], at: usize, s: &[u8; 2048], i: usize) -> usize
+    requires { (i < 32) × (at + 280 ≤ length out.old) }
     ensures { Wrote out.old at (front_text (col s.now i)) result out.new × (result ≤ at + 280) }
 {
     let set = put_settings(out, at, s, i);
@@ -154,8 +168,8 @@ fn put_front(out: &mut [u8], at: usize, s: &[u8], i: usize) -> usize
 }
 
 // The place of the records, the inlet and the queues.
-fn put_rings(out: &mut [u8], at: usize, s: &[u8], i: usize) -> usize
-    requires { (length s.now ≡ 2048) × (i < 32) × (at + 300 ≤ length out.old) }
+fn put_rings(out: &mut [u8], at: usize, s: &[u8; 2048], i: usize) -> usize
+    requires { (i < 32) × (at + 300 ≤ length out.old) }
     ensures { Wrote out.old at (rings_text (col s.now i)) result out.new × (result ≤ at + 300) }
 {
     let inlet = put_inlet(out, at, s, i);
@@ -164,8 +178,8 @@ fn put_rings(out: &mut [u8], at: usize, s: &[u8], i: usize) -> usize
 }
 
 // All places of a unit that hold cells.
-fn put_cells(out: &mut [u8], at: usize, s: &[u8], i: usize) -> usize
-    requires { (length s.now ≡ 2048) × (i < 32) × (at + 480 ≤ length out.old) }
+fn put_cells(out: &mut [u8], at: usize, s: &[u8; 2048], i: usize) -> usize
+    requires { (i < 32) × (at + 480 ≤ length out.old) }
     ensures { Wrote out.old at (cells_text (col s.now i)) result out.new × (result ≤ at + 480) }
 {
     let rings = put_rings(out, at, s, i);
@@ -174,8 +188,8 @@ fn put_cells(out: &mut [u8], at: usize, s: &[u8], i: usize) -> usize
 }
 
 // The unit in a place.
-fn put_unit(out: &mut [u8], at: usize, s: &[u8], i: usize) -> usize
-    requires { (length s.now ≡ 2048) × (i < 32) × (at + 6200 ≤ length out.old) }
+fn put_unit(out: &mut [u8], at: usize, s: &[u8; 2048], i: usize) -> usize
+    requires { (i < 32) × (at + 6200 ≤ length out.old) }
     ensures { Wrote out.old at (place_text s.now i) result out.new × (result ≤ at + 6200) }
 {
     let front = put_front(out, at, s, i);
@@ -184,8 +198,8 @@ fn put_unit(out: &mut [u8], at: usize, s: &[u8], i: usize) -> usize
 }
 
 // The unit with a number, or that none has it.
-pub fn unit(out: &mut [u8], at: usize, s: &[u8], number: u8) -> usize
-    requires { (length s.now ≡ 2048) × (at + 6200 ≤ length out.old) }
+pub fn unit(out: &mut [u8], at: usize, s: &[u8; 2048], number: u8) -> usize
+    requires { at + 6200 ≤ length out.old }
     ensures { Wrote out.old at (unit_text s.now number) result out.new }
 {
     match state::find(s, number) {

@@ -1,5 +1,5 @@
 -- Who is let in, of lent bytes, and what an event that is let in may count on. Assumes nothing.
-use Rattle.std.proofs.Common.{◌≡◌, ℕ, ◌<◌, Bool, true, false, cond, ◌&&◌, List, get_or, sym, refl, ap, ◌∙◌, subst, arith, length-take, None, Option, Some, Err, Ok, Result}
+use Rattle.std.proofs.Common.{◌≡◌, ℕ, ◌<◌, Bool, true, false, cond, ◌&&◌, List, get_or, sym, refl, ap, ◌∙◌, subst, arith, length-take, None, Option, Some, Err, Ok}
 use mathlib.Core.Logic.Iff
 use Rattle.card.specs.declared.Card.{Card}
 use Rattle.outlet.proofs.Truth.{and_iff}

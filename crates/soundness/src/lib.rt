@@ -68,8 +68,8 @@ fn outside(low: u8, high: u8, n: u8) -> u8
 }
 
 // The ring in two columns, of this capacity; one of none has both at 0.
-fn ring_over(s: &[u8], i: usize, h: usize, c: usize, capacity: u8) -> u8
-    requires { (length s.now ≡ 2048) × (i < 32) × (h < 32) × (c < 32) }
+fn ring_over(s: &[u8; 2048], i: usize, h: usize, c: usize, capacity: u8) -> u8
+    requires { (i < 32) × (h < 32) × (c < 32) }
     ensures { (result == 0) ≡ ring_fits (ring_by (col s.now i) h c) capacity }
 {
     worse(
@@ -79,8 +79,8 @@ fn ring_over(s: &[u8], i: usize, h: usize, c: usize, capacity: u8) -> u8
 }
 
 // The settings of a unit. A top VPI to 255 has 0 in its high byte, one to 4,095 at most 15.
-fn settings_over(s: &[u8], i: usize, links: u8, last: u8) -> u8
-    requires { (length s.now ≡ 2048) × (i < 32) }
+fn settings_over(s: &[u8; 2048], i: usize, links: u8, last: u8) -> u8
+    requires { i < 32 }
     ensures { (result == 0) ≡ settings_at links last (col s.now i) }
 {
     let link = state::at(s, 1, i);
@@ -94,8 +94,8 @@ fn settings_over(s: &[u8], i: usize, links: u8, last: u8) -> u8
 }
 
 // The limits but the mark: the mode is 1 exactly where there is a CBR length.
-fn limits_over(s: &[u8], i: usize) -> u8
-    requires { (length s.now ≡ 2048) × (i < 32) }
+fn limits_over(s: &[u8; 2048], i: usize) -> u8
+    requires { i < 32 }
     ensures { (result == 0) ≡ limits_at (col s.now i) }
 {
     let mode = state::at(s, 5, i);
@@ -112,8 +112,8 @@ fn limits_over(s: &[u8], i: usize) -> u8
 }
 
 // The four rings of the outlet, of which mode one has one.
-fn rings_over(s: &[u8], i: usize) -> u8
-    requires { (length s.now ≡ 2048) × (i < 32) }
+fn rings_over(s: &[u8; 2048], i: usize) -> u8
+    requires { i < 32 }
     ensures { (result == 0) ≡ rings_at (col s.now i) }
 {
     let mode = state::at(s, 5, i);
@@ -132,8 +132,8 @@ fn rings_over(s: &[u8], i: usize) -> u8
 }
 
 // The greater of two columns: at most a number where both are.
-fn greater_at(s: &[u8], i: usize, a: usize, b: usize) -> u8
-    requires { (length s.now ≡ 2048) × (i < 32) × (a < 32) × (b < 32) }
+fn greater_at(s: &[u8; 2048], i: usize, a: usize, b: usize) -> u8
+    requires { (i < 32) × (a < 32) × (b < 32) }
     ensures { (n : ℕ) → nat_le result n ≡ (nat_le (col s.now i a) n && nat_le (col s.now i b) n) }
 {
     state::at(s, a, i).max(state::at(s, b, i))
@@ -141,8 +141,8 @@ fn greater_at(s: &[u8], i: usize, a: usize, b: usize) -> u8
 
 // What has one bound in every unit: inlet and control outlet have four places each, the mark and the single places are 0 or 1. Bytes with the same bound
 // share a test.
-fn fixed_over(s: &[u8], i: usize) -> u8
-    requires { (length s.now ≡ 2048) × (i < 32) }
+fn fixed_over(s: &[u8; 2048], i: usize) -> u8
+    requires { i < 32 }
     ensures { (result == 0) ≡ fixed_at (col s.now i) }
 {
     worse(
@@ -155,8 +155,8 @@ fn fixed_over(s: &[u8], i: usize) -> u8
 }
 
 // A place's worst: 0 where its bytes are those of a unit that fits. All tests are made, and of bytes: many places are judged at once.
-fn lane(s: &[u8], i: usize, links: u8, last: u8) -> u8
-    requires { (length s.now ≡ 2048) × (i < 32) }
+fn lane(s: &[u8; 2048], i: usize, links: u8, last: u8) -> u8
+    requires { i < 32 }
     ensures { (result == 0) ≡ lane_at links last (col s.now i) }
 {
     worse(
@@ -174,8 +174,8 @@ fn reach(count: u8) -> usize
 }
 
 // Whether each declared unit fits by itself. Of the places that are judged those past the count are not asked.
-fn units_good(s: &[u8], card: Card, bus: u8, count: u8) -> bool
-    requires { (length s.now ≡ 2048) × (0 < bus) }
+fn units_good(s: &[u8; 2048], card: Card, bus: u8, count: u8) -> bool
+    requires { 0 < bus }
     ensures { result ≡ lanes (lane_good card bus s.now) count 0 32 }
 {
     let links = highest_link(card);
@@ -207,8 +207,8 @@ fn standing(priority: u8, cells: u8, number: u8, granted: u8) -> u8
 }
 
 // How many cells wait in the inlet of the unit in a place. By 256, as any byte may stand there until the places are judged.
-fn cells(s: &[u8], i: usize) -> u8
-    requires { (length s.now ≡ 2048) × (i < 32) }
+fn cells(s: &[u8; 2048], i: usize) -> u8
+    requires { i < 32 }
     ensures { result ≡ cells_in s.now i }
 {
     let control = state::at(s, 26, i);
@@ -219,8 +219,8 @@ fn cells(s: &[u8], i: usize) -> u8
 }
 
 // What is noted of the unit in a place: 128, 4 times the place, and how it stands; 0 past the declared units.
-fn note(s: &[u8], i: usize, granted: u8, count: u8) -> u8
-    requires { (length s.now ≡ 2048) × (i < 32) }
+fn note(s: &[u8; 2048], i: usize, granted: u8, count: u8) -> u8
+    requires { i < 32 }
     ensures { result ≡ note_at granted count s.now i }
 {
     let place = i as u8;
@@ -229,8 +229,7 @@ fn note(s: &[u8], i: usize, granted: u8, count: u8) -> u8
 }
 
 // The same of each place.
-fn notes(s: &[u8], granted: u8, count: u8) -> [u8; 32]
-    requires { length s.now ≡ 2048 }
+fn notes(s: &[u8; 2048], granted: u8, count: u8) -> [u8; 32]
     ensures { Notes granted count s.now result }
 {
     let mut each = [0; 32];
@@ -248,8 +247,7 @@ fn place_of(note: u8) -> usize
 }
 
 // Whether it is nobody or one that is declared.
-fn nobody_or(held: &[u8], number: u8) -> bool
-    requires { length held.now ≡ 32 }
+fn nobody_or(held: &[u8; 32], number: u8) -> bool
     ensures { result ≡ nobody_or (marks held.now) number }
 {
     if number < 32 {
@@ -260,8 +258,7 @@ fn nobody_or(held: &[u8], number: u8) -> bool
 }
 
 // Whether nobody is granted, or one with a cell.
-fn grant_held(s: &[u8], held: &[u8], granted: u8) -> bool
-    requires { (length s.now ≡ 2048) × (length held.now ≡ 32) }
+fn grant_held(s: &[u8; 2048], held: &[u8; 32], granted: u8) -> bool
     ensures { result ≡ grant_in (cells_in s.now) held.now granted }
 {
     if granted < 32 {
@@ -287,8 +284,7 @@ fn unheld(ask: u8, note: u8) -> u8
 }
 
 // Whether each request is held by a unit.
-fn asks_held(held: &[u8], asks: [u8; 32]) -> bool
-    requires { length held.now ≡ 32 }
+fn asks_held(held: &[u8; 32], asks: [u8; 32]) -> bool
     ensures { result ≡ asks_held held.now 0 asks }
 {
     let mut worst: u8 = 0;
@@ -299,8 +295,7 @@ fn asks_held(held: &[u8], asks: [u8; 32]) -> bool
 }
 
 // How many numbers have a note.
-fn how_many(held: &[u8]) -> u8
-    requires { length held.now ≡ 32 }
+fn how_many(held: &[u8; 32]) -> u8
     ensures { result ≡ how_many held.now }
 {
     let mut n: u8 = 0;
@@ -327,8 +322,8 @@ fn eight_of(each: &[u8; 32], at: usize) -> u64
 
 // Notes eight places, each in its number's place, the last of them first. By 32, as the numbers are judged after it: until then the notes have reached
 // memory, and can be read in words.
-fn note_8(s: &[u8], word: u64, from: usize, held: &mut [u8; 32])
-    requires { (length s.now ≡ 2048) × (from ≤ 24) }
+fn note_8(s: &[u8; 2048], word: u64, from: usize, held: &mut [u8; 32])
+    requires { from ≤ 24 }
     ensures { (notes : ℕ → ℕ) → ((k : ℕ) → k < 8 → word / 2 ^ (8 * k) % 256 ≡ notes (from + k)) → held.new ≡ noted_by notes s.now held.old from 8 }
 {
     for k in (0..8).rev() {
@@ -337,8 +332,8 @@ fn note_8(s: &[u8], word: u64, from: usize, held: &mut [u8; 32])
 }
 
 // Notes each declared unit in its number's place. Places past them are noted too, with nothing and before all others, so that no loop ends by the count.
-fn note_all(s: &[u8], held: &mut [u8; 32])
-    requires { (length s.now ≡ 2048) × (slice_index s.now 805 ≤ 32) × (held.old ≡ none) }
+fn note_all(s: &[u8; 2048], held: &mut [u8; 32])
+    requires { (slice_index s.now 805 ≤ 32) × (held.old ≡ none) }
     ensures { held.new ≡ noted_in s.now }
 {
     let each = notes(s, s[803], s[805]);
@@ -352,8 +347,7 @@ fn note_all(s: &[u8], held: &mut [u8; 32])
 
 // Whether as many numbers have a note as there are units, so none twice; and the open grant, the last grants and the requests are such as the units
 // could have.
-fn numbers_good(s: &[u8], held: &[u8]) -> bool
-    requires { (length s.now ≡ 2048) × (length held.now ≡ 32) }
+fn numbers_good(s: &[u8; 2048], held: &[u8; 32]) -> bool
     ensures { result ≡ numbers_good s.now held.now }
 {
     (how_many(held) == s[805])
@@ -364,8 +358,8 @@ fn numbers_good(s: &[u8], held: &[u8]) -> bool
 
 // What is noted of the unit with this number, 0 where none has it; 1 of a state that is not sound. The notes of all numbers stand where the caller
 // lends room for them, which holds zeros. Each unit by itself, all places at once; then by number.
-fn look(card: Card, s: &[u8], store: usize, rows: usize, unit: u8, held: &mut [u8; 32]) -> u8
-    requires { (length s.now ≡ 2048) × (held.old ≡ none) }
+fn look(card: Card, s: &[u8; 2048], store: usize, rows: usize, unit: u8, held: &mut [u8; 32]) -> u8
+    requires { held.old ≡ none }
     ensures value { result ≡ looked card s.now store rows unit }
     ensures noted { (result ≢ 1) → held.new ≡ held_in s.now }
 {
@@ -385,8 +379,8 @@ fn look(card: Card, s: &[u8], store: usize, rows: usize, unit: u8, held: &mut [u
 }
 
 // Whether a state is sound; and then what is noted of each number, so that a frame need not walk the units again to see who asks.
-pub fn sound(card: Card, s: &[u8], store: usize, rows: usize, held: &mut [u8; 32]) -> bool
-    requires { (length s.now ≡ 2048) × (held.old ≡ none) }
+pub fn sound(card: Card, s: &[u8; 2048], store: usize, rows: usize, held: &mut [u8; 32]) -> bool
+    requires { held.old ≡ none }
     ensures value { result ≡ sound_in card s.now store rows }
     ensures noted { result ≡ true → held.new ≡ held_in s.now }
 {
@@ -396,13 +390,12 @@ pub fn sound(card: Card, s: &[u8], store: usize, rows: usize, held: &mut [u8; 32
 // The place of the unit with this number where an event is let in there, or the number of the refusal; whether its slice has the right length.
 pub fn admit(
     card: Card,
-    s: &[u8],
+    s: &[u8; 2048],
     store: usize,
     rows: usize,
     unit: u8,
     right: bool,
 ) -> Result<usize, u8>
-    requires { length s.now ≡ 2048 }
     ensures { result ≡ admitted_in card s.now store rows unit right }
 {
     let mut held = [0; 32];

@@ -27,8 +27,8 @@ fn mode_of(b: u8) -> Mode
 }
 
 // The byte of a column at a place.
-pub fn at(s: &[u8], column: usize, i: usize) -> u8
-    requires { (length s.now ≡ 2048) × (column < 32) × (i < 32) }
+pub fn at(s: &[u8; 2048], column: usize, i: usize) -> u8
+    requires { (column < 32) × (i < 32) }
     ensures { result ≡ col s.now i column }
 {
     s[column * 32 + i]
@@ -40,8 +40,8 @@ pub fn two_of(high: u8, low: u8) -> u16
     u16::from_be_bytes([high, low])
 }
 
-pub fn settings_at(s: &[u8], i: usize) -> Settings
-    requires { (length s.now ≡ 2048) × (i < 32) }
+pub fn settings_at(s: &[u8; 2048], i: usize) -> Settings
+    requires { i < 32 }
     ensures { result ≡ settings_by (col s.now i) }
 {
     Settings {
@@ -52,8 +52,8 @@ pub fn settings_at(s: &[u8], i: usize) -> Settings
     }
 }
 
-pub fn limits_at(s: &[u8], i: usize) -> Limits
-    requires { (length s.now ≡ 2048) × (i < 32) }
+pub fn limits_at(s: &[u8; 2048], i: usize) -> Limits
+    requires { i < 32 }
     ensures { result ≡ limits_by (col s.now i) }
 {
     Limits {
@@ -65,8 +65,8 @@ pub fn limits_at(s: &[u8], i: usize) -> Limits
     }
 }
 
-pub fn ring_at(s: &[u8], h: usize, c: usize, i: usize) -> Ring
-    requires { (length s.now ≡ 2048) × (h < 32) × (c < 32) × (i < 32) }
+pub fn ring_at(s: &[u8; 2048], h: usize, c: usize, i: usize) -> Ring
+    requires { (h < 32) × (c < 32) × (i < 32) }
     ensures { result ≡ ring_by (col s.now i) h c }
 {
     Ring {
@@ -75,8 +75,8 @@ pub fn ring_at(s: &[u8], h: usize, c: usize, i: usize) -> Ring
     }
 }
 
-pub fn outlet_at(s: &[u8], i: usize) -> Outlet
-    requires { (length s.now ≡ 2048) × (i < 32) }
+pub fn outlet_at(s: &[u8; 2048], i: usize) -> Outlet
+    requires { i < 32 }
     ensures { result ≡ outlet_by (col s.now i) }
 {
     let limits = limits_at(s, i);
@@ -84,8 +84,8 @@ pub fn outlet_at(s: &[u8], i: usize) -> Outlet
     Outlet { limits, queues }
 }
 
-pub fn side_at(s: &[u8], i: usize) -> Side
-    requires { (length s.now ≡ 2048) × (i < 32) }
+pub fn side_at(s: &[u8; 2048], i: usize) -> Side
+    requires { i < 32 }
     ensures { result ≡ side_by (col s.now i) }
 {
     let controlout = ring_at(s, 28, 29, i);
@@ -97,23 +97,23 @@ pub fn side_at(s: &[u8], i: usize) -> Side
     }
 }
 
-pub fn place_at(s: &[u8], i: usize) -> u32
-    requires { (length s.now ≡ 2048) × (i < 32) }
+pub fn place_at(s: &[u8; 2048], i: usize) -> u32
+    requires { i < 32 }
     ensures { result ≡ place_by (col s.now i) }
 {
     u32::from_be_bytes([at(s, 10, i), at(s, 11, i), at(s, 12, i), at(s, 13, i)])
 }
 
-pub fn sessions_at(s: &[u8], i: usize) -> [u8; 32]
-    requires { (length s.now ≡ 2048) × (i < 32) }
+pub fn sessions_at(s: &[u8; 2048], i: usize) -> [u8; 32]
+    requires { i < 32 }
     ensures { result ≡ part s.now (1024 + 32 * i) 32 }
 {
     *s[1024 + 32 * i..].first_chunk().unwrap()
 }
 
 // Whether the unit in a place hears a session: of its 32 bytes one is read.
-pub fn hears_at(s: &[u8], i: usize, session: u8) -> bool
-    requires { (length s.now ≡ 2048) × (i < 32) }
+pub fn hears_at(s: &[u8; 2048], i: usize, session: u8) -> bool
+    requires { i < 32 }
     ensures { result ≡ hears (part s.now (1024 + 32 * i) 32) session }
 {
     let at = 1024 + 32 * i + (session / 8) as usize;
@@ -121,8 +121,8 @@ pub fn hears_at(s: &[u8], i: usize, session: u8) -> bool
 }
 
 // The unit in a place.
-pub fn unit_at(s: &[u8], i: usize) -> Unit
-    requires { (length s.now ≡ 2048) × (i < 32) }
+pub fn unit_at(s: &[u8; 2048], i: usize) -> Unit
+    requires { i < 32 }
     ensures { result ≡ unit_in s.now i }
 {
     let settings = settings_at(s, i);
@@ -141,16 +141,16 @@ pub fn unit_at(s: &[u8], i: usize) -> Unit
 }
 
 // How many cells wait in the inlet of the unit in a place: data, control and loopback.
-pub fn waiting_at(s: &[u8], i: usize) -> u16
-    requires { (length s.now ≡ 2048) × (i < 32) }
+pub fn waiting_at(s: &[u8; 2048], i: usize) -> u16
+    requires { i < 32 }
     ensures { result ≡ waiting (unit_in s.now i) }
 {
     (at(s, 15, i) as u16) + (at(s, 26, i) as u16) + (at(s, 27, i) as u16)
 }
 
 // A ring is written into its two columns.
-pub fn put_ring(s: &mut [u8], h: usize, c: usize, i: usize, ring: Ring)
-    requires { (length s.old ≡ 2048) × (h < 32) × (c < 32) × (i < 32) }
+pub fn put_ring(s: &mut [u8; 2048], h: usize, c: usize, i: usize, ring: Ring)
+    requires { (h < 32) × (c < 32) × (i < 32) }
     ensures { s.new ≡ with_ring s.old h c i ring }
 {
     s[h * 32 + i] = ring.head;
@@ -158,16 +158,15 @@ pub fn put_ring(s: &mut [u8], h: usize, c: usize, i: usize, ring: Ring)
 }
 
 // One byte of a column is written.
-pub fn put_byte(s: &mut [u8], c: usize, i: usize, value: u8)
-    requires { (length s.old ≡ 2048) × (c < 32) × (i < 32) }
+pub fn put_byte(s: &mut [u8; 2048], c: usize, i: usize, value: u8)
+    requires { (c < 32) × (i < 32) }
     ensures { s.new ≡ with_byte s.old c i value }
 {
     s[c * 32 + i] = value;
 }
 
 // Where the unit with this number stands among the declared ones.
-pub fn find(s: &[u8], number: u8) -> Option<usize>
-    requires { length s.now ≡ 2048 }
+pub fn find(s: &[u8; 2048], number: u8) -> Option<usize>
     ensures { result ≡ find_in (declared (shelf_in s.now)) number }
 {
     let end = shelf::declared_count(s[805]);
@@ -180,16 +179,14 @@ pub fn find(s: &[u8], number: u8) -> Option<usize>
 }
 
 // What each unit number asks at.
-pub fn asks_at(s: &[u8]) -> [u8; 32]
-    requires { length s.now ≡ 2048 }
+pub fn asks_at(s: &[u8; 2048]) -> [u8; 32]
     ensures { result ≡ part s.now 768 32 }
 {
     *s[768..].first_chunk().unwrap()
 }
 
 // The arbiter.
-pub fn arbiter_at(s: &[u8]) -> Arbiter
-    requires { length s.now ≡ 2048 }
+pub fn arbiter_at(s: &[u8; 2048]) -> Arbiter
     ensures { result ≡ (shelf_in s.now).arbiter }
 {
     let asks = asks_at(s);
@@ -198,16 +195,14 @@ pub fn arbiter_at(s: &[u8]) -> Arbiter
 }
 
 // The number of the next frame.
-pub fn frame_at(s: &[u8]) -> u16
-    requires { length s.now ≡ 2048 }
+pub fn frame_at(s: &[u8; 2048]) -> u16
     ensures { result ≡ (shelf_in s.now).frame }
 {
     two_of(s[806], s[807])
 }
 
 // What a frame leaves is written: the arbiter, the open grant, the next frame's number.
-pub fn put_turn(s: &mut [u8], arbiter: Arbiter, granted: u8, frame: u16)
-    requires { length s.old ≡ 2048 }
+pub fn put_turn(s: &mut [u8; 2048], arbiter: Arbiter, granted: u8, frame: u16)
     ensures { s.new ≡ with_turn s.old arbiter granted frame }
 {
     let asks = arbiter.asks;
@@ -219,8 +214,7 @@ pub fn put_turn(s: &mut [u8], arbiter: Arbiter, granted: u8, frame: u16)
 }
 
 // A bus without a unit, whatever the bytes were.
-pub fn fresh(s: &mut [u8], bus: u8)
-    requires { length s.old ≡ 2048 }
+pub fn fresh(s: &mut [u8; 2048], bus: u8)
     ensures { s.new ≡ fresh_bytes bus }
 {
     s.fill(0);
@@ -288,8 +282,8 @@ fn columns_of(settings: Settings, outlet: Outlet, place: u32) -> [u8; 24]
 }
 
 // Bytes written at a place, into a column and those that follow.
-fn put_columns(s: &mut [u8], i: usize, first: usize, values: &[u8])
-    requires { (length s.old ≡ 2048) × (i < 32) × (first + length values.now ≤ 32) }
+fn put_columns(s: &mut [u8; 2048], i: usize, first: usize, values: &[u8])
+    requires { (i < 32) × (first + length values.now ≤ 32) }
     ensures { s.new ≡ puts s.old i first values.now }
 {
     for (k, value) in values.iter().enumerate() {
@@ -298,8 +292,8 @@ fn put_columns(s: &mut [u8], i: usize, first: usize, values: &[u8])
 }
 
 // One unit more, at the next place.
-pub fn declare(s: &mut [u8], settings: Settings, outlet: Outlet, place: u32)
-    requires { (length s.old ≡ 2048) × (get_or s.old 805 0 < 32) }
+pub fn declare(s: &mut [u8; 2048], settings: Settings, outlet: Outlet, place: u32)
+    requires { get_or s.old 805 0 < 32 }
     ensures { s.new ≡ declared_by s.old settings outlet place }
 {
     let count = s[805];
@@ -312,8 +306,8 @@ pub fn declare(s: &mut [u8], settings: Settings, outlet: Outlet, place: u32)
 }
 
 // The unit in a place hears a session more.
-pub fn join(s: &mut [u8], i: usize, session: u8)
-    requires { (length s.old ≡ 2048) × (i < 32) }
+pub fn join(s: &mut [u8; 2048], i: usize, session: u8)
+    requires { i < 32 }
     ensures { s.new ≡ joined s.old i session }
 {
     let at = 1024 + 32 * i + (session / 8) as usize;

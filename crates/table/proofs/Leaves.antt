@@ -7,7 +7,6 @@ use mathlib.Core.List.{List}
 use Prim.Native.Nat.{ℕ, ◌+◌}
 use Rattle.card.specs.declared.Card.{Card}
 use Rattle.shelf.specs.Shelf.{Shelf}
-use Rattle.judge.specs.declared.Fault.TheVariants.{Form, Order, Twice, Wide, Room}
 use Rattle.judge.specs.Verdicts.{fine, Verdict, is_fine}
 use Rattle.meaning.specs.Enact.{used_in, memory_in}
 use Rattle.table.specs.Load.{progress_by, memory_after}

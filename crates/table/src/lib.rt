@@ -97,8 +97,7 @@ pub fn write(card: Card, memory: &mut [u8], used: u32, o: Option<Owner>, line: L
 
 // A unit hears one session more.
 #[tactic(auto, unfolding(crate::specs::GivenInPlace::joined_at))]
-fn join(s: &mut [u8], number: u8, session: u8)
-    requires { length s.old ≡ 2048 }
+fn join(s: &mut [u8; 2048], number: u8, session: u8)
     ensures { s.new ≡ joined_at s.old (find_in (declared_in (shelf_in s.old)) number) session }
 {
     if let Some(i) = state::find(s, number) {
@@ -108,8 +107,8 @@ fn join(s: &mut [u8], number: u8, session: u8)
 
 // Writes a line into the state.
 #[tactic(auto, unfolding(crate::specs::GivenInPlace::state_by))]
-pub fn enter(s: &mut [u8], used: u32, line: Line)
-    requires { (length s.old ≡ 2048) × Places (shelf_in s.old) (Ok line) }
+pub fn enter(s: &mut [u8; 2048], used: u32, line: Line)
+    requires { Places (shelf_in s.old) (Ok line) }
     ensures { s.new ≡ state_by line used s.old }
 {
     match line {
@@ -164,11 +163,11 @@ fn enact(
     card: Card,
     room: usize,
     memory: &mut [u8],
-    s: &mut [u8],
+    s: &mut [u8; 2048],
     p: Progress,
     line: Line,
 ) -> Progress
-    requires s_len { (length s.old ≡ 2048) × (p.used ≤ 262144) × (p.lines ≤ 65536) }
+    requires bounded { (p.used ≤ 262144) × (p.lines ≤ 65536) }
     requires places { verdict_in card room memory.old (shelf_in s.old) p (Ok line) ≡ fine → Places (shelf_in s.old) (Ok line) }
     ensures value { result ≡ progress_by (verdict_in card room memory.old (shelf_in s.old) p (Ok line)) p (Ok line) }
     ensures memory_after { memory.new ≡ memory_after card memory.old (shelf_in s.old) (verdict_in card room memory.old (shelf_in s.old) p (Ok line)) p (Ok line) }
@@ -199,11 +198,11 @@ fn step(
     card: Card,
     room: usize,
     memory: &mut [u8],
-    s: &mut [u8],
+    s: &mut [u8; 2048],
     p: Progress,
     reading: Result<Line, Wrong>,
 ) -> Progress
-    requires s_len { (length s.old ≡ 2048) × (p.used ≤ 262144) × (p.lines ≤ 65536) }
+    requires bounded { (p.used ≤ 262144) × (p.lines ≤ 65536) }
     requires places { verdict_in card room memory.old (shelf_in s.old) p reading ≡ fine → Places (shelf_in s.old) reading }
     ensures value { result ≡ progress_by (verdict_in card room memory.old (shelf_in s.old) p reading) p reading }
     ensures memory_after { memory.new ≡ memory_after card memory.old (shelf_in s.old) (verdict_in card room memory.old (shelf_in s.old) p reading) p reading }
@@ -238,7 +237,7 @@ fn usable(bytes: usize) -> usize
 }
 
 // Reads the lines of a text into a memory that is zero and a fresh state, up to the first faulty one.
-fn read_lines(card: Card, text: &[u8], memory: &mut [u8], s: &mut [u8]) -> Progress
+fn read_lines(card: Card, text: &[u8], memory: &mut [u8], s: &mut [u8; 2048]) -> Progress
     requires { (length text.now ≤ 65536) × (memory.old ≡ cleared memory.old) × (s.old ≡ fresh_bytes 16) }
     ensures value { result ≡ progress_of (ran_of card (usable_in memory.old) text.now) }
     ensures memory_after { memory.new ≡ memory_of card memory.old (told_in (ran_of card (usable_in memory.old) text.now)) }
@@ -269,8 +268,7 @@ fn read_lines(card: Card, text: &[u8], memory: &mut [u8], s: &mut [u8]) -> Progr
 }
 
 // A table that is refused leaves nothing behind.
-fn refused(memory: &mut [u8], s: &mut [u8], number: u8, line: u32) -> Result<u32, Refusal>
-    requires { length s.old ≡ 2048 }
+fn refused(memory: &mut [u8], s: &mut [u8; 2048], number: u8, line: u32) -> Result<u32, Refusal>
     ensures value { result ≡ refusal_of number line }
     ensures memory_after { memory.new ≡ cleared memory.old }
     ensures s_after { s.new ≡ fresh_bytes 16 }
@@ -281,8 +279,7 @@ fn refused(memory: &mut [u8], s: &mut [u8], number: u8, line: u32) -> Result<u32
 }
 
 // Whether a declared unit lacks its part of the store or its row.
-fn too_little(s: &[u8], store: usize, rows: usize) -> bool
-    requires { length s.now ≡ 2048 }
+fn too_little(s: &[u8; 2048], store: usize, rows: usize) -> bool
     ensures { result ≡ too_little (shelf_in s.now) store rows }
 {
     let units = s[805] as usize;
@@ -294,11 +291,10 @@ pub fn load_text(
     card: Card,
     text: &[u8],
     memory: &mut [u8],
-    s: &mut [u8],
+    s: &mut [u8; 2048],
     store: usize,
     rows: usize,
 ) -> Result<u32, Refusal>
-    requires { length s.old ≡ 2048 }
     ensures value { result ≡ (loading_of card text.now memory.old store rows).outcome }
     ensures memory_after { memory.new ≡ loaded card text.now memory.old store rows }
     ensures s_after { s.new ≡ state_loaded card text.now memory.old store rows }

@@ -37,8 +37,8 @@ fn hand_out(link: Link, outlet: Outlet, cell: &[u8], buffer: &mut [u8])
 }
 
 // A cell is taken from the unit in a place: only its link and its outlet are read, and one ring is put back.
-fn take_at(s: &mut [u8], place: usize, store: &[u8], buffer: &mut [u8]) -> Single
-    requires { (length s.old ≡ 2048) × (length buffer.old ≡ 53) × Housed place (unit_in s.old place) (length store.now) }
+fn take_at(s: &mut [u8; 2048], place: usize, store: &[u8], buffer: &mut [u8]) -> Single
+    requires { (length buffer.old ≡ 53) × Housed place (unit_in s.old place) (length store.now) }
     ensures result_value { outcome_by result ≡ outcome_of (done_at (shelf_in s.old) place) }
     ensures kept { (s.new ≡ state_at s.old place) × (buffer.new ≡ buffer_at (shelf_in s.old) place store.now buffer.old) }
 {

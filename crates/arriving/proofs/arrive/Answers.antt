@@ -1,6 +1,6 @@
 use Prim.Native.Nat.{◌≤◌}
 use native.Mathlib.Omega.{arith}
-use mathlib.Core.Path.{◌≡◌, refl, sym, ap, subst, ◌∙◌}
+use mathlib.Core.Path.{refl, sym, ap, subst, ◌∙◌}
 use lib.Dec.{eqb}
 use lib.ListN.{length}
 use borrow.Author.Tests.{eqb-true}
@@ -13,17 +13,15 @@ use Rattle.soundness.proofs.Laws.{decided_at, decided_refused}
 use Rattle.soundness.proofs.InPlace.{in_place, came_in, kept_out}
 use Rattle.arriving.specs.Arriving.{way_of, done_at, store_at}
 use Rattle.arriving.proofs.InPlace.{out_fits}
-use borrow.Author.Rules.{rules}
 use Rattle.arriving.proofs.arrive.Goals as goal
 
 pub arrive_at-requires : goal.arrive_at-requires
 arrive_at-requires c =
     let a = c.args in
     let b = a.s.now in
-    let long : length b ≡ 2048 = search rules in
     let e = sym c.admit.ensures ∙ c.in-Ok.is in
     let w = in_place a.card b (length a.store.now) a.rows a.unit (eqb (length a.cell.now) 53) _ e in
-    (long, eqb-true (length a.cell.now) 53 w.let_in.fits, w.housed)
+    (eqb-true (length a.cell.now) 53 w.let_in.fits, w.housed)
 
 pub returns-in-Ok : goal.returns-in-Ok
 returns-in-Ok c =

@@ -1,4 +1,4 @@
-use Rattle.std.proofs.Common.{◌≡◌, ◌-◌, ◌≤◌, length, drop}
+use Rattle.std.proofs.Common.{◌≡◌, ◌≤◌, length, drop}
 use Rattle.shelf.specs.Shelves.{declared}
 use Rattle.state.specs.Bytes.{shelf_in}
 use Rattle.framing.specs.Requests.{asking_of, asking_now}

@@ -1,4 +1,4 @@
-use Rattle.std.proofs.Common.{◌≡◌, ◌≤◌, length, sym, ap, ◌∙◌, subst, arith, rules}
+use Rattle.std.proofs.Common.{◌≤◌, length, sym, ap, ◌∙◌, subst, arith}
 use Rattle.state.specs.Bytes.{shelf_in}
 use Rattle.soundness.specs.Soundings.{sound_in}
 use Rattle.soundness.proofs.Facts.{sound_iff}
@@ -67,9 +67,7 @@ frame_on-requires c =
     let b = a.s.now in
     let good = c.if-not-sound.false in
     let s = sym c.sound.ensures.value ∙ good in
-    let w = sound_in_lem a.card b (length a.store.now) a.rows s in
-    let long : length b ≡ 2048 = search rules in (
-      long,
+    let w = sound_in_lem a.card b (length a.store.now) a.rows s in (
       c.if-buffer-ne57.false,
       housed_in b (length a.store.now) (λ i h. (sound_housed a.card (shelf_in b) (length a.store.now) a.rows w.1 i h).0),
       c.requires,

@@ -5,7 +5,7 @@ use Rattle.framing.specs.Requests.{asking_now}
 use Rattle.framing.specs.Frames.{turn_store, turn_buffer, turn_done}
 use Rattle.framing.specs.Scenes.{AllHousedIn}
 use Rattle.framing.specs.InPlace.{turn_state}
-use Rattle.framing.proofs.Moves.{moves_long, moves_rows, moves_decode, moves_each, moves_store, moves_housed}
+use Rattle.framing.proofs.Moves.{moves_decode, moves_each, moves_store, moves_housed}
 use Rattle.framing.proofs.frame_on.Goals as goal
 
 pub turn_on-requires : goal.turn_on-requires
@@ -15,11 +15,10 @@ turn_on-requires c =
     let b = a.s.now in
     let store = a.store.now in
     let w = c.settle-asks in
+    let long : length b ≡ 2048 = search rules in
     let same : length w.new.store ≡ length store = search rules in (
-      ap length w.ensures.kept.0 ∙ moves_long b store ∙ s.requires.0,
-      s.requires.1,
-      subst (λ x. AllHousedIn x (length w.new.store)) (sym w.ensures.kept.0) (moves_housed b store s.requires.0 (length w.new.store) (subst (λ n. AllHousedIn b n) (sym same) s.requires.2)),
-      ap length w.ensures.kept.1.1 ∙ moves_rows b store,
+      s.requires.0,
+      subst (λ x. AllHousedIn x (length w.new.store)) (sym w.ensures.kept.0) (moves_housed b store long (length w.new.store) (subst (λ n. AllHousedIn b n) (sym same) s.requires.1)),
       w.ensures.value ∙ ap (λ x. asking_now (shelf_in x)) (sym w.ensures.kept.0),
     )
 
@@ -31,9 +30,10 @@ returns c =
     let store = a.store.now in
     let w = c.settle-asks in
     let r = c.turn_on.ensures in
-    let shelf = ap shelf_in w.ensures.kept.0 ∙ moves_decode b store s.requires.0 in
-    let stored = w.ensures.kept.1.0 ∙ moves_store b store s.requires.0 in
-    let each = w.ensures.kept.1.1 ∙ moves_each b store s.requires.0 in record {
+    let long : length b ≡ 2048 = search rules in
+    let shelf = ap shelf_in w.ensures.kept.0 ∙ moves_decode b store long in
+    let stored = w.ensures.kept.1.0 ∙ moves_store b store long in
+    let each = w.ensures.kept.1.1 ∙ moves_each b store long in record {
       each_after = r.each_after ∙ (λ t. outcome_of (turn_done (shelf t) (stored t) (each t)));
       kept = (
         r.kept.0 ∙ (λ t. turn_state (w.ensures.kept.0 t) (w.ensures.kept.1.0 t)),

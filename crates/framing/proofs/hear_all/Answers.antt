@@ -1,4 +1,4 @@
-use Rattle.std.proofs.Common.{◌≡◌, ◌+◌, ◌-◌, ◌<◌, min, false, ◌||◌, length, get_or, set, sym, refl, ap, ◌∙◌, subst, arith, length-set, rules}
+use Rattle.std.proofs.Common.{◌≡◌, ◌+◌, ◌-◌, ◌<◌, min, false, ◌||◌, length, get_or, set, sym, refl, ap, ◌∙◌, subst, arith, rules}
 use lib.Bits.{bit_or}
 use Rattle.bus.specs.Frame.{heard_as}
 use Rattle.state.specs.Bytes.{unit_in}
@@ -6,7 +6,7 @@ use Rattle.answer.specs.Answers.{hearing_rises, queued_one, is_addressed}
 use Rattle.soundness.specs.Admission.{Housed}
 use Rattle.hearing.specs.Hearings.{plan_of}
 use Rattle.hearing.proofs.Plans.{plan_queue}
-use Rattle.hearing.proofs.InPlace.{state_long, state_there}
+use Rattle.hearing.proofs.InPlace.{state_there}
 use Rattle.framing.specs.Scenes.{turns}
 use Rattle.framing.proofs.Turns.{scene, turns_step, turns_end}
 use Rattle.framing.proofs.hear_all.Goals as goal
@@ -20,17 +20,16 @@ loop-i-init c =
       omega arith,
       omega arith,
       omega arith,
-      s.requires.0,
+      search rules,
       refl,
-      s.requires.3,
-      λ j h l. s.requires.2 j (omega arith),
+      λ j h l. s.requires.1 j (omega arith),
       ap (λ k. turns (heard_as a.address a.cell.now) a.cell.now 0 k (scene a.s.now a.store.now a.each.now 0 false)) n,
     )
 
 pub heed-fate-requires : goal.heed-fate-requires
 heed-fate-requires c =
     let l = c.loop-i in
-    (l.invariant.3, c.requires.1, subst (λ n. Housed l.i (unit_in l.s l.i) n) (sym l.invariant.4) (l.invariant.6 l.i (omega arith) (omega arith)))
+    (c.requires.0, subst (λ n. Housed l.i (unit_in l.s l.i) n) (sym l.invariant.4) (l.invariant.5 l.i (omega arith) (omega arith)))
 
 pub overflow_add-copies : goal.overflow_add-copies
 overflow_add-copies c = let w = c.loop-i.invariant in let q = c.queued_one-copies.ensures.small in omega (arith, w.0, w.1, w.2, q)
@@ -52,26 +51,19 @@ loop-i-preserved c =
       omega arith,
       l.invariant.1,
       omega (arith, l.invariant.2, c.queued_one-copies.ensures.small),
-      ap length es ∙ state_long p l.s l.i ∙ l.invariant.3,
+      search rules,
       long ∙ l.invariant.4,
-      length-set l.each l.i (bit_or (get_or l.each l.i 0) r.result) ∙ l.invariant.5,
-      λ j hj lj. subst (λ x. Housed j x (length a.store.now)) (sym (ap (λ b. unit_in b j) es ∙ state_there p l.s l.i (plan_queue u (heard_as a.address a.cell.now)) (omega (arith, l.invariant.1, less)) l.invariant.3 j (omega (arith, l.invariant.1, lj)) (λ e. absurd (omega arith)))) (l.invariant.6 j (omega arith) lj),
-      l.invariant.7 ∙ turns_step (heard_as a.address a.cell.now) a.cell.now l.i n _ _ less (λ t.
+      λ j hj lj. subst (λ x. Housed j x (length a.store.now)) (sym (ap (λ b. unit_in b j) es ∙ state_there p l.s l.i (plan_queue u (heard_as a.address a.cell.now)) (omega (arith, l.invariant.1, less)) l.invariant.3 j (omega (arith, l.invariant.1, lj)) (λ e. absurd (omega arith)))) (l.invariant.5 j (omega arith) lj),
+      l.invariant.6 ∙ turns_step (heard_as a.address a.cell.now) a.cell.now l.i n _ _ less (λ t.
           scene (sym es t) (sym et t) (set l.each l.i (bit_or (get_or l.each l.i 0) (sym (r.ensures ∙ ap hearing_rises f) t))) (l.copies + sym (c.queued_one-copies.ensures.value ∙ ap queued_one f) t) (l.addressed || sym (c.is_addressed-addressed.ensures ∙ ap is_addressed f) t)),
     )
 
-pub shape_of-s : goal.shape_of-s
-shape_of-s c = c.loop-i.invariant.3 ∙ sym c.requires.0
-
 pub shape_of-store : goal.shape_of-store
 shape_of-store c = c.loop-i.invariant.4
-
-pub shape_of-each : goal.shape_of-each
-shape_of-each c = c.loop-i.invariant.5 ∙ sym c.requires.3
 
 pub returns : goal.returns
 returns c =
     let l = c.loop-i in
     let a = c.args in
-    let e = sym (l.invariant.7 ∙ turns_end (heard_as a.address a.cell.now) a.cell.now l.i _ (scene l.s l.store l.each l.copies l.addressed) (omega arith)) in
+    let e = sym (l.invariant.6 ∙ turns_end (heard_as a.address a.cell.now) a.cell.now l.i _ (scene l.s l.store l.each l.copies l.addressed) (omega arith)) in
     record { each_after = λ t. (e t).tally; kept = (λ t. (e t).bytes, λ t. (e t).store) }

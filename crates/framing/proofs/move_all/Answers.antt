@@ -1,7 +1,7 @@
-use Rattle.std.proofs.Common.{◌≡◌, ◌-◌, ◌<◌, min, length, get_or, set, sym, refl, ap, ◌∙◌, subst, arith, length-set, rules}
+use Rattle.std.proofs.Common.{◌≡◌, ◌-◌, ◌<◌, min, length, get_or, set, sym, refl, ◌∙◌, subst, arith, rules}
 use Rattle.store.specs.Places.{Inside}
 use Rattle.framing.specs.Moves.{move_from}
-use Rattle.framing.proofs.Moves.{moved_long, moves_step, moves_end}
+use Rattle.framing.proofs.Moves.{moves_step, moves_end}
 use Rattle.framing.proofs.move_all.Invariants.{among}
 use Rattle.framing.proofs.move_all.Goals as goal
 
@@ -13,17 +13,15 @@ loop-i-init c =
     let n : min (get_or a.s.now 805 0) 32 ≡ c.declared_count-end.result - 0 = omega arith in (
       omega arith,
       omega arith,
-      s.requires.0,
       refl,
-      ap length s.requires.2,
-      (λ t. move_from 0 (n t) (among a.s.now a.store.now (sym s.requires.2 t))),
+      (λ t. move_from 0 (n t) (among a.s.now a.store.now (sym s.requires.1 t))),
     )
 
 pub move_one-requires : goal.move_one-requires
 move_one-requires c =
     let l = c.loop-i in
     let e = c.declared_count-end.ensures in
-    (l.invariant.2, omega arith, subst (λ n. Inside l.i n) (sym l.invariant.3) (c.requires.1 l.i (omega (arith, e))).inside)
+    (omega arith, subst (λ n. Inside l.i n) (sym l.invariant.2) (c.requires.0 l.i (omega (arith, e))).inside)
 
 pub loop-i-preserved : goal.loop-i-preserved
 loop-i-preserved c =
@@ -36,23 +34,15 @@ loop-i-preserved c =
     let less : l.i < n = search rules in (
       omega arith,
       l.invariant.1,
-      ap length es ∙ moved_long l.s l.i ∙ l.invariant.2,
-      long ∙ l.invariant.3,
-      length-set l.each l.i w.result ∙ l.invariant.4,
-      l.invariant.5 ∙ moves_step l.i n _ _ less (λ t. among (sym es t) (sym et t) (set l.each l.i (sym w.ensures.value t))),
+      long ∙ l.invariant.2,
+      l.invariant.3 ∙ moves_step l.i n _ _ less (λ t. among (sym es t) (sym et t) (set l.each l.i (sym w.ensures.value t))),
     )
 
-pub shape_of-s : goal.shape_of-s
-shape_of-s c = c.loop-i.invariant.2 ∙ sym c.requires.0
-
 pub shape_of-store : goal.shape_of-store
-shape_of-store c = c.loop-i.invariant.3
-
-pub shape_of-each : goal.shape_of-each
-shape_of-each c = c.loop-i.invariant.4 ∙ sym (ap length c.requires.2)
+shape_of-store c = c.loop-i.invariant.2
 
 pub returns : goal.returns
 returns c =
     let l = c.loop-i in
-    let e = sym (l.invariant.5 ∙ moves_end l.i _ (among l.s l.store l.each) (omega arith)) in
+    let e = sym (l.invariant.3 ∙ moves_end l.i _ (among l.s l.store l.each) (omega arith)) in
     (λ t. (e t).bytes, (λ t. (e t).store, λ t. (e t).each))

@@ -8,7 +8,5 @@ among s store each = record { bytes = s; store = store; each = each }
 abbrev pub invariant-loop-i : goal.invariant-loop-i
 invariant-loop-i l = (l.i ≤ l.end)
     × (l.end ≤ 32)
-    × (length l.s ≡ 2048)
     × (length l.store ≡ length l.initial.store)
-    × (length l.each ≡ 32)
     × (moved_in l.initial.s l.initial.store ≡ move_from l.i (l.end - l.i) (among l.s l.store l.each))

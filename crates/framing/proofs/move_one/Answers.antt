@@ -15,10 +15,10 @@ returns-then-at c =
     record { value = both.0; kept = both.1 }
 
 out_inside-at-After-get_cell : (c : After-get_cell) → c.slot_at.result + 56 ≤ length c.args.store.now
-out_inside-at-After-get_cell c = let s = c in omega (arith, c.slot_at.ensures, (slot_inside s.args.i loopback_out_slot (omega arith)).1, s.requires.2)
+out_inside-at-After-get_cell c = let s = c in omega (arith, c.slot_at.ensures, (slot_inside s.args.i loopback_out_slot (omega arith)).1, s.requires.1)
 
 out_inside : (c : After-slot_at) → c.slot_at.result + 56 ≤ length c.args.store.now
-out_inside c = let s = c in omega (arith, c.slot_at.ensures, (slot_inside s.args.i loopback_out_slot (omega arith)).1, s.requires.2)
+out_inside c = let s = c in omega (arith, c.slot_at.ensures, (slot_inside s.args.i loopback_out_slot (omega arith)).1, s.requires.1)
 
 pub get_cell-requires : goal.get_cell-requires
 get_cell-requires c = out_inside (goal.at.get_cell-requires c).After-slot_at
@@ -30,7 +30,7 @@ pub copy-requires : goal.copy-requires
 copy-requires c = let l = full (goal.at.copy-requires c).After-get_cell in omega arith
 
 pub put_cell-requires : goal.put_cell-requires
-put_cell-requires c = let s = c in (search rules, omega (arith, c.slot_at-2.ensures, (slot_inside s.args.i loopback_in_slot (omega arith)).1, s.requires.2))
+put_cell-requires c = let s = c in (search rules, omega (arith, c.slot_at-2.ensures, (slot_inside s.args.i loopback_in_slot (omega arith)).1, s.requires.1))
 
 pub returns : goal.returns
 returns c =

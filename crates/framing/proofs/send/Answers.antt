@@ -1,4 +1,4 @@
-use Rattle.std.proofs.Common.{◌≡◌, ◌+◌, ◌<◌, ◌≤◌, length, take, sym, ap, ◌∙◌, subst, arith, rules}
+use Rattle.std.proofs.Common.{◌≡◌, ◌+◌, ◌<◌, ◌≤◌, length, take, sym, ap, ◌∙◌, subst, rules}
 use Rattle.octets.specs.Octets.{part}
 use Rattle.bus.specs.Frame.{sealed}
 use Rattle.bus.proofs.Wire.{heard_sealed}
@@ -6,36 +6,36 @@ use Rattle.state.specs.Bytes.{unit_in}
 use Rattle.soundness.specs.Admission.{Housed}
 use Rattle.soundness.proofs.Laws.{cell_length}
 use Rattle.framing.specs.Scenes.{tallied_by, AllHousedIn}
-use Rattle.framing.proofs.Sends.{send_inside, sealed_cell, out_long, out_housed_in, frame_is, sent_tally, sent_bytes, sent_store_lem}
+use Rattle.framing.proofs.Sends.{send_inside, sealed_cell, out_housed_in, frame_is, sent_tally, sent_bytes, sent_store_lem}
 use Rattle.framing.proofs.send.Goals as goal
-use Rattle.framing.proofs.send.Goals.{After-each-1, After-get_cell, After-let_out-at, After-seal, Start}
+use Rattle.framing.proofs.send.Goals.{After-get_cell, After-let_out-at, After-seal, Start}
 
 housed : (c : Start) → Housed c.args.place (unit_in c.args.s.now c.args.place) (length c.args.store.now)
-housed c = c.requires.3 c.args.place c.requires.2
+housed c = c.requires.2 c.args.place c.requires.1
 
 below : (c : Start) → c.args.place < 32
 below c = (housed c).below
 
 pub let_out-at-requires : goal.let_out-at-requires
-let_out-at-requires c = let s = c in (s.requires.0, below (goal.at.let_out-at-requires c).Start)
+let_out-at-requires c = below (goal.at.let_out-at-requires c).Start
 
 cell_inside-at-After-get_cell : (c : After-get_cell) → c.let_out-at.result + 56 ≤ length c.args.store.now
 cell_inside-at-After-get_cell c =
     let s = c in
     let a = s.args in
-    subst (λ n. n + 56 ≤ length a.store.now) (sym c.let_out-at.ensures.value) (send_inside a.place (length a.store.now) (unit_in a.s.now a.place) (s.requires.3 s.args.place s.requires.2))
+    subst (λ n. n + 56 ≤ length a.store.now) (sym c.let_out-at.ensures.value) (send_inside a.place (length a.store.now) (unit_in a.s.now a.place) (s.requires.2 s.args.place s.requires.1))
 
 cell_inside-at-After-seal : (c : After-seal) → c.let_out-at.result + 56 ≤ length c.args.store.now
 cell_inside-at-After-seal c =
     let s = c in
     let a = s.args in
-    subst (λ n. n + 56 ≤ length a.store.now) (sym c.let_out-at.ensures.value) (send_inside a.place (length a.store.now) (unit_in a.s.now a.place) (s.requires.3 s.args.place s.requires.2))
+    subst (λ n. n + 56 ≤ length a.store.now) (sym c.let_out-at.ensures.value) (send_inside a.place (length a.store.now) (unit_in a.s.now a.place) (s.requires.2 s.args.place s.requires.1))
 
 cell_inside : (c : After-let_out-at) → c.let_out-at.result + 56 ≤ length c.args.store.now
 cell_inside c =
     let s = c in
     let a = s.args in
-    subst (λ n. n + 56 ≤ length a.store.now) (sym c.let_out-at.ensures.value) (send_inside a.place (length a.store.now) (unit_in a.s.now a.place) (s.requires.3 s.args.place s.requires.2))
+    subst (λ n. n + 56 ≤ length a.store.now) (sym c.let_out-at.ensures.value) (send_inside a.place (length a.store.now) (unit_in a.s.now a.place) (s.requires.2 s.args.place s.requires.1))
 
 pub get_cell-requires : goal.get_cell-requires
 get_cell-requires c = cell_inside (goal.at.get_cell-requires c).After-let_out-at
@@ -47,7 +47,7 @@ full : (c : After-get_cell) → length c.get_cell.result.now ≡ 56
 full c = cell_length c.args.store.now c.let_out-at.result c.get_cell.result.now (cell_inside-at-After-get_cell c) c.get_cell.ensures
 
 pub seal-requires : goal.seal-requires
-seal-requires c = (full (goal.at.seal-requires c).After-get_cell, c.requires.1)
+seal-requires c = (full (goal.at.seal-requires c).After-get_cell, c.requires.0)
 
 cell : (c : After-seal) → take 56 c.seal.new.frame ≡ c.get_cell.result.now
 cell c = sealed_cell c.get_cell.result.now c.seal.new.frame (full-at-After-seal c) c.seal.ensures
@@ -69,27 +69,11 @@ hear_all-heeded-requires c =
     let s = c in
     let a = s.args in
     let n = length a.store.now in
+    let long : length a.s.now ≡ 2048 = search rules in
     let e = sym c.let_out-at.ensures.kept in (
-      subst (λ x. length x ≡ 2048) e (out_long a.s.now a.place a.store.now s.requires.0 s.requires.2),
       whole (goal.at.hear_all-heeded-requires c).After-seal,
-      subst (λ x. AllHousedIn x n) e (out_housed_in a.s.now a.place a.store.now s.requires.0 s.requires.2 n s.requires.3),
-      s.requires.4,
+      subst (λ x. AllHousedIn x n) e (out_housed_in a.s.now a.place a.store.now long s.requires.1 n s.requires.2),
     )
-
-room : (c : After-each-1) → length c.hear_all-heeded.new.each ≡ 32
-room c = let e : length c.hear_all-heeded.new.each ≡ length c.args.each.now = search rules in e ∙ c.requires.4
-
-pub offset_bounds-each-place : goal.offset_bounds-each-place
-offset_bounds-each-place c = let b = below (goal.at.offset_bounds-each-place c).Start in omega (arith, b)
-
-pub bounds-each-place : goal.bounds-each-place
-bounds-each-place c = let b = below (goal.at.bounds-each-place c).Start in let l = room (goal.at.bounds-each-place c).After-each-1 in omega (arith, b, l)
-
-pub offset_bounds-each-place-2 : goal.offset_bounds-each-place-2
-offset_bounds-each-place-2 c = let b = below (goal.at.offset_bounds-each-place-2 c).Start in omega (arith, b)
-
-pub bounds-each-place-2 : goal.bounds-each-place-2
-bounds-each-place-2 c = let b = below (goal.at.bounds-each-place-2 c).Start in let l = room (goal.at.bounds-each-place-2 c).After-each-1 in omega (arith, b, l)
 
 pub returns : goal.returns
 returns c =
@@ -97,15 +81,16 @@ returns c =
     let a = s.args in
     let b = a.s.now in
     let o = c.let_out-at in
+    let long : length b ≡ 2048 = search rules in
     let es = o.ensures.kept in
-    let ek = frame_is b a.place a.store.now s.requires.0 s.requires.2 c.get_cell.result.now (c.get_cell.ensures ∙ ap (λ n. part a.store.now n 56) o.ensures.value) in
+    let ek = frame_is b a.place a.store.now long s.requires.1 c.get_cell.result.now (c.get_cell.ensures ∙ ap (λ n. part a.store.now n 56) o.ensures.value) in
     let full56 = whole (goal.at.returns c).After-seal in
     let ef = ap sealed (cell (goal.at.returns c).After-seal) ∙ ek in
     let eh = c.address_of.ensures ∙ sym (heard_sealed (take 56 c.seal.new.frame) full56) in
     let l = c.hear_all-heeded in record {
-      each_after = sent_tally b a.place a.store.now s.requires.0 s.requires.2 a.each.now _ _ _ es full56 ef eh (tallied_by l.result l.new.each) _ l.ensures.each_after c.sent_rises.ensures;
+      each_after = sent_tally b a.place a.store.now long s.requires.1 a.each.now _ _ _ es full56 ef eh (tallied_by l.result l.new.each) _ l.ensures.each_after c.sent_rises.ensures;
       kept = (
-        sent_bytes b a.place a.store.now s.requires.0 s.requires.2 a.each.now _ _ _ es full56 ef eh _ l.ensures.kept.0,
-        (sent_store_lem b a.place a.store.now s.requires.0 s.requires.2 a.each.now _ _ _ es full56 ef eh _ l.ensures.kept.1, c.seal.ensures ∙ ek),
+        sent_bytes b a.place a.store.now long s.requires.1 a.each.now _ _ _ es full56 ef eh _ l.ensures.kept.0,
+        (sent_store_lem b a.place a.store.now long s.requires.1 a.each.now _ _ _ es full56 ef eh _ l.ensures.kept.1, c.seal.ensures ∙ ek),
       );
     }

@@ -14,7 +14,7 @@ send-requires c =
     let b = s.args.s.now in
     let e = sym c.find.ensures ∙ c.in-Some.is in
     let w = ((find_at (get_or b 803 0) (declared (shelf_in b)) _).0 e).inside in
-    (s.requires.0, s.requires.1, omega (arith, w, declared_length (shelf_in b) (units_length b 0 32)), s.requires.2, s.requires.3)
+    (s.requires.0, omega (arith, w, declared_length (shelf_in b) (units_length b 0 32)), s.requires.1)
 
 pub returns-in-Some : goal.returns-in-Some
 unfolding listened_by store_by buffer_by state_by

@@ -12,4 +12,4 @@ returns c =
     let s = c in
     let a = s.args in
     let e = sym (none_moves a.s.now a.store.now (sym c.some_looped.ensures ∙ c.if-some_looped.false)) in
-    record { value = c.asks_noted.ensures ∙ s.requires.3 ∙ (λ t. asking_now (shelf_in (e t).bytes)); kept = (λ t. (e t).bytes, (λ t. (e t).store, s.requires.2 ∙ (λ t. (e t).each))) }
+    record { value = c.asks_noted.ensures ∙ s.requires.2 ∙ (λ t. asking_now (shelf_in (e t).bytes)); kept = (λ t. (e t).bytes, (λ t. (e t).store, s.requires.1 ∙ (λ t. (e t).each))) }

@@ -1,14 +1,11 @@
-use Rattle.std.proofs.Common.{◌≡◌, ◌+◌, ◌%◌, ◌^◌, false, length, get_or, ap, ◌∙◌, arith, rules}
+use Rattle.std.proofs.Common.{◌+◌, ◌%◌, ◌^◌, ◌<◌, false, get_or, ap, ◌∙◌, arith, rules}
 use Rattle.arbiter.specs.Arbitration.{granted_by}
 use Rattle.state.specs.Bytes.{with_turn}
 use Rattle.answer.specs.declared.Answer.TheVariants.{Framed}
 use Rattle.framing.proofs.turn_on.Goals as goal
 
-pub put_turn-requires : goal.put_turn-requires
-put_turn-requires c = let e : length c.send_granted-heeded.new.s ≡ length c.args.s.now = search rules in e ∙ c.requires.0
-
 pub overflow_cast-result : goal.overflow_cast-result
-overflow_cast-result c = omega (arith, c.type_inv.s 805)
+overflow_cast-result c = let b : get_or c.args.s.now 805 0 < 256 = search rules in omega arith
 
 pub returns : goal.returns
 returns c =

@@ -1,6 +1,6 @@
 use Prim.Native.Nat.{◌≤◌}
 use native.Mathlib.Omega.{arith}
-use mathlib.Core.Path.{◌≡◌, refl, sym, ap, subst, ◌∙◌}
+use mathlib.Core.Path.{refl, sym, ap, subst, ◌∙◌}
 use lib.Dec.{eqb}
 use lib.ListN.{length}
 use borrow.Author.Tests.{eqb-true}
@@ -12,17 +12,15 @@ use Rattle.soundness.proofs.Laws.{decided_at, decided_refused}
 use Rattle.soundness.proofs.InPlace.{in_place, came_in, kept_out}
 use Rattle.handing.specs.Collects.{collect_at, collect_buffer_at}
 use Rattle.handing.proofs.InPlace.{collect_fits}
-use borrow.Author.Rules.{rules}
 use Rattle.handing.proofs.collect.Goals as goal
 
 pub collect_at-requires : goal.collect_at-requires
 collect_at-requires c =
     let a = c.args in
     let b = a.s.now in
-    let long : length b ≡ 2048 = search rules in
     let e = sym c.admit.ensures ∙ c.in-Ok.is in
     let w = in_place a.card b (length a.store.now) a.rows a.unit (eqb (length a.buffer.now) 56) _ e in
-    (long, eqb-true (length a.buffer.now) 56 w.let_in.fits, w.housed)
+    (eqb-true (length a.buffer.now) 56 w.let_in.fits, w.housed)
 
 pub returns-in-Ok : goal.returns-in-Ok
 returns-in-Ok c =

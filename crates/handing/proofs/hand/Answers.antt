@@ -1,4 +1,4 @@
-use mathlib.Core.Path.{◌≡◌, refl, sym, ap, ◌∙◌}
+use mathlib.Core.Path.{refl, sym, ap, ◌∙◌}
 use lib.Dec.{eqb}
 use lib.ListN.{length}
 use borrow.Author.Tests.{eqb-true}
@@ -8,17 +8,15 @@ use Rattle.answer.specs.Answers.{refused, refused_with, spread, outcome_by}
 use Rattle.soundness.proofs.Laws.{decided_at, decided_refused}
 use Rattle.soundness.proofs.InPlace.{in_place, came_in, kept_out}
 use Rattle.handing.specs.Hands.{hand_at, hand_store_at}
-use borrow.Author.Rules.{rules}
 use Rattle.handing.proofs.hand.Goals as goal
 
 pub hand_at-requires : goal.hand_at-requires
 hand_at-requires c =
     let a = c.args in
     let b = a.s.now in
-    let long : length b ≡ 2048 = search rules in
     let e = sym c.admit.ensures ∙ c.in-Ok.is in
     let w = in_place a.card b (length a.store.now) a.rows a.unit (eqb (length a.cell.now) 56) _ e in
-    (long, eqb-true (length a.cell.now) 56 w.let_in.fits, w.housed)
+    (eqb-true (length a.cell.now) 56 w.let_in.fits, w.housed)
 
 pub returns-in-Ok : goal.returns-in-Ok
 returns-in-Ok c =

@@ -13,20 +13,20 @@ pub returns-then-at-ge1 : goal.returns-then-at-ge1
 unfolding spread
 returns-then-at-ge1 c =
     let a = c.args in
-    let below = c.requires.2.below in
+    let below = c.requires.1.below in
     let n = c.at in
     let h = le-leb 1 n.result c.if-at-ge1.true in record { result_value = ap outcome_by c.uncounted.ensures ∙ hand_out_by a.s.now a.place below n.result n.ensures true h; kept = (hand_state_by a.s.now a.place below n.result n.ensures true h, hand_store_by a.s.now a.place below n.result n.ensures true h a.store.now a.cell.now) }
 
 pub put_cell-requires : goal.put_cell-requires
 put_cell-requires c =
     let a = c.args in
-    (c.requires.1, subst (λ n. n + 56 ≤ length a.store.now) (sym c.slot_at.ensures) (control_inside a.place (length a.store.now) _ c.requires.2))
+    (c.requires.0, subst (λ n. n + 56 ≤ length a.store.now) (sym c.slot_at.ensures) (control_inside a.place (length a.store.now) _ c.requires.1))
 
 pub returns : goal.returns
 unfolding put_at spread
 returns c =
     let a = c.args in
-    let below = c.requires.2.below in
+    let below = c.requires.1.below in
     let n = c.at in
     let h = lt-leb 1 n.result c.if-at-ge1.false in record {
       result_value = ap outcome_by c.uncounted-2.ensures ∙ hand_out_by a.s.now a.place below n.result n.ensures false h;

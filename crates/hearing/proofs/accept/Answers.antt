@@ -15,13 +15,13 @@ one_of_four : (c : After-queue_of-queue) → c.queue_of-queue.result < 4
 one_of_four c = let a = c.args in few a.s.now a.place a.class _ _ c.limits_at-limits.ensures c.queue_of-queue.ensures
 
 pub ring_at-ring-requires : goal.ring_at-ring-requires
-ring_at-ring-requires c = let f = one_of_four (goal.at.ring_at-ring-requires c).After-queue_of-queue in (c.requires.0, omega (arith, f), omega (arith, f), c.requires.2.below)
+ring_at-ring-requires c = let f = one_of_four (goal.at.ring_at-ring-requires c).After-queue_of-queue in (omega (arith, f), omega (arith, f), c.requires.1.below)
 
 pub put_ring-requires : goal.put_ring-requires
-put_ring-requires c = let f = one_of_four (goal.at.put_ring-requires c).After-queue_of-queue in (c.requires.0, omega (arith, f), omega (arith, f), c.requires.2.below)
+put_ring-requires c = let f = one_of_four (goal.at.put_ring-requires c).After-queue_of-queue in (omega (arith, f), omega (arith, f), c.requires.1.below)
 
 pub outlet_at-requires : goal.outlet_at-requires
-outlet_at-requires c = c.requires.2.below
+outlet_at-requires c = c.requires.1.below
 
 slot : (c : After-outlet_at) → let a = c.args in c.outlet_at.result ≡ slot_of (unit_in a.s.now a.place).outlet a.place c.queue_of-queue.result
 slot c =
@@ -32,7 +32,7 @@ pub put_cell-requires : goal.put_cell-requires
 put_cell-requires c =
     let s = c in
     let a = s.args in
-    (s.requires.1, subst (λ n. n + 56 ≤ length a.store.now) (sym (slot (goal.at.put_cell-requires c).After-outlet_at)) (outlet_inside a.place (length a.store.now) (unit_in a.s.now a.place) _ s.requires.2 (one_of_four (goal.at.put_cell-requires c).After-queue_of-queue)))
+    (s.requires.0, subst (λ n. n + 56 ≤ length a.store.now) (sym (slot (goal.at.put_cell-requires c).After-outlet_at)) (outlet_inside a.place (length a.store.now) (unit_in a.s.now a.place) _ s.requires.1 (one_of_four (goal.at.put_cell-requires c).After-queue_of-queue)))
 
 plan : (c : After-fate_in) → let a = c.args in plan_to (unit_in a.s.now a.place) a.class a.header ≡ plan_for c.fate_in.result c.queue_of-queue.result
 plan c =

@@ -1,6 +1,6 @@
 use Prim.Native.Nat.{◌≤◌}
 use native.Mathlib.Omega.{arith}
-use mathlib.Core.Path.{◌≡◌, sym, ap, subst, ◌∙◌}
+use mathlib.Core.Path.{sym, ap, subst, ◌∙◌}
 use lib.Dec.{eqb}
 use lib.ListN.{length}
 use borrow.Author.Tests.{eqb-true}
@@ -9,7 +9,6 @@ use Rattle.answer.specs.Answers.{spread, outcome_by}
 use Rattle.soundness.proofs.Laws.{decided_at, decided_refused}
 use Rattle.soundness.proofs.InPlace.{LetInPlace, in_place}
 use Rattle.hearing.proofs.InPlace.{out_at, store_at_lem, out_refused, store_refused}
-use borrow.Author.Rules.{rules}
 use Rattle.hearing.proofs.hear.Goals as goal
 use Rattle.hearing.proofs.hear.Goals.{In-Ok}
 
@@ -20,8 +19,7 @@ pub hear_at-requires : goal.hear_at-requires
 hear_at-requires c =
     let a = c.args in
     let l = let_in (goal.at.hear_at-requires c).In-Ok in
-    let long : length a.s.now ≡ 2048 = search rules in
-    (long, eqb-true (length a.frame.now) 57 l.let_in.fits, l.housed)
+    (eqb-true (length a.frame.now) 57 l.let_in.fits, l.housed)
 
 pub returns-in-Ok : goal.returns-in-Ok
 returns-in-Ok c =

@@ -32,7 +32,7 @@ pub put_cell-requires : goal.put_cell-requires
 put_cell-requires c =
     let s = c in
     let a = s.args in
-    (s.requires.1, subst (λ n. n + 56 ≤ length a.store.now) (sym (slot (goal.at.put_cell-requires c).After-control_at)) (control_inside a.place (length a.store.now) (unit_in a.s.now a.place) s.requires.2))
+    (s.requires.0, subst (λ n. n + 56 ≤ length a.store.now) (sym (slot (goal.at.put_cell-requires c).After-control_at)) (control_inside a.place (length a.store.now) (unit_in a.s.now a.place) s.requires.1))
 
 pub returns : goal.returns
 returns c =

@@ -14,12 +14,12 @@ returns-in_err-at c =
 pub settings_at-requires : goal.settings_at-requires
 settings_at-requires c =
     let b = c.args.s.now in
-    (c.requires, found_in (shelf_in b) c.args.number c.in_ok-at.at (units_length b 0 32) (sym c.find.ensures ∙ c.in_ok-at.was))
+    found_in (shelf_in b) c.args.number c.in_ok-at.at (units_length b 0 32) (sym c.find.ensures ∙ c.in_ok-at.was)
 
 pub place_at-requires : goal.place_at-requires
 place_at-requires c =
     let b = c.args.s.now in
-    (c.requires, found_in (shelf_in b) c.args.number c.in_ok-at.at (units_length b 0 32) (sym c.find.ensures ∙ c.in_ok-at.was))
+    found_in (shelf_in b) c.args.number c.in_ok-at.at (units_length b 0 32) (sym c.find.ensures ∙ c.in_ok-at.was)
 
 pub returns : goal.returns
 unfolding owner_of unit_by

@@ -15,10 +15,10 @@ pub returns-then-hears_at : goal.returns-then-hears_at
 unfolding judge_mc
 returns-then-hears_at c =
     let a = c.args in
-    rw (sym (heard a.s.now a.o.at a.session _ c.requires.1 c.hears_at.ensures) ∙ c.if-hears_at.true)
+    rw (sym (heard a.s.now a.o.at a.session _ c.requires c.hears_at.ensures) ∙ c.if-hears_at.true)
 
 pub returns : goal.returns
 unfolding judge_mc
 returns c =
     let a = c.args in
-    rw (sym (heard a.s.now a.o.at a.session _ c.requires.1 c.hears_at.ensures) ∙ c.if-hears_at.false)
+    rw (sym (heard a.s.now a.o.at a.session _ c.requires c.hears_at.ensures) ∙ c.if-hears_at.false)

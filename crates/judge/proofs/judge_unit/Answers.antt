@@ -1,10 +1,6 @@
-use Rattle.std.proofs.Common.{sym, ◌∙◌, ◌≡◌, Bool, true, false, cond, Ok, Err}
+use Rattle.std.proofs.Common.{sym, ◌∙◌}
 use Rattle.std.proofs.lemmas.Result.{err_from_is_err_and}
 use borrow.Author.Tests.{le-leb, lt-leb}
-use Rattle.card.specs.declared.Card.{Card}
-use Rattle.card.specs.declared.Ask.{Ask}
-use Rattle.judge.specs.Verdicts.{Verdict, asked}
-use Rattle.judge.specs.declared.Fault.{Fault}
 use Rattle.judge.specs.Judge.{judge_unit}
 use Rattle.judge.proofs.Owning.{asked_fine, asked_wide}
 use Rattle.judge.proofs.judge_unit.Goals as goal

@@ -1,6 +1,6 @@
-use Rattle.std.proofs.Common.{sym, ap, ◌∙◌, ◌+◌, ◌*◌}
+use Rattle.std.proofs.Common.{sym, ap, ◌∙◌}
 use borrow.Author.Tests.{lt-ltb, le-ltb}
-use Rattle.lookup.specs.Record.{size, record_at}
+use Rattle.lookup.specs.Record.{record_at}
 use Rattle.judge.specs.Verdicts.{taken, page_in}
 use Rattle.judge.specs.Judge.{judge_vc}
 use Rattle.judge.proofs.judge_vc.Goals as goal

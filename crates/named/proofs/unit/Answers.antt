@@ -7,7 +7,7 @@ use Rattle.named.proofs.unit.Goals as goal
 pub put_unit-requires : goal.put_unit-requires
 put_unit-requires c =
     let below = found_below c.args.s.now c.args.number _ (sym c.find.ensures ∙ c.in-Some.is) in
-    (search rules, below, search rules)
+    (below, search rules)
 
 pub returns-in-Some : goal.returns-in-Some
 unfolding unit_text

@@ -1,4 +1,4 @@
-use Rattle.std.proofs.Common.{◌≡◌, ℕ, ◌/◌, ◌<◌, Bool, true, false, cond, leb, get_or, refl, arith, leb-false, leb-true}
+use Rattle.std.proofs.Common.{◌≡◌, ℕ, ◌/◌, ◌<◌, Bool, true, false, cond, leb, get_or, refl, arith, leb-false, leb-true, rules}
 use Rattle.soundness.proofs.Pass.{many_next, many_end}
 use Rattle.soundness.proofs.how_many.Goals as goal
 
@@ -13,7 +13,7 @@ pub loop-note-preserved : goal.loop-note-preserved
 loop-note-preserved c =
     let held = c.args.held.now in
     let i = c.loop-note.note-index in
-    let x = c.type_inv.held i in
+    let x : get_or held i 0 < 256 = search rules in
     let m = many_next held i (omega arith) in
     let n = halved (get_or held i 0) (omega (arith, x)) in
     (omega arith, omega arith)

@@ -16,13 +16,13 @@ pub note_all-requires : goal.note_all-requires
 note_all-requires c =
     let p = c in
     let a = p.args in
-    (p.requires.0, few a.card a.s.now a.store a.rows (sym c.roomy.ensures ∙ c.if-not-roomy.false), p.requires.1)
+    (few a.card a.s.now a.store a.rows (sym c.roomy.ensures ∙ c.if-not-roomy.false), p.requires)
 
 pub units_good-requires : goal.units_good-requires
 units_good-requires c =
     let p = c in
     let a = p.args in
-    (p.requires.0, some_bus a.card a.s.now a.store a.rows (sym c.roomy.ensures ∙ c.if-not-roomy.false))
+    some_bus a.card a.s.now a.store a.rows (sym c.roomy.ensures ∙ c.if-not-roomy.false)
 
 pub returns-then-not-units_good : goal.returns-then-not-units_good
 returns-then-not-units_good c =

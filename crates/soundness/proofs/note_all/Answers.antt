@@ -11,7 +11,7 @@ loop-from-init c =
     (omega arith, c.reach-from.ensures.upper_bound.0, ⊎_elim (λ e. omega arith) (λ e. omega arith) c.reach-from.ensures.even, ap (noted_by (note_from c.notes-each.result) c.args.s.now c.args.held.now end) none)
 
 pub note_8-requires : goal.note_8-requires
-note_8-requires c = let most = c.loop-from.invariant.1 in (c.requires.0, omega (arith, most))
+note_8-requires c = let most = c.loop-from.invariant.1 in omega (arith, most)
 
 pub loop-from-preserved : goal.loop-from-preserved
 loop-from-preserved c =
@@ -38,8 +38,8 @@ returns c =
     let notes = c.notes-each in
     let from : l.from ≡ 0 = omega arith in
     let many : end - l.from ≡ end = omega arith in
-    let most = c.requires.1 in
+    let most = c.requires.0 in
     let past = c.reach-from.ensures.upper_bound in
     l.invariant.3
-    ∙ (λ t. noted_by (note_from notes.result) c.args.s.now (c.requires.2 t) (from t) (many t))
+    ∙ (λ t. noted_by (note_from notes.result) c.args.s.now (c.requires.1 t) (from t) (many t))
     ∙ past_nothing c.args.s.now notes.result end notes.ensures (⊎_elim (λ h. h) (λ e. omega (arith, most)) past.1) past.0

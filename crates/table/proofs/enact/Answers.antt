@@ -21,7 +21,7 @@ enter-requires c =
     let s = c in
     let a = s.args in
     let e = c.judge-verdict.ensures ∙ ap (λ o. judge_by a.card a.room (eqb a.p.lines 0) (record_at a.card a.memory.now) (shelf_in a.s.now) a.p.used o a.line) c.owner_of-o.ensures.0 in
-    (s.requires.s_len.0, s.requires.places (sym e ∙ fine_is _ (passed _ (sym c.is_err.ensures.value ∙ c.if-is_err.false))))
+    s.requires.places (sym e ∙ fine_is _ (passed _ (sym c.is_err.ensures.value ∙ c.if-is_err.false)))
 
 pub returns : goal.returns
 returns c =

@@ -7,4 +7,4 @@ use Rattle.table.proofs.join.Goals as goal
 pub join-requires : goal.join-requires
 join-requires c =
     let b = c.args.s.now in
-    (c.requires, found_in (shelf_in b) c.args.number c.in-Some.i (units_length b 0 32) (sym c.find.ensures ∙ c.in-Some.is))
+    found_in (shelf_in b) c.args.number c.in-Some.i (units_length b 0 32) (sym c.find.ensures ∙ c.in-Some.is)

@@ -1,4 +1,3 @@
-use Rattle.std.specs.Prelude.{Ok}
 use mathlib.Core.Path.{◌≡◌, refl, sym, ap, subst, subst₂, ◌∙◌}
 use mathlib.Core.List.{[]}
 use Prim.Native.Nat.{◌+◌}
@@ -14,7 +13,7 @@ use Rattle.meaning.specs.Enact.{Places}
 use Rattle.meaning.proofs.Memory.{memory_none}
 use Rattle.table.specs.Load.{progress_by, memory_after, verdict_in, progress_of, told_in, ran_of}
 use Rattle.table.specs.InPlace.{state_after, state_of}
-use Rattle.table.proofs.Turns.{Between, at_start, at_end, used_most, lines_most, state_long, step_places, stop_progress, stop_memory, stop_state, on}
+use Rattle.table.proofs.Turns.{Between, at_start, at_end, used_most, lines_most, step_places, stop_progress, stop_memory, stop_state, on}
 use native.Mathlib.Omega.{arith}
 use Rattle.table.proofs.Leaves.{failed, passed}
 use Rattle.table.proofs.read_lines.Goals as goal
@@ -31,7 +30,7 @@ pub loop-from-init : goal.loop-from-init
 loop-from-init c =
     let a = c.args in
     let p = c.requires in
-    ([], subst₂ (λ q s. Between a.card a.memory.now a.text.now [] 0 q a.memory.now s) (sym c.begin-p.ensures) (sym p.2) (at_start a.card a.memory.now a.text.now p.1 c.if-text-eq0.false), refl, refl)
+    ([], subst₂ (λ q s. Between a.card a.memory.now a.text.now [] 0 q a.memory.now s) (sym c.begin-p.ensures) (sym p.2) (at_start a.card a.memory.now a.text.now p.1 c.if-text-eq0.false), refl)
 
 pub line_at-stretch-requires : goal.line_at-stretch-requires
 line_at-stretch-requires c = c.loop-from.invariant.1.inside
@@ -62,13 +61,10 @@ step-p-requires c =
     let room = c.usable-room.ensures in
     let m = a.memory.now in
     let t = a.text.now in
-    let w = shelf_in l.s in record { s_len = (state_long a.card m t told l.from l.p l.memory l.s b, used_most a.card m t told l.from l.p l.memory l.s b, lines_most a.card m t told l.from l.p l.memory l.s b c.requires.0); places = subst (λ n. verdict_in a.card n l.memory w l.p r ≡ fine → Places w r) (sym room) (step_places a.card m t told l.from l.p l.memory l.s b e q h r k) }
+    let w = shelf_in l.s in record { bounded = (used_most a.card m t told l.from l.p l.memory l.s b, lines_most a.card m t told l.from l.p l.memory l.s b c.requires.0); places = subst (λ n. verdict_in a.card n l.memory w l.p r ≡ fine → Places w r) (sym room) (step_places a.card m t told l.from l.p l.memory l.s b e q h r k) }
 
 pub shape_of-memory-then-is_err : goal.shape_of-memory-then-is_err
 shape_of-memory-then-is_err c = c.step-p.auto.memory ∙ c.loop-from.invariant.2
-
-pub shape_of-s-then-is_err : goal.shape_of-s-then-is_err
-shape_of-s-then-is_err c = c.step-p.auto.s ∙ c.loop-from.invariant.3
 
 pub returns-then-is_err : goal.returns-then-is_err
 unfolding progress_by
@@ -123,14 +119,10 @@ loop-from-preserved c =
       o.0,
       subst (λ x. Between a.card m t o.0 (e + 1) s.result s.new.memory x) (sym s₃) (subst₂ (λ p y. Between a.card m t o.0 (e + 1) p y (state_after l.s (verdict_in a.card (usable m) l.memory w l.p r) l.p r)) (sym s₁) (sym s₂) o.1),
       s.auto.memory ∙ l.invariant.2,
-      s.auto.s ∙ l.invariant.3,
     )
 
 pub shape_of-memory : goal.shape_of-memory
 shape_of-memory c = c.loop-from.invariant.2
-
-pub shape_of-s : goal.shape_of-s
-shape_of-s c = c.loop-from.invariant.3
 
 pub returns : goal.returns
 returns c =

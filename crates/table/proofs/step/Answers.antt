@@ -1,4 +1,3 @@
-use Rattle.std.specs.Prelude.{Ok}
 use mathlib.Core.Path.{◌≡◌, sym, ap, subst, ◌∙◌}
 use Rattle.state.specs.Bytes.{shelf_in}
 use Rattle.meaning.specs.Enact.{Places}
@@ -11,7 +10,7 @@ pub enact-requires : goal.enact-requires
 enact-requires c =
     let s = c in
     let a = s.args in
-    record { s_len = s.requires.s_len; places = subst (λ r. verdict_in a.card a.room a.memory.now (shelf_in a.s.now) a.p r ≡ fine → Places (shelf_in a.s.now) r) c.in-Ok.is s.requires.places }
+    record { bounded = s.requires.bounded; places = subst (λ r. verdict_in a.card a.room a.memory.now (shelf_in a.s.now) a.p r ≡ fine → Places (shelf_in a.s.now) r) c.in-Ok.is s.requires.places }
 
 pub returns-in-Ok : goal.returns-in-Ok
 returns-in-Ok c =

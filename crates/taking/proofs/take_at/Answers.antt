@@ -18,7 +18,7 @@ returns-in_default c =
     let a = c.args in
     let o = c.outlet_at-outlet in
     let l = c.leaving_of in
-    let below = c.requires.2.below in
+    let below = c.requires.1.below in
     let e = c.in_default.is in record { result_value = ap outcome_by c.uncounted.ensures ∙ empty_out a.s.now a.place below o.result o.ensures l.result l.ensures e; kept = (empty_state a.s.now a.place below o.result o.ensures l.result l.ensures e, empty_buffer a.s.now a.place below o.result o.ensures l.result l.ensures e a.store.now a.buffer.now) }
 
 pub get_cell-requires : goal.get_cell-requires
@@ -26,34 +26,34 @@ get_cell-requires c =
     let a = c.args in
     let o = c.outlet_at-outlet in
     let l = c.leaving_of in
-    let below = c.requires.2.below in
+    let below = c.requires.1.below in
     let q = c.in-Some.queue in
     let e = c.in-Some.is in
     let w = c.outlet_at-at.ensures ∙ ap (λ r. slot_at a.place (outlet_slot o.result.limits q r.head)) c.queue-ring.ensures in
-    subst (λ n. n + 56 ≤ length a.store.now) (sym w) (inside a.s.now a.place below o.result o.ensures l.result l.ensures q e (length a.store.now) c.requires.2)
+    subst (λ n. n + 56 ≤ length a.store.now) (sym w) (inside a.s.now a.place below o.result o.ensures l.result l.ensures q e (length a.store.now) c.requires.1)
 
 pub hand_out-requires : goal.hand_out-requires
 hand_out-requires c =
     let a = c.args in
     let o = c.outlet_at-outlet in
     let l = c.leaving_of in
-    let below = c.requires.2.below in
+    let below = c.requires.1.below in
     let q = c.in-Some.queue in
     let e = c.in-Some.is in
     let w = c.outlet_at-at.ensures ∙ ap (λ r. slot_at a.place (outlet_slot o.result.limits q r.head)) c.queue-ring.ensures in
-    let i = subst (λ n. n + 56 ≤ length a.store.now) (sym w) (inside a.s.now a.place below o.result o.ensures l.result l.ensures q e (length a.store.now) c.requires.2) in
-    (cell_length a.store.now c.outlet_at-at.result c.get_cell.result.now i c.get_cell.ensures, c.requires.1)
+    let i = subst (λ n. n + 56 ≤ length a.store.now) (sym w) (inside a.s.now a.place below o.result o.ensures l.result l.ensures q e (length a.store.now) c.requires.1) in
+    (cell_length a.store.now c.outlet_at-at.result c.get_cell.result.now i c.get_cell.ensures, c.requires.0)
 
 pub put_ring-requires : goal.put_ring-requires
 put_ring-requires c =
     let a = c.args in
     let o = c.outlet_at-outlet in
     let l = c.leaving_of in
-    let below = c.requires.2.below in
+    let below = c.requires.1.below in
     let q = c.in-Some.queue in
     let e = c.in-Some.is in
     let f = few a.s.now a.place below o.result o.ensures l.result l.ensures q e in
-    (c.requires.0, omega arith, omega arith, below)
+    (omega arith, omega arith, below)
 
 pub returns : goal.returns
 unfolding cell_at spread
@@ -61,7 +61,7 @@ returns c =
     let a = c.args in
     let o = c.outlet_at-outlet in
     let l = c.leaving_of in
-    let below = c.requires.2.below in
+    let below = c.requires.1.below in
     let q = c.in-Some.queue in
     let e = c.in-Some.is in
     let w = c.outlet_at-at.ensures ∙ ap (λ r. slot_at a.place (outlet_slot o.result.limits q r.head)) c.queue-ring.ensures in
