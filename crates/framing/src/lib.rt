@@ -106,11 +106,15 @@ fn asking_now(s: &[u8]) -> [u8; 32]
     now
 }
 
-// The same by what is noted of each number in a sound state: a note by 4.
+// The same by what is noted of each number in a sound state: a note by 4. By a `for` many go side by side; by `map` one at a time, a third more for a frame.
 fn asks_noted(held: [u8; 32]) -> [u8; 32]
     ensures { result ≡ asked_by held }
 {
-    held.map(|note| note % 4)
+    let mut asks = [0; 32];
+    for i in 0..32 {
+        asks[i] = held[i] % 4;
+    }
+    asks
 }
 
 // The loopback cells move. What each declared unit asks then: where none moves, as it was noted before.

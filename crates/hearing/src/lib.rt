@@ -135,7 +135,8 @@ pub fn address_of(cell: &[u8]) -> Address
     bus::read(octets::two(cell, 0))
 }
 
-// The unit in a place hears a frame of this cell, with this address.
+// The unit in a place hears a frame of this cell, with this address. It is taken into the loop over the units: a call for each costs up to an eighth of a frame.
+#[inline(always)]
 pub fn heed(s: &mut [u8], place: usize, address: Address, cell: &[u8], store: &mut [u8]) -> Hearing
     requires { (length s.old ≡ 2048) × (length cell.now ≡ 56) × Housed place (unit_in s.old place) (length store.old) }
     ensures value { result ≡ fate_by (plan_of (unit_in s.old place) (heard_as address cell.now)) }
