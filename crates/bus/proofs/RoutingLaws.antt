@@ -5,11 +5,12 @@ use native.Mathlib.Nat.{mod-eq_of_lt}
 use native.Mathlib.Omega.{arith}
 use borrow.Author.Tests.{eq-eqb, ne_eqb, le-leb}
 use lib.Bits.{bit_xor}
+use Rattle.std.specs.Prelude.{Some, None}
 use Rattle.remainder.proofs.Laws.{residue_lt, residue_linear}
 use Rattle.bus.specs.Routing.{Sayable, divisor, check, upper, routing, controlling, kind_in, class_in, number_in, said, address}
 use Rattle.bus.specs.declared.Target.{Target}
 use Rattle.bus.specs.declared.Target.TheVariants.{Unit as U·, Session, All}
-use Rattle.bus.specs.declared.Address.TheVariants.{Bad, To, Third}
+use Rattle.bus.specs.declared.Address.TheVariants.{To, Third}
 
 -- a routing header put together of kind k, class q, number n and check c, and taken apart
 module _ (k q n c : ℕ) (hk : k < 4) (hq : q < 4) (hn : n < 256) (hc : c < 16) where
@@ -41,7 +42,7 @@ pub checked : (r k : ℕ) → k ≡ check (r / 16) → k ≡ r % 16 → address 
 unfolding address
 checked r k e h = rw (eq-eqb (check (r / 16)) (r % 16) (sym e ∙ h))
 
-pub unchecked : (r k : ℕ) → k ≡ check (r / 16) → (k ≡ r % 16 → ⊥) → address r ≡ Bad
+pub unchecked : (r k : ℕ) → k ≡ check (r / 16) → (k ≡ r % 16 → ⊥) → address r ≡ None
 unfolding address
 unchecked r k e h = rw (ne_eqb (check (r / 16)) (r % 16) (λ g. h (e ∙ g)))
 
@@ -54,7 +55,7 @@ said_by k q n hk hq hn =
     ∙ (λ i. said (r_kind k q n (check u) hk hq hn hc i) (r_class k q n (check u) hk hq hn hc i) (r_number k q n (check u) hk hq hn hc i))
 
 -- a routing header says what it was made of
-pub address_routing : (target : Target) (class : ℕ) → Sayable target → class < 4 → address (routing target class) ≡ To target class
+pub address_routing : (target : Target) (class : ℕ) → Sayable target → class < 4 → address (routing target class) ≡ Some (To target class)
 unfolding routing upper
 address_routing (U· unit) class s h = rw (mod-eq_of_lt h) (said_by 0 class unit (omega arith) h (omega arith) ∙ rw (le-leb unit 31 s))
 address_routing (Session session) class s h = rw (mod-eq_of_lt h) (said_by 1 class session (omega arith) h s)
@@ -67,7 +68,7 @@ routing_lt (Session session) class s = omega (arith, residue_lt divisor 12 (uppe
 routing_lt All class s = omega (arith, residue_lt divisor 12 (upper All class))
 
 -- and so does that of a control cell
-pub address_controlling : (unit : ℕ) → unit < 256 → address (controlling unit) ≡ Third 0 unit
+pub address_controlling : (unit : ℕ) → unit < 256 → address (controlling unit) ≡ Some (Third 0 unit)
 unfolding controlling
 address_controlling unit h = said_by 3 0 unit (omega arith) (omega arith) h
 

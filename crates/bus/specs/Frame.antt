@@ -1,6 +1,6 @@
 -- The bus frame. "A bus frame is 57 bytes: routing header 2, tandem header 2 (written zero, heard as anything), cell header 4, payload 48,
 -- parity 1. The cell header on the bus always has a twelve-bit VPI." Assumes nothing.
-use Rattle.std.specs.Prelude.{ℕ, cond, ◌&&◌, List, [], ◌∷◌, ◌++◌, eqb, leb, length, get_or, take, drop}
+use Rattle.std.specs.Prelude.{ℕ, cond, ◌&&◌, List, [], ◌∷◌, ◌++◌, eqb, leb, length, get_or, take, drop, Option, Some, None}
 use Rattle.std.specs.Int.Bits.{bit_xor}
 use Rattle.octets.specs.Octets.{be2, be4, two, four, part}
 use Rattle.bus.specs.Routing.{controlling, address}
@@ -33,14 +33,14 @@ unfoldable pub third : ℕ → ℕ → ℕ → Heard
 third class number tandem =
     cond (leb number 31) (cond (eqb class 0) (Control number) (cond (eqb class 1 && leb tandem 31) (Loopback number) Damaged)) Damaged
 
--- a cell with this address, first tandem byte and header
-abbrev pub delivered : Address → ℕ → ℕ → Heard
-delivered said.Bad tandem header = Damaged
-delivered (said.To target class) tandem header = Cell target class header
-delivered (said.Third class number) tandem header = third class number tandem
+-- a cell with this address, if it has a good one, first tandem byte and header
+abbrev pub delivered : Option Address → ℕ → ℕ → Heard
+delivered None tandem header = Damaged
+delivered (Some (said.To target class)) tandem header = Cell target class header
+delivered (Some (said.Third class number)) tandem header = third class number tandem
 
 -- what a frame of these bytes is heard as, its parity being right: with this address, and with its own
-abbrev pub heard_as : Address → List ℕ → Heard
+abbrev pub heard_as : Option Address → List ℕ → Heard
 heard_as said bytes = delivered said (get_or bytes 2 0) (four bytes 4)
 
 unfoldable pub carried : List ℕ → Heard

@@ -1,11 +1,11 @@
 -- The routing header. "Routing header, from the top bit: kind 2 bits (0 unicast, 1 multicast, 2 broadcast), class 2 (0 control data, 1 CBR,
 -- 2 VBR, 3 ABR), address 8 (unit, session, or 0 for broadcast), check 4." 02, W1: "Routing kind 3 now means control or loopback to one unit". Assumes nothing.
-use Rattle.std.specs.Prelude.{ℕ, ◌+◌, ◌*◌, ◌/◌, ◌%◌, ◌^◌, ◌≤◌, ◌<◌, Bool, true, false, cond, List, [], ◌∷◌, eqb, leb}
+use Rattle.std.specs.Prelude.{ℕ, ◌+◌, ◌*◌, ◌/◌, ◌%◌, ◌^◌, ◌≤◌, ◌<◌, Bool, true, false, cond, List, [], ◌∷◌, eqb, leb, Option, Some, None}
 use Rattle.remainder.specs.Division.{residue}
 use Rattle.bus.specs.declared.Target.{Target}
 use Rattle.bus.specs.declared.Target.TheVariants.{Unit, Session, All}
 use Rattle.bus.specs.declared.Address.{Address}
-use Rattle.bus.specs.declared.Address.TheVariants.{Bad, To, Third}
+use Rattle.bus.specs.declared.Address.TheVariants.{To, Third}
 
 -- "The check is the remainder of the upper 12 bits times x^4 by x^4+x+1": the coefficients of x+1 below x^4
 abbrev pub divisor : List Bool
@@ -53,12 +53,12 @@ abbrev pub number_in : ℕ → ℕ
 number_in r = r / 2 ^ 4 % 2 ^ 8
 
 -- 02, W1: "Routing kind 3 now means control or loopback to one unit"; what its class and address say is judged with the frame (`Frame: third`). "unicast above 31 or broadcast address not 0 is damaged"
-abbrev pub said : ℕ → ℕ → ℕ → Address
+abbrev pub said : ℕ → ℕ → ℕ → Option Address
 said kind class number =
-    cond (eqb kind 0) (cond (leb number 31) (To (Unit number) class) Bad)
-    (cond (eqb kind 1) (To (Session number) class)
-    (cond (eqb kind 2) (cond (eqb number 0) (To All class) Bad) (Third class number)))
+    cond (eqb kind 0) (cond (leb number 31) (Some (To (Unit number) class)) None)
+    (cond (eqb kind 1) (Some (To (Session number) class))
+    (cond (eqb kind 2) (cond (eqb number 0) (Some (To All class)) None) (Some (Third class number))))
 
 -- "bad check" is damaged too
-unfoldable pub address : ℕ → Address
-address r = cond (eqb (check (r / 2 ^ 4)) (r % 2 ^ 4)) (said (kind_in r) (class_in r) (number_in r)) Bad
+unfoldable pub address : ℕ → Option Address
+address r = cond (eqb (check (r / 2 ^ 4)) (r % 2 ^ 4)) (said (kind_in r) (class_in r) (number_in r)) None

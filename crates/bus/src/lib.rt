@@ -17,7 +17,6 @@ pub enum Target {
 // What a routing header says: a data cell of a class for a target, or a cell of kind 3.
 #[derive(Clone, Copy)]
 pub enum Address {
-    Bad,
     To { target: Target, class: u8 },
     Third { class: u8, number: u8 },
 }
@@ -73,24 +72,24 @@ fn control_to(unit: u8) -> u16
     u * 16 + (check(u) as u16)
 }
 
-// What a routing header says.
+// What a routing header says, if it says anything.
 #[tactic(auto, using(std::proofs::lemmas::Bool::Decides::nat_tests), unfolding(crate::specs::Routing::address))]
-pub fn read(routing: u16) -> Address
+pub fn read(routing: u16) -> Option<Address>
     ensures { result ≡ address_of routing }
 {
     let class = (routing / 4096 % 4) as u8;
     let number = (routing / 16 % 256) as u8;
     if (check(routing / 16) as u16) != routing % 16 {
-        return Address::Bad;
+        return None;
     }
     let target = match (routing / 16384 % 4, number) {
         (0, 0..=31) => Target::Unit(number),
         (1, _) => Target::Session(number),
         (2, 0) => Target::All,
-        (3, _) => return Address::Third { class, number },
-        _ => return Address::Bad,
+        (3, _) => return Some(Address::Third { class, number }),
+        _ => return None,
     };
-    Address::To { target, class }
+    Some(Address::To { target, class })
 }
 
 // The exclusive-or of some bytes.

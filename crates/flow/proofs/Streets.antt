@@ -1,5 +1,5 @@
 -- Over every sequence of events: each cell in an outlet is a copy of a cell that arrived, was handed in or has moved, or of a frame handed in, that addresses that unit. Assumes nothing.
-use Rattle.std.specs.Prelude.{Some}
+use Rattle.std.specs.Prelude.{Option, Some, None}
 use Prim.Native.Nat.{ℕ, ◌<◌, ◌≤◌}
 use native.Mathlib.Omega.{arith}
 use mathlib.Core.Path.{◌≡◌, refl, sym, ap, subst, ◌∙◌}
@@ -146,10 +146,10 @@ names_one c n e = go (address (two c 0)) e
     pick unit true false false b t e = let z : ◌≡◌ {A = ℕ} 0 1 = cc in absurd (omega arith)
     pick unit true false true false t e = let z : ◌≡◌ {A = ℕ} 0 1 = cc in absurd (omega arith)
 
-    go : (a : D.Address) → delivered a (get_or c 2 0) (four c 4) ≡ frames.Loopback n → get_or c 2 0 ≤ 31
-    go says.Bad e = let z : ◌≡◌ {A = ℕ} 0 1 = cc in absurd (omega arith)
-    go (says.To target class) e = let z : ◌≡◌ {A = ℕ} 0 1 = cc in absurd (omega arith)
-    go (says.Third class number) e = pick number (leb number 31) (eqb class 0) (eqb class 1) (leb (get_or c 2 0) 31) refl e
+    go : (a : Option D.Address) → delivered a (get_or c 2 0) (four c 4) ≡ frames.Loopback n → get_or c 2 0 ≤ 31
+    go None e = let z : ◌≡◌ {A = ℕ} 0 1 = cc in absurd (omega arith)
+    go (Some (says.To target class)) e = let z : ◌≡◌ {A = ℕ} 0 1 = cc in absurd (omega arith)
+    go (Some (says.Third class number)) e = pick number (leb number 31) (eqb class 0) (eqb class 1) (leb (get_or c 2 0) 31) refl e
 
 -- B. a loopback cell that has moved, and will be heard as a control cell
 pub record Turning (lines : List Line) (es : List Event) (i : ℕ) (c : List ℕ) : Type 0 where

@@ -165,7 +165,7 @@ fn is_addressed(fate: Hearing) -> bool
 // Every declared unit hears a frame of this cell, with this address. The counters that rise at each are written where the caller lends room for them, here and below.
 fn hear_all(
     s: &mut [u8; 2048],
-    address: Address,
+    address: Option<Address>,
     cell: &[u8],
     store: &mut [u8],
     each: &mut [u16; 32],

@@ -140,7 +140,7 @@ pub fn hear_third(
 }
 
 // The address of a cell. Of a frame that was just made no more is asked: its parity is right.
-pub fn address_of(cell: &[u8]) -> Address
+pub fn address_of(cell: &[u8]) -> Option<Address>
     requires { length cell.now ≡ 56 }
     ensures { heard_as result cell.now ≡ carried cell.now }
 {
@@ -148,11 +148,12 @@ pub fn address_of(cell: &[u8]) -> Address
 }
 
 // The unit in a place hears a frame of this cell, with this address. It is taken into the loop over the units: a call for each costs up to an eighth of a frame.
+#[tactic(auto, unfolding(crate::specs::Hearings::plan_of, crate::specs::Hearings::fate_by, crate::specs::InPlace::state_by, crate::specs::Hearings::store_by))]
 #[inline(always)]
 pub fn heed(
     s: &mut [u8; 2048],
     place: usize,
-    address: Address,
+    address: Option<Address>,
     cell: &[u8],
     store: &mut [u8],
 ) -> Hearing
@@ -162,14 +163,14 @@ pub fn heed(
         × (store.new ≡ store_of (unit_in s.old place) (heard_as address cell.now) place store.old cell.now) }
 {
     match address {
-        Address::Bad => Hearing::Damaged,
-        Address::To { target, class } => {
+        None => Hearing::Damaged,
+        Some(Address::To { target, class }) => {
             if !addressed_at(s, place, target) {
                 return Hearing::Other;
             }
             accept(s, place, class, octets::four(cell, 4), cell, store)
         }
-        Address::Third { class, number } => hear_third(s, place, class, number, cell, store),
+        Some(Address::Third { class, number }) => hear_third(s, place, class, number, cell, store),
     }
 }
 

@@ -22,7 +22,8 @@ use Rattle.bus.specs.Routing as routing
 use Rattle.bus.specs.declared.Target as T
 use Rattle.bus.specs.declared.Target.TheVariants as target
 use Rattle.bus.specs.Frame as bus
-use Rattle.bus.specs.declared.Address.TheVariants.{Bad, To}
+use Rattle.std.specs.Prelude.{Some, None}
+use Rattle.bus.specs.declared.Address.TheVariants.{To}
 use Rattle.bus.specs.Heard as sort
 use Rattle.bus.specs.Routing.{Sayable}
 use Rattle.bus.proofs.RoutingLaws.{checked, unchecked, address_routing, routing_lt}
@@ -86,7 +87,7 @@ data BadAddress (k q n t : ℕ) : Type 0 where
 
 data Sorted (k q n t : ℕ) : Type 0 where
   bad : BadAddress k q n t → ((h : ℕ) → bus.delivered (routing.said k q n) t h ≡ sort.Damaged) → Sorted k q n t
-  good : (BadAddress k q n t → ⊥) → (x : T.Target) → Says x k n → routing.said k q n ≡ To x q → Sorted k q n t
+  good : (BadAddress k q n t → ⊥) → (x : T.Target) → Says x k n → routing.said k q n ≡ Some (To x q) → Sorted k q n t
   control : (BadAddress k q n t → ⊥) → k ≡ 3 → q ≡ 0 → ((h : ℕ) → bus.delivered (routing.said k q n) t h ≡ sort.Control n) → Sorted k q n t
   loopback : (BadAddress k q n t → ⊥) → k ≡ 3 → q ≡ 1 → ((h : ℕ) → bus.delivered (routing.said k q n) t h ≡ sort.Loopback n) → Sorted k q n t
 
@@ -208,7 +209,7 @@ module _ (f : List ℕ) (whole : length f ≡ 57) where
 
 -- the routing header of a target and a class says them, and no other does
 module _ (t : T.Target) (c : ℕ) (small : c < 4) where
-  said_so : (r : ℕ) → Sorted (kind r) (class r) (address r) 0 → routing.said (kind r) (class r) (address r) ≡ To t c → Says t (kind r) (address r) × (class r ≡ c)
+  said_so : (r : ℕ) → Sorted (kind r) (class r) (address r) 0 → routing.said (kind r) (class r) (address r) ≡ Some (To t c) → Says t (kind r) (address r) × (class r ≡ c)
   said_so r (bad b d) e = absurd (let f : sort.Damaged ≡ sort.Cell t c 0 = sym (d 0) ∙ ap (λ a. bus.delivered a 0 0) e in let z : ◌≡◌ {A = ℕ} 0 1 = cc in omega arith)
   said_so r (control n third none d) e = absurd (let f : sort.Control (address r) ≡ sort.Cell t c 0 = sym (d 0) ∙ ap (λ a. bus.delivered a 0 0) e in let z : ◌≡◌ {A = ℕ} 0 1 = cc in omega arith)
   said_so r (loopback n third one d) e = absurd (let f : sort.Loopback (address r) ≡ sort.Cell t c 0 = sym (d 0) ∙ ap (λ a. bus.delivered a 0 0) e in let z : ◌≡◌ {A = ℕ} 0 1 = cc in omega arith)
@@ -216,12 +217,12 @@ module _ (t : T.Target) (c : ℕ) (small : c < 4) where
       let same : u ≡ t = cc in
       (subst (λ x. Says x (kind r) (address r)) same says, cc)
 
-  checks : (r : ℕ) → routing.address r ≡ To t c → routing.check (r / 16) ≡ r % 16
+  checks : (r : ℕ) → routing.address r ≡ Some (To t c) → routing.check (r / 16) ≡ r % 16
   unfolding routing.address
   checks r e =
       decide (eqb (routing.check (r / 16)) (r % 16))
       (eqb-true (routing.check (r / 16)) (r % 16))
-      (λ n. absurd (let f : Bad ≡ To t c = (λ i. cond (sym n i) (routing.said (kind r) (class r) (address r)) Bad) ∙ e in let z : ◌≡◌ {A = ℕ} 0 1 = cc in omega arith))
+      (λ n. absurd (let f : None ≡ Some (To t c) = (λ i. cond (sym n i) (routing.said (kind r) (class r) (address r)) None) ∙ e in let z : ◌≡◌ {A = ℕ} 0 1 = cc in omega arith))
 
   pub routing_of : Sayable t → RoutingOf t c (routing.routing t c)
   routing_of s =

@@ -13,8 +13,9 @@ use Rattle.octets.specs.Octets.{two, four, part}
 use Rattle.bus.specs.Routing.{check, kind_in, number_in, address}
 use Rattle.bus.specs.declared.Target as T
 use Rattle.bus.specs.declared.Target.TheVariants as target
+use Rattle.std.specs.Prelude.{Option, Some, None}
 use Rattle.bus.specs.declared.Address as Ad
-use Rattle.bus.specs.declared.Address.TheVariants.{Bad, To, Third}
+use Rattle.bus.specs.declared.Address.TheVariants.{To, Third}
 use Rattle.bus.specs.Routing.{Sayable}
 use Rattle.card.specs.declared.Card.{Card}
 use Rattle.bus.specs.Frame.{heard, third, carried, parity, delivered}
@@ -315,13 +316,13 @@ copy_elsewhere store i j u v e h bytes whole here there apart a = go (hearing.pl
     go ToLoopback p = written loopback_out_slot (omega arith)
 
 -- 2. what is heard of a frame
-abbrev SayableIn : Ad.Address → Type 0
-SayableIn Bad = Unit {0}
-SayableIn (To t class) = Sayable t
-SayableIn (Third class number) = Unit {0}
+abbrev SayableIn : Option Ad.Address → Type 0
+SayableIn None = Unit {0}
+SayableIn (Some (To t class)) = Sayable t
+SayableIn (Some (Third class number)) = Unit {0}
 
 -- a choice between two addresses
-chosen : (b : Bool) (x y : Ad.Address) → (b ≡ true → SayableIn x) → (b ≡ false → SayableIn y) → SayableIn (cond b x y)
+chosen : (b : Bool) (x y : Option Ad.Address) → (b ≡ true → SayableIn x) → (b ≡ false → SayableIn y) → SayableIn (cond b x y)
 chosen true x y p q = p refl
 chosen false x y p q = q refl
 
@@ -357,10 +358,10 @@ carried_says bytes = to (address (two bytes 0)) (address_sayable (two bytes 0))
     judged true false true unit = tt
     judged true false false unit = tt
 
-    to : (x : Ad.Address) → SayableIn x → Says (delivered x (get_or bytes 2 0) (four bytes 4)) bytes
-    to Bad s = tt
-    to (To t class) s = (s, refl)
-    to (Third class number) s = judged (leb number 31) (eqb class 0) (eqb class 1 && leb (get_or bytes 2 0) 31) number
+    to : (x : Option Ad.Address) → SayableIn x → Says (delivered x (get_or bytes 2 0) (four bytes 4)) bytes
+    to None s = tt
+    to (Some (To t class)) s = (s, refl)
+    to (Some (Third class number)) s = judged (leb number 31) (eqb class 0) (eqb class 1 && leb (get_or bytes 2 0) 31) number
 
 -- so it is of a frame without its parity
 heard_says : (f : List ℕ) → length f ≡ 57 → Says (heard f) (take 56 f)
