@@ -34,6 +34,7 @@ fn way_by(looked: Looked) -> Result<Headers, Arrival>
 }
 
 // Where a cell that arrives at a unit goes; its records begin at a byte of the memory.
+// The cell that is lent has any length, and its test is the event's own: so it stays a slice with its length in the clause.
 fn way_of(
     card: Card,
     settings: Settings,

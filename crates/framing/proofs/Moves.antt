@@ -99,11 +99,6 @@ unfolding move_from
 all_long i zero x = refl
 all_long i (suc n) x = all_long (suc i) n (move i x) ∙ moved_long x.bytes i
 
-all_rows : (i n : ℕ) (x : Moved) → length (move_from i n x).each ≡ length x.each
-unfolding move_from
-all_rows i zero x = refl
-all_rows i (suc n) x = all_rows (suc i) n (move i x) ∙ length-set x.each i (moved_rises (unit_in x.bytes i))
-
 all_formed : (i n : ℕ) (x : Moved) → i + n ≤ 32 → formed_all (move_from i n x).bytes ≡ formed_all x.bytes
 unfolding move_from
 all_formed i zero x hi = refl
@@ -138,9 +133,6 @@ module _ (b store : List ℕ) where
 
   pub moves_long : length (moved_in b store).bytes ≡ length b
   moves_long = all_long 0 (min (get_or b 805 0) 32) begun
-
-  pub moves_rows : length (moved_in b store).each ≡ 32
-  moves_rows = all_rows 0 (min (get_or b 805 0) 32) begun
 
   pub moves_formed : formed_all (moved_in b store).bytes ≡ formed_all b
   moves_formed = all_formed 0 (min (get_or b 805 0) 32) begun (omega arith)

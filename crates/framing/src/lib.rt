@@ -217,7 +217,8 @@ fn let_out(s: &mut [u8; 2048], place: usize) -> usize
     store::slot_at(place, store::LOOPBACK_IN)
 }
 
-// The unit in a place sends a cell, and all hear it.
+// The unit in a place sends a cell, and all hear it. The buffer that is lent has any length, and its test is the event's own: so it stays a slice with
+// its length in the clause, here and below.
 fn send(
     s: &mut [u8; 2048],
     place: usize,

@@ -15,6 +15,7 @@ use card::Card;
 use shelf::Unit;
 
 // A cell is handed in at the unit in a place, if its place in the inlet is free.
+// The cell that is lent has any length, and its test is the event's own: so it stays a slice with its length in the clause.
 fn hand_at(s: &mut [u8; 2048], place: usize, store: &mut [u8], cell: &[u8]) -> Single
     requires { (length cell.now ≡ 56) × Housed place (unit_in s.old place) (length store.old) }
     ensures result_value { outcome_by result ≡ outcome_of (hand_at (shelf_in s.old) place) }
@@ -48,6 +49,7 @@ pub fn hand(
 }
 
 // The oldest cell leaves the control outlet of the unit in a place.
+// The buffer that is lent has any length, and its test is the event's own: so it stays a slice with its length in the clause.
 fn collect_at(s: &mut [u8; 2048], place: usize, store: &[u8], buffer: &mut [u8]) -> Single
     requires { (length buffer.old ≡ 56) × Housed place (unit_in s.old place) (length store.now) }
     ensures result_value { outcome_by result ≡ outcome_of (collect_at (shelf_in s.old) place) }

@@ -29,7 +29,8 @@ pub fn addressed_at(s: &[u8; 2048], place: usize, target: Target) -> bool
 }
 
 // What becomes of a copy of this class with this header that is addressed to the unit in a place. A queued copy goes
-// behind the others in its queue. Of the outlet only the limits and that queue's ring are read.
+// behind the others in its queue. Of the outlet only the limits and that queue's ring are read. The frame that is lent has any length, and its test is
+// the event's own: so a cell of it stays a slice with its length in the clause, here and below.
 pub fn accept(
     s: &mut [u8; 2048],
     place: usize,

@@ -128,9 +128,6 @@ module _ (card : Card) (memory₀ text : List ℕ) (told : List Line) (from : �
   pub shelf_is : shelf_in s ≡ shelf_of told
   shelf_is = ap shelf_in b.standing ∙ (stands card room told b.good b.ranges).1
 
-  pub state_long : length s ≡ 2048
-  state_long = ap length b.standing ∙ (stands card room told b.good b.ranges).0.long
-
   -- the verdict by what stands is the verdict by the lines
   verdict_line : (l : Line) → Ranged l → verdict_in card room memory (shelf_in s) p (Ok l) ≡ judge card room told l
   verdict_line l r =

@@ -28,6 +28,7 @@ fn write_cell(header: u32, payload: &[u8], buffer: &mut [u8])
 }
 
 // Writes a cell of the outlet as it leaves on the unit's link.
+// The buffer that is lent has any length, and its test is the event's own: so it stays a slice with its length in the clause.
 fn hand_out(link: Link, outlet: Outlet, cell: &[u8], buffer: &mut [u8])
     requires { (length cell.now ≡ 56) × (length buffer.old ≡ 53) }
     ensures { buffer.new ≡ outward link outlet cell.now }

@@ -1,7 +1,6 @@
 use mathlib.Core.Path.{ap, ◌∙◌}
 use Rattle.octets.specs.Octets.{be2, be4, splice}
 use Rattle.bus.proofs.Laws.{composed}
-use borrow.Author.Rules.{rules}
 use Rattle.bus.proofs.compose.Goals as goal
 
 pub returns : goal.returns
@@ -12,4 +11,4 @@ returns c =
     ∙ ap (λ b. splice b 8 a.payload.now)
     (c.put_four.ensures
     ∙ ap (λ b. splice b 4 (be4 a.header)) (c.put_two-2.ensures ∙ ap (λ b. splice b 2 (be2 0)) c.put_two.ensures))
-    ∙ composed a.routing a.header a.payload.now a.bytes.now s.requires (search rules)
+    ∙ composed a.routing a.header a.payload.now a.bytes.now s.requires s.told-bytes

@@ -10,15 +10,6 @@ use Rattle.framing.proofs.asking_now.Goals.{else-number-lt32, then-number-lt32}
 pub loop-i-init : goal.loop-i-init
 loop-i-init c = (omega arith, (refl, refl))
 
-pub at-number-requires : goal.at-number-requires
-at-number-requires c = let e = c.declared_count-end.ensures in (omega arith, omega arith)
-
-pub at-requires : goal.at-requires
-at-requires c = let e = c.declared_count-end.ensures in (omega arith, omega arith)
-
-pub waiting_at-requires : goal.waiting_at-requires
-waiting_at-requires c = let e = c.declared_count-end.ensures in omega arith
-
 met : (c : goal.Joined-number-lt32) →
     let l = c.loop-i in
     let b = c.args.s.now in

@@ -15,10 +15,9 @@ turn_on-requires c =
     let b = a.s.now in
     let store = a.store.now in
     let w = c.settle-asks in
-    let long : length b ≡ 2048 = search rules in
     let same : length w.new.store ≡ length store = search rules in (
       s.requires.0,
-      subst (λ x. AllHousedIn x (length w.new.store)) (sym w.ensures.kept.0) (moves_housed b store long (length w.new.store) (subst (λ n. AllHousedIn b n) (sym same) s.requires.1)),
+      subst (λ x. AllHousedIn x (length w.new.store)) (sym w.ensures.kept.0) (moves_housed b store s.told-s (length w.new.store) (subst (λ n. AllHousedIn b n) (sym same) s.requires.1)),
       w.ensures.value ∙ ap (λ x. asking_now (shelf_in x)) (sym w.ensures.kept.0),
     )
 
@@ -30,10 +29,9 @@ returns c =
     let store = a.store.now in
     let w = c.settle-asks in
     let r = c.turn_on.ensures in
-    let long : length b ≡ 2048 = search rules in
-    let shelf = ap shelf_in w.ensures.kept.0 ∙ moves_decode b store long in
-    let stored = w.ensures.kept.1.0 ∙ moves_store b store long in
-    let each = w.ensures.kept.1.1 ∙ moves_each b store long in record {
+    let shelf = ap shelf_in w.ensures.kept.0 ∙ moves_decode b store s.told-s in
+    let stored = w.ensures.kept.1.0 ∙ moves_store b store s.told-s in
+    let each = w.ensures.kept.1.1 ∙ moves_each b store s.told-s in record {
       each_after = r.each_after ∙ (λ t. outcome_of (turn_done (shelf t) (stored t) (each t)));
       kept = (
         r.kept.0 ∙ (λ t. turn_state (w.ensures.kept.0 t) (w.ensures.kept.1.0 t)),

@@ -20,7 +20,7 @@ loop-i-init c =
       omega arith,
       omega arith,
       omega arith,
-      search rules,
+      s.told-s,
       refl,
       λ j h l. s.requires.1 j (omega arith),
       ap (λ k. turns (heard_as a.address a.cell.now) a.cell.now 0 k (scene a.s.now a.store.now a.each.now 0 false)) n,

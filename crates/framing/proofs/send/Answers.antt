@@ -1,4 +1,4 @@
-use Rattle.std.proofs.Common.{◌≡◌, ◌+◌, ◌<◌, ◌≤◌, length, take, sym, ap, ◌∙◌, subst, rules}
+use Rattle.std.proofs.Common.{◌≡◌, ◌+◌, ◌<◌, ◌≤◌, length, take, sym, ap, ◌∙◌, subst}
 use Rattle.octets.specs.Octets.{part}
 use Rattle.bus.specs.Frame.{sealed}
 use Rattle.bus.proofs.Wire.{heard_sealed}
@@ -69,10 +69,9 @@ hear_all-heeded-requires c =
     let s = c in
     let a = s.args in
     let n = length a.store.now in
-    let long : length a.s.now ≡ 2048 = search rules in
     let e = sym c.let_out-at.ensures.kept in (
       whole (goal.at.hear_all-heeded-requires c).After-seal,
-      subst (λ x. AllHousedIn x n) e (out_housed_in a.s.now a.place a.store.now long s.requires.1 n s.requires.2),
+      subst (λ x. AllHousedIn x n) e (out_housed_in a.s.now a.place a.store.now s.told-s s.requires.1 n s.requires.2),
     )
 
 pub returns : goal.returns
@@ -81,16 +80,15 @@ returns c =
     let a = s.args in
     let b = a.s.now in
     let o = c.let_out-at in
-    let long : length b ≡ 2048 = search rules in
     let es = o.ensures.kept in
-    let ek = frame_is b a.place a.store.now long s.requires.1 c.get_cell.result.now (c.get_cell.ensures ∙ ap (λ n. part a.store.now n 56) o.ensures.value) in
+    let ek = frame_is b a.place a.store.now s.told-s s.requires.1 c.get_cell.result.now (c.get_cell.ensures ∙ ap (λ n. part a.store.now n 56) o.ensures.value) in
     let full56 = whole (goal.at.returns c).After-seal in
     let ef = ap sealed (cell (goal.at.returns c).After-seal) ∙ ek in
     let eh = c.address_of.ensures ∙ sym (heard_sealed (take 56 c.seal.new.frame) full56) in
     let l = c.hear_all-heeded in record {
-      each_after = sent_tally b a.place a.store.now long s.requires.1 a.each.now _ _ _ es full56 ef eh (tallied_by l.result l.new.each) _ l.ensures.each_after c.sent_rises.ensures;
+      each_after = sent_tally b a.place a.store.now s.told-s s.requires.1 a.each.now _ _ _ es full56 ef eh (tallied_by l.result l.new.each) _ l.ensures.each_after c.sent_rises.ensures;
       kept = (
-        sent_bytes b a.place a.store.now long s.requires.1 a.each.now _ _ _ es full56 ef eh _ l.ensures.kept.0,
-        (sent_store_lem b a.place a.store.now long s.requires.1 a.each.now _ _ _ es full56 ef eh _ l.ensures.kept.1, c.seal.ensures ∙ ek),
+        sent_bytes b a.place a.store.now s.told-s s.requires.1 a.each.now _ _ _ es full56 ef eh _ l.ensures.kept.0,
+        (sent_store_lem b a.place a.store.now s.told-s s.requires.1 a.each.now _ _ _ es full56 ef eh _ l.ensures.kept.1, c.seal.ensures ∙ ek),
       );
     }

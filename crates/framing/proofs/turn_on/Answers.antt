@@ -1,11 +1,8 @@
-use Rattle.std.proofs.Common.{◌+◌, ◌%◌, ◌^◌, ◌<◌, false, get_or, ap, ◌∙◌, arith, rules}
+use Rattle.std.proofs.Common.{◌+◌, ◌%◌, ◌^◌, false, get_or, ap, ◌∙◌}
 use Rattle.arbiter.specs.Arbitration.{granted_by}
 use Rattle.state.specs.Bytes.{with_turn}
 use Rattle.answer.specs.declared.Answer.TheVariants.{Framed}
 use Rattle.framing.proofs.turn_on.Goals as goal
-
-pub overflow_cast-result : goal.overflow_cast-result
-overflow_cast-result c = let b : get_or c.args.s.now 805 0 < 256 = search rules in omega arith
 
 pub returns : goal.returns
 returns c =

@@ -1,4 +1,4 @@
-use Rattle.std.proofs.Common.{◌&&◌, leb, ap, ◌∙◌, rules}
+use Rattle.std.proofs.Common.{◌&&◌, leb, ap, ◌∙◌}
 use Rattle.soundness.specs.Numbered.{marks, cells_in}
 use Rattle.soundness.proofs.Numbered.{grant_in_lem, grant_out}
 use Rattle.soundness.proofs.grant_held.Goals as goal
@@ -11,4 +11,4 @@ returns-then-granted-lt32 c =
     ∙ grant_in_lem (cells_in a.s.now) a.held.now a.granted p.if-granted-lt32.true
 
 pub returns-else-granted-lt32 : goal.returns-else-granted-lt32
-returns-else-granted-lt32 c = let p = c in let a = p.args in grant_out (cells_in a.s.now) a.held.now a.granted (search rules) c.if-granted-lt32.false
+returns-else-granted-lt32 c = let p = c in let a = p.args in grant_out (cells_in a.s.now) a.held.now a.granted p.told-held c.if-granted-lt32.false

@@ -1,4 +1,4 @@
-use Rattle.std.proofs.Common.{sym, ◌∙◌, arith, rules}
+use Rattle.std.proofs.Common.{sym, ◌∙◌, arith}
 use Rattle.soundness.proofs.Judged.{places_step, places_left, places_end}
 use Rattle.soundness.proofs.units_good.Goals as goal
 
@@ -15,5 +15,5 @@ returns c =
     let l = c.loop-i in
     let links = c.highest_link-links in
     let last = c.over-last in
-    places_end links.result last.result a.s.now a.count a.card a.bus l.i l.worst c.requires (λ j. search rules) links.ensures last.ensures.0
+    places_end links.result last.result a.s.now a.count a.card a.bus l.i l.worst c.requires c.fits-s links.ensures last.ensures.0
     (places_left links.result last.result a.s.now a.count l.i c.reach-end.result (omega arith) c.reach-end.ensures.upper_bound.1) (sym l.invariant)

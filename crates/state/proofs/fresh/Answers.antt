@@ -1,4 +1,4 @@
-use Rattle.std.proofs.Common.{◌≡◌, length, set, replicate, ap, ◌∙◌, rules}
+use Rattle.std.proofs.Common.{set, replicate, ap, ◌∙◌}
 use Rattle.arbiter.specs.Arbitration.{nobody}
 use Rattle.state.specs.Placing.{fresh_bytes, zeros}
 use Rattle.state.proofs.fresh.Goals as goal
@@ -7,6 +7,5 @@ pub returns : goal.returns
 unfolding fresh_bytes zeros
 returns c =
     let bus = c.args.bus in
-    let long : length c.args.s.now ≡ 2048 = search rules in
     ap (λ b. set (set (set (set (set b 800 nobody) 801 nobody) 802 nobody) 803 nobody) 804 bus)
-    (c.fill.ensures.after (λ y e. e) ∙ ap (λ n. replicate n 0) long)
+    (c.fill.ensures.after (λ y e. e) ∙ ap (λ n. replicate n 0) c.told-s)

@@ -28,7 +28,7 @@ returns c =
     let asked = splice a.s.now 768 a.arbiter.asks in
     let all : length a.arbiter.asks ≡ 32 = search rules in
     let many : length last ≡ 3 = search rules in
-    let long : length asked ≡ 2048 = length_splice a.s.now 768 a.arbiter.asks (omega arith) ∙ search rules in
+    let long : length asked ≡ 2048 = length_splice a.s.now 768 a.arbiter.asks (omega arith) ∙ c.told-s in
     let lasts : splice asked 800 last ≡ set (set (set asked 800 (get_or last 0 0)) 801 (get_or last 1 0)) 802 (get_or last 2 0) =
     (λ t. take 800 asked ++ sym (take_all 3 last (omega arith)) t ++ drop (800 + many t) asked) ∙ three asked last 800 (omega arith) (omega arith) in
     let high : a.frame / 256 % 256 ≡ a.frame / 256 = omega arith in
