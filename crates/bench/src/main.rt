@@ -4,98 +4,11 @@
 use answer::{Answer, Counters};
 use card::Card;
 use event::Event;
+use owned::Shelf;
 use replies::Outcome;
 use std::fs;
 use std::io::Read;
 use std::rt::Files;
-
-// What the card keeps of the shelf, and the 40 counter rows.
-#[derive(Drop)]
-struct Shelf {
-    state: [u8; 2048],
-    memory: [u8; 16384],
-    store: [u8; 32768],
-    rows: [Counters; 40],
-}
-
-// A shelf that no table was loaded on.
-fn empty() -> Shelf {
-    Shelf {
-        state: [0; 2048],
-        memory: [0; 16384],
-        store: [0; 32768],
-        rows: [Counters::zero(); 40],
-    }
-}
-
-// The events on the wide card: what each answers.
-impl Shelf {
-    // The rows are kept; a field that is an array takes no other field's value but by a variable.
-    fn answered(&mut self, after: owned::After) -> Answer {
-        let rows = after.rows;
-        self.rows = rows;
-        after.answer
-    }
-
-    fn load(&mut self, text: &[u8]) -> Answer {
-        let after = owned::load(
-            Card::Wide,
-            text,
-            &mut self.memory,
-            &mut self.state,
-            &self.store,
-            self.rows,
-            40,
-        );
-        self.answered(after)
-    }
-
-    fn arrive(&mut self, unit: u8, cell: &[u8]) -> Answer {
-        let after = owned::arrive(
-            Card::Wide,
-            &mut self.state,
-            &self.memory,
-            &mut self.store,
-            self.rows,
-            40,
-            unit,
-            cell,
-        );
-        self.answered(after)
-    }
-
-    fn frame(&mut self, buffer: &mut [u8]) -> Answer {
-        let after = owned::frame(
-            Card::Wide,
-            &mut self.state,
-            &mut self.store,
-            self.rows,
-            40,
-            buffer,
-        );
-        self.answered(after)
-    }
-
-    fn take(&mut self, unit: u8, buffer: &mut [u8]) -> Answer {
-        let after = owned::take(
-            Card::Wide,
-            &mut self.state,
-            &self.store,
-            self.rows,
-            40,
-            unit,
-            buffer,
-        );
-        self.answered(after)
-    }
-
-    fn count(&self, unit: u8) -> Outcome {
-        match owned::count(Card::Wide, &self.state, &self.store, self.rows, 40, unit) {
-            Ok(c) => Outcome::Counted(c),
-            Err(number) => Outcome::Answered(Answer::Refused(number)),
-        }
-    }
-}
 
 // A line cell of this header and check, its payload one byte 48 times.
 fn cell_of(header: u32, check: u8, byte: u8) -> [u8; 53] {
@@ -133,6 +46,14 @@ fn say_table(rt: &impl Print, answer: Answer) {
     print(rt, &out, n);
 }
 
+// The counters of a unit, or the refusal.
+fn count(shelf: &Shelf, unit: u8) -> Outcome {
+    match shelf.count(unit) {
+        Ok(c) => Outcome::Counted(c),
+        Err(number) => Outcome::Answered(Answer::Refused(number)),
+    }
+}
+
 // One event is done, and then told.
 fn happen(rt: &impl Print, shelf: &mut Shelf, event: Event) {
     match event {
@@ -155,7 +76,7 @@ fn happen(rt: &impl Print, shelf: &mut Shelf, event: Event) {
             let answer = shelf.take(unit, &mut cell);
             say(rt, event, Outcome::Answered(answer), &cell);
         }
-        Event::Count(unit) => say(rt, event, shelf.count(unit), b""),
+        Event::Count(unit) => say(rt, event, count(shelf, unit), b""),
     }
 }
 
@@ -247,7 +168,14 @@ fn read_table(rt: &(impl Eprint + Alloc + Files), text: &mut [u8]) -> usize {
 
 // Loads the table and, if it is good, goes through the events.
 fn bench(rt: &(impl Print + Eprint + Alloc), from: &mut impl Read, text: &[u8]) {
-    let mut shelf = empty();
+    let mut shelf = Shelf {
+        card: Card::Wide,
+        state: &mut [0; 2048],
+        memory: &mut [0; 16384],
+        store: &mut [0; 32768],
+        rows: [Counters::zero(); 40],
+        lent: 40,
+    };
     let answer = shelf.load(text);
     say_table(rt, answer);
     if let Answer::Loaded(_) = answer {

@@ -5,6 +5,7 @@ use answer::{Answer, Arrival, Counters, Hearing};
 use arbiter::NOBODY;
 use bus::Target;
 use card::Card;
+use owned::Shelf;
 use std::{fmt, io};
 
 // A unit's number, or `-` for nobody.
@@ -72,115 +73,23 @@ impl fmt::Display for Said {
     }
 }
 
-// What the card keeps of the shelf, and the 40 counter rows.
-#[derive(Drop)]
-struct Shelf {
-    state: [u8; 2048],
-    memory: [u8; 16384],
-    store: [u8; 16384],
-    rows: [Counters; 40],
-}
-
-// A shelf that no table was loaded on: its bytes are anything.
-fn unloaded() -> Shelf {
-    Shelf {
-        state: [7; 2048],
-        memory: [7; 16384],
-        store: [7; 16384],
-        rows: [Counters::zero(); 40],
-    }
-}
-
-// The events on the wide card: what each answers.
-impl Shelf {
-    // The rows are kept; a field that is an array takes no other field's value but by a variable.
-    fn answered(&mut self, after: owned::After) -> Said {
-        let rows = after.rows;
-        self.rows = rows;
-        Said(after.answer)
-    }
-
-    fn load(&mut self, text: &[u8]) -> Said {
-        let after = owned::load(
-            Card::Wide,
-            text,
-            &mut self.memory,
-            &mut self.state,
-            &self.store,
-            self.rows,
-            40,
-        );
-        self.answered(after)
-    }
-
-    fn arrive(&mut self, unit: u8, cell: &[u8]) -> Said {
-        let after = owned::arrive(
-            Card::Wide,
-            &mut self.state,
-            &self.memory,
-            &mut self.store,
-            self.rows,
-            40,
-            unit,
-            cell,
-        );
-        self.answered(after)
-    }
-
-    fn frame(&mut self) -> Said {
-        let after = owned::frame(
-            Card::Wide,
-            &mut self.state,
-            &mut self.store,
-            self.rows,
-            40,
-            &mut [238; 57],
-        );
-        self.answered(after)
-    }
-
-    fn hear(&mut self, unit: u8, frame: &[u8]) -> Said {
-        let after = owned::hear(
-            Card::Wide,
-            &mut self.state,
-            &mut self.store,
-            self.rows,
-            40,
-            unit,
-            frame,
-        );
-        self.answered(after)
-    }
-
-    fn take(&mut self, unit: u8, buffer: &mut [u8; 53]) -> Said {
-        let after = owned::take(
-            Card::Wide,
-            &mut self.state,
-            &self.store,
-            self.rows,
-            40,
-            unit,
-            buffer,
-        );
-        self.answered(after)
-    }
-
-    fn count(&self, unit: u8) -> Result<Counters, u8> {
-        owned::count(Card::Wide, &self.state, &self.store, self.rows, 40, unit)
-    }
-}
-
-fn say(rt: &impl Print, said: Said) -> io::Result<()> {
-    println!(rt; "{said}")
+fn say(rt: &impl Print, answer: Answer) -> io::Result<()> {
+    println!(rt; "{}", Said(answer))
 }
 
 // Prints the answer, and the header, the check and the first payload byte of the cell.
 fn take(rt: &impl Print, shelf: &mut Shelf, unit: u8) -> io::Result<()> {
     let mut cell = [238u8; 53];
-    let said = shelf.take(unit, &mut cell);
+    let answer = shelf.take(unit, &mut cell);
     println!(rt;
-        "{said} {} {} {} {} {} {}",
-        cell[0], cell[1], cell[2], cell[3], cell[4], cell[5]
+        "{} {} {} {} {} {} {}",
+        Said(answer),
+        cell[0],
+        cell[1],
+        cell[2],
+        cell[3],
+        cell[4],
+        cell[5]
     )
 }
 
@@ -249,7 +158,7 @@ fn step(rt: &impl Print, shelf: &mut Shelf, letter: u8) -> io::Result<()> {
         b'C' => say(rt, shelf.arrive(9, &cell_of(5243408, 43, 165))),
         b'D' => say(rt, shelf.arrive(0, &[0; 52])),
         // a frame
-        b'F' => say(rt, shelf.frame()),
+        b'F' => say(rt, shelf.frame(&mut [238; 57])),
         // unit 0 hears a cell of each class with CLP 0, and with CLP 1
         b'0' => say(rt, shelf.hear(0, &frame_of(0, 16))),
         b'1' => say(rt, shelf.hear(0, &frame_of(1, 16))),
@@ -279,7 +188,15 @@ fn step(rt: &impl Print, shelf: &mut Shelf, letter: u8) -> io::Result<()> {
 
 // Loads a table, goes through a script, and counts units 0, 3 and 9.
 fn run(rt: &impl Print, text: &[u8], script: &[u8]) -> io::Result<()> {
-    let mut shelf = unloaded();
+    // no table was loaded on it: its bytes are anything
+    let mut shelf = Shelf {
+        card: Card::Wide,
+        state: &mut [7; 2048],
+        memory: &mut [7; 16384],
+        store: &mut [7; 16384],
+        rows: [Counters::zero(); 40],
+        lent: 40,
+    };
     say(rt, shelf.load(text))?;
     for letter in script {
         step(rt, &mut shelf, *letter)?;

@@ -7,30 +7,10 @@ ghost use Rattle.std.specs.Prelude.{◌≡◌, ◌+◌, ◌≤◌, ◌<◌, leng
 use answer::{Answer, Counters};
 use card::Card;
 use command::{Bank, Command};
-use owned::After;
+use owned::Shelf;
 use std::env::Env;
 use std::io::Read;
 use text::Slip;
-
-// The card, the rows, and how much of the rows, the memory and the store is lent.
-// What was read and is not answered stands from `from` to `end`, its first line up to `to`; that ends a line whose start was too long to be kept if `long`.
-// The answers that are not written end at `at`; more may come if `open`; the command was done if `good`; a read or a write failed if `lost`.
-#[derive(Clone, Copy)]
-struct World {
-    card: Card,
-    rows: [Counters; 40],
-    lent: usize,
-    memory: usize,
-    store: usize,
-    from: usize,
-    to: usize,
-    end: usize,
-    at: usize,
-    long: bool,
-    open: bool,
-    good: bool,
-    lost: bool,
-}
 
 const NEWLINE: u8 = b'\n';
 
@@ -47,105 +27,11 @@ fn part_of(b: &[u8], from: usize, to: usize) -> &[u8]
     &b[from.min(e)..e]
 }
 
-// Nothing is lent and nothing is read yet.
-fn begun() -> World {
-    World {
-        card: Card::Wide,
-        rows: [Counters::zero(); 40],
-        lent: 0,
-        memory: 0,
-        store: 0,
-        from: 0,
-        to: 0,
-        end: 0,
-        at: 0,
-        long: false,
-        open: true,
-        good: true,
-        lost: false,
-    }
-}
-
-// The bytes that the last field of a line says in hex, to the front of text; how many there are. No command has 256 fields.
-fn unhexed(line: &[u8], text: &mut [u8; 75000]) -> usize {
-    let hex = text::field(line, (text::count(line) % 256) as u8);
-    if hex.len() / 2 <= 75000 {
-        if text::is_hex(hex) {
-            text::unhex(hex, text, 0);
-            return hex.len() / 2;
-        }
-    }
-    0
-}
-
-// The answers so far are written out, or it is told, once, that they are lost.
-fn written(rt: &(impl Print + Eprint + Alloc), mut w: World, out: &[u8; 200000]) -> World
-    ensures { result.at ≡ 0 }
-{
-    let answers = part_of(out, 0, w.at);
-    w.at = 0;
-    if w.lost || streams::put(rt, answers) {
-        return w;
-    }
-    w.lost = true;
-    w
-}
-
-// An answer has room to start: what there is is written out if the room is short.
-fn cleared(rt: &(impl Print + Eprint + Alloc), w: World, out: &[u8; 200000]) -> World
-    ensures { result.at ≤ 180000 }
-{
-    if FULL < w.at {
-        return written(rt, w, out);
-    }
-    w
-}
-
 // The first n bytes of b, as far as there are any, each with this value; how many they are.
 fn fill(b: &mut [u8], n: usize, byte: u8) -> usize {
     let e = n.min(b.len());
     b[..e].fill(byte);
     e
-}
-
-fn lend_bank(
-    mut w: World,
-    memory: &mut [u8; 300000],
-    store: &mut [u8; 300000],
-    bank: Bank,
-    n: usize,
-    byte: u8,
-) -> World
-    ensures { result.at ≡ w.at }
-{
-    match bank {
-        Bank::Memory => w.memory = fill(memory, n, byte),
-        Bank::Store => w.store = fill(store, n, byte),
-    }
-    w
-}
-
-fn lend_rows(mut w: World, n: usize, value: u32) -> World
-    ensures { result.at ≡ w.at }
-{
-    let row = Counters {
-        arrived: value,
-        hec: value,
-        ignored: value,
-        misrouted: value,
-        inletfull: value,
-        sent: value,
-        unheard: value,
-        damaged: value,
-        queued: value,
-        full: value,
-        clp: value,
-        wide: value,
-        taken: value,
-    };
-    w.rows = [row; 40];
-    w.lent = n;
-    w
 }
 
 // Writes bytes from a place on, if they all lie inside what is lent.
@@ -158,55 +44,83 @@ fn poke(b: &mut [u8], lent: usize, to: usize, bytes: &[u8]) -> bool {
     true
 }
 
-fn poke_bank(
-    mut w: World,
-    memory: &mut [u8; 300000],
-    store: &mut [u8; 300000],
-    bank: Bank,
-    to: usize,
-    bytes: &[u8],
-) -> World
-    ensures { result.at ≡ w.at }
-{
-    match bank {
-        Bank::Memory => w.good = poke(memory, w.memory, to, bytes),
-        Bank::Store => w.good = poke(store, w.store, to, bytes),
+// A newline where there is room.
+fn ended(out: &mut [u8], at: usize) -> usize {
+    if at < out.len() {
+        out[at] = NEWLINE;
+        return at + 1;
     }
-    w
+    at
 }
 
-// The world after a command that chooses the card or lends rows.
-fn choose(w: World, command: Command) -> World
-    ensures { result.at ≡ w.at }
-{
-    match command {
-        Command::Card(card) => World { card, ..w },
-        Command::LendRows { count, value } => lend_rows(w, count as usize, value),
-        _ => w,
+// The bytes that a bank has, of which the first so many are lent.
+#[derive(Drop)]
+struct Lent {
+    bytes: [u8; 300000],
+    count: usize,
+}
+
+impl Lent {
+    fn lend(&mut self, n: usize, byte: u8) {
+        self.count = fill(&mut self.bytes, n, byte);
+    }
+
+    fn poke(&mut self, to: usize, bytes: &[u8]) -> bool {
+        let lent = self.count;
+        poke(&mut self.bytes, lent, to, bytes)
     }
 }
 
-// The world after a command that sets it up: what is chosen, lent or poked.
-fn set_up(
-    mut w: World,
-    state: &mut [u8; 2048],
-    memory: &mut [u8; 300000],
-    store: &mut [u8; 300000],
-    bytes: &[u8],
-    command: Command,
-) -> World
-    ensures { result.at ≡ w.at }
-{
-    match command {
-        Command::Lend { bank, length, byte } => {
-            lend_bank(w, memory, store, bank, length as usize, byte)
+// What commands choose, lend and poke: the card, the state, the memory, the store, the rows and how many of them are lent.
+#[derive(Drop)]
+struct Lab {
+    card: Card,
+    state: [u8; 2048],
+    memory: Lent,
+    store: Lent,
+    rows: [Counters; 40],
+    lent: usize,
+}
+
+impl Lab {
+    fn lend_rows(&mut self, n: usize, value: u32) {
+        let row = Counters {
+            arrived: value,
+            hec: value,
+            ignored: value,
+            misrouted: value,
+            inletfull: value,
+            sent: value,
+            unheard: value,
+            damaged: value,
+            queued: value,
+            full: value,
+            clp: value,
+            wide: value,
+            taken: value,
+        };
+        self.rows = [row; 40];
+        self.lent = n;
+    }
+
+    fn bank(&mut self, bank: Bank) -> &mut Lent {
+        match bank {
+            Bank::Memory => &mut self.memory,
+            Bank::Store => &mut self.store,
         }
-        Command::Poke { bank, at, .. } => { poke_bank(w, memory, store, bank, at as usize, bytes) }
-        Command::PokeState { at, .. } => {
-            w.good = poke(state, 2048, at as usize, bytes);
-            w
+    }
+
+    // What a command sets up: what is chosen, lent or poked; whether it may.
+    fn set_up(&mut self, bytes: &[u8], command: Command) -> bool {
+        match command {
+            Command::Card(card) => self.card = card,
+            Command::Lend { bank, length, byte } => self.bank(bank).lend(length as usize, byte),
+            Command::LendRows { count, value } => self.lend_rows(usize::from(count), value),
+            Command::Poke { bank, at, .. } => return self.bank(bank).poke(at as usize, bytes),
+            Command::PokeState { at, .. } => return poke(&mut self.state, 2048, at as usize, bytes),
+            _ => {}
         }
-        _ => choose(w, command),
+        true
     }
 }
 
@@ -221,85 +135,17 @@ fn wanted(command: Command) -> usize
     }
 }
 
-// What an event does, and its answer: it sees of the memory and the store what is lent.
-fn act(
-    w: World,
-    state: &mut [u8; 2048],
-    memory: &mut [u8],
-    store: &mut [u8],
-    text: &[u8],
-    buffer: &mut [u8; 1000],
-    command: Command,
-) -> After {
-    let card = w.card;
-    let rows = w.rows;
-    let lent = w.lent;
-    let m = w.memory.min(memory.len());
-    let s = w.store.min(store.len());
+// What an event does, and its answer; all other commands do nothing.
+fn act(shelf: &mut Shelf, text: &[u8], buffer: &mut [u8], command: Command) -> Answer {
     match command {
-        Command::Load(_) => {
-            owned::load(card, text, &mut memory[..m], state, &store[..s], rows, lent)
-        }
-        Command::Arrive { unit, .. } => {
-            owned::arrive(
-                card,
-                state,
-                &memory[..m],
-                &mut store[..s],
-                rows,
-                lent,
-                unit,
-                text,
-            )
-        }
-        _ => call(w, state, &mut store[..s], text, buffer, command),
-    }
-}
-
-// The same, of an event that needs no memory.
-fn call(
-    w: World,
-    state: &mut [u8; 2048],
-    store: &mut [u8],
-    text: &[u8],
-    buffer: &mut [u8],
-    command: Command,
-) -> After {
-    let card = w.card;
-    let rows = w.rows;
-    let lent = w.lent;
-    let n = wanted(command).min(buffer.len());
-    match command {
-        Command::Hear { unit, .. } => owned::hear(card, state, store, rows, lent, unit, text),
-        Command::Frame(_) => owned::frame(card, state, store, rows, lent, &mut buffer[..n]),
-        Command::Take { unit, .. } => {
-            owned::take(card, state, store, rows, lent, unit, &mut buffer[..n])
-        }
-        _ => serve(w, state, store, text, &mut buffer[..n], command),
-    }
-}
-
-// The same, of an event of a unit's processor; of all other commands nothing.
-fn serve(
-    w: World,
-    state: &mut [u8; 2048],
-    store: &mut [u8],
-    text: &[u8],
-    buffer: &mut [u8],
-    command: Command,
-) -> After {
-    let card = w.card;
-    let rows = w.rows;
-    let lent = w.lent;
-    match command {
-        Command::Hand { unit, .. } => {
-            let answer = owned::hand(card, state, store, rows, lent, unit, text);
-            owned::joined(answer, rows)
-        }
-        Command::Collect { unit, .. } => {
-            owned::collect(card, state, store, rows, lent, unit, buffer)
-        }
-        _ => owned::joined(Answer::Empty, rows),
+        Command::Load(_) => shelf.load(text),
+        Command::Arrive { unit, .. } => shelf.arrive(unit, text),
+        Command::Hear { unit, .. } => shelf.hear(unit, text),
+        Command::Frame(_) => shelf.frame(buffer),
+        Command::Take { unit, .. } => shelf.take(unit, buffer),
+        Command::Hand { unit, .. } => shelf.hand(unit, text),
+        Command::Collect { unit, .. } => shelf.collect(unit, buffer),
+        _ => Answer::Empty,
     }
 }
 
@@ -311,297 +157,298 @@ fn word_of(line: &[u8]) -> &[u8]
     &word[..word.len().min(20)]
 }
 
-// The answer of an event but for its buffer.
-fn say_event(out: &mut [u8; 200000], at: usize, line: &[u8], unit: u8, answer: Answer) -> usize
-    requires { at ≤ 180000 }
-    ensures { result ≤ at + 100 }
-{
-    replies::said(out, at, word_of(line), unit, answer)
-}
-
-// The answer of an event with its buffer.
-fn say_buffer(
-    out: &mut [u8; 200000],
+// The answers that are not written end at `at`; a read or a write failed if `lost`.
+#[derive(Drop)]
+struct Output {
+    bytes: [u8; 200000],
     at: usize,
-    line: &[u8],
-    unit: u8,
-    answer: Answer,
-    buffer: &[u8; 1000],
-    count: usize,
-) -> usize
-    requires { (at ≤ 180000) × (count ≤ 1000) }
-{
-    let end = say_event(out, at, line, unit, answer);
-    replies::put_bytes(out, end, part_of(buffer, 0, count))
+    lost: bool,
 }
 
-// A command that is no event is done, or bad.
-fn say_done(out: &mut [u8; 200000], at: usize, line: &[u8], good: bool) -> usize
-    requires { at ≤ 180000 }
-{
-    if good {
-        let end = text::put(out, at, word_of(line));
-        return text::put(out, end, b"\tok");
-    }
-    text::put(out, at, b"bad")
-}
-
-// What a command that did something answers.
-fn say_after(
-    out: &mut [u8; 200000],
-    at: usize,
-    line: &[u8],
-    command: Command,
-    answer: Answer,
-    buffer: &[u8; 1000],
-    good: bool,
-) -> usize
-    requires { at ≤ 180000 }
-{
-    let n = wanted(command);
-    match command {
-        Command::Load(_) => say_event(out, at, line, 0, answer),
-        Command::Arrive { unit, .. } => say_event(out, at, line, unit, answer),
-        Command::Hear { unit, .. } => say_event(out, at, line, unit, answer),
-        Command::Frame(_) => say_buffer(out, at, line, 0, answer, buffer, n),
-        Command::Take { unit, .. } => say_buffer(out, at, line, unit, answer, buffer, n),
-        Command::Hand { unit, .. } => say_event(out, at, line, unit, answer),
-        Command::Collect { unit, .. } => say_buffer(out, at, line, unit, answer, buffer, n),
-        _ => say_done(out, at, line, good),
-    }
-}
-
-fn say_count(
-    w: World,
-    state: &[u8; 2048],
-    store: &[u8],
-    unit: u8,
-    line: &[u8],
-    out: &mut [u8; 200000],
-) -> usize
-    requires { w.at ≤ 180000 }
-{
-    let card = w.card;
-    let rows = w.rows;
-    match owned::count(card, state, part_of(store, 0, w.store), rows, w.lent, unit) {
-        Ok(c) => replies::counted(out, w.at, unit, c),
-        Err(number) => {
-            let answer = Answer::Refused(number);
-            say_event(out, w.at, line, unit, answer)
+impl Output {
+    // The answers so far are written out, or it is told, once, that they are lost.
+    fn write(&mut self, rt: &(impl Print + Eprint + Alloc))
+        ensures { self.new.at ≡ 0 }
+    {
+        let end = self.at;
+        self.at = 0;
+        if !self.lost {
+            let kept = streams::put(rt, part_of(&self.bytes, 0, end));
+            self.lost = !kept;
         }
     }
-}
 
-// How many bytes are lent, and their sum, behind the words that asked for it.
-fn say_sum(out: &mut [u8; 200000], at: usize, line: &[u8], b: &[u8], lent: usize) -> usize
-    requires { at ≤ 180000 }
-{
-    let part = part_of(b, 0, lent);
-    let words = &line[..line.len().min(20)];
-    replies::summed(out, at, words, part.len() as u64, text::fnv(part))
-}
-
-fn show_bank(
-    w: World,
-    memory: &[u8],
-    store: &[u8],
-    bank: Bank,
-    line: &[u8],
-    out: &mut [u8; 200000],
-) -> usize
-    requires { w.at ≤ 180000 }
-{
-    match bank {
-        Bank::Memory => say_sum(out, w.at, line, memory, w.memory),
-        Bank::Store => say_sum(out, w.at, line, store, w.store),
-    }
-}
-
-// What a command answers.
-fn tell(
-    w: World,
-    answer: Answer,
-    state: &[u8; 2048],
-    memory: &[u8],
-    store: &[u8],
-    buffer: &[u8; 1000],
-    line: &[u8],
-    command: Command,
-    out: &mut [u8; 200000],
-) -> usize
-    requires { w.at ≤ 180000 }
-{
-    match command {
-        Command::Count(unit) => say_count(w, state, store, unit, line, out),
-        Command::Show(bank) => show_bank(w, memory, store, bank, line, out),
-        Command::ShowRows => {
-            let rows = w.rows;
-            replies::rows(out, w.at, &rows[..w.lent.min(40)])
+    // An answer has room to start: what there is is written out if the room is short.
+    fn clear(&mut self, rt: &(impl Print + Eprint + Alloc))
+        ensures { self.new.at ≤ 180000 }
+    {
+        if FULL < self.at {
+            self.write(rt);
         }
-        Command::ShowState => replies::state(out, w.at, state),
-        Command::ShowUnit(unit) => named::unit(out, w.at, state, unit),
-        _ => say_after(out, w.at, line, command, answer, buffer, w.good),
     }
-}
 
-// A newline where there is room.
-fn ended(out: &mut [u8], at: usize) -> usize {
-    if at < out.len() {
-        out[at] = NEWLINE;
-        return at + 1;
+    // The line ends here, where there is room.
+    fn end(&mut self, at: usize) {
+        self.at = ended(&mut self.bytes, at);
     }
-    at
+
+    // The answer of an event but for its buffer.
+    fn event(&mut self, line: &[u8], unit: u8, answer: Answer) -> usize
+        requires { self.old.at ≤ 180000 }
+        ensures { result ≤ self.old.at + 100 }
+    {
+        let at = self.at;
+        replies::said(&mut self.bytes, at, word_of(line), unit, answer)
+    }
+
+    // The answer of an event with its buffer.
+    fn buffer(&mut self, line: &[u8], unit: u8, answer: Answer, buffer: &[u8]) -> usize
+        requires { (self.old.at ≤ 180000) × (length buffer.now ≤ 1000) }
+    {
+        let end = self.event(line, unit, answer);
+        replies::put_bytes(&mut self.bytes, end, buffer)
+    }
+
+    // A command that is no event is done, or bad.
+    fn done(&mut self, line: &[u8], good: bool) -> usize
+        requires { self.old.at ≤ 180000 }
+    {
+        let at = self.at;
+        if good {
+            let end = text::put(&mut self.bytes, at, word_of(line));
+            return text::put(&mut self.bytes, end, b"\tok");
+        }
+        text::put(&mut self.bytes, at, b"bad")
+    }
+
+    // What a command that did something answers.
+    fn after(
+        &mut self,
+        line: &[u8],
+        command: Command,
+        answer: Answer,
+        buffer: &[u8],
+        good: bool,
+    ) -> usize
+        requires { (self.old.at ≤ 180000) × (length buffer.now ≤ 1000) }
+    {
+        match command {
+            Command::Load(_) => self.event(line, 0, answer),
+            Command::Arrive { unit, .. }
+            | Command::Hear { unit, .. }
+            | Command::Hand { unit, .. } => self.event(line, unit, answer),
+            Command::Frame(_) => self.buffer(line, 0, answer, buffer),
+            Command::Take { unit, .. } | Command::Collect { unit, .. } => self.buffer(
+                line, unit, answer, buffer,
+            ),
+            _ => self.done(line, good),
+        }
+    }
+
+    fn count(&mut self, line: &[u8], unit: u8, counted: Result<Counters, u8>) -> usize
+        requires { self.old.at ≤ 180000 }
+    {
+        let at = self.at;
+        match counted {
+            Ok(c) => replies::counted(&mut self.bytes, at, unit, c),
+            Err(number) => self.event(line, unit, Answer::Refused(number)),
+        }
+    }
+
+    // How many bytes are lent, and their sum, behind the words that asked for it.
+    fn sum(&mut self, line: &[u8], lent: &[u8]) -> usize
+        requires { self.old.at ≤ 180000 }
+    {
+        let at = self.at;
+        let words = &line[..line.len().min(20)];
+        replies::summed(
+            &mut self.bytes,
+            at,
+            words,
+            lent.len() as u64,
+            text::fnv(lent),
+        )
+    }
+
+    // What a command that shows something answers, and any other.
+    fn tell(
+        &mut self,
+        shelf: &Shelf,
+        line: &[u8],
+        command: Command,
+        answer: Answer,
+        buffer: &[u8],
+        good: bool,
+    ) -> usize
+        requires { (self.old.at ≤ 180000) × (length buffer.now ≤ 1000) }
+    {
+        let at = self.at;
+        match command {
+            Command::Count(unit) => self.count(line, unit, shelf.count(unit)),
+            Command::Show(Bank::Memory) => self.sum(line, shelf.memory),
+            Command::Show(Bank::Store) => self.sum(line, shelf.store),
+            Command::ShowRows => replies::rows(
+                &mut self.bytes,
+                at,
+                &shelf.rows[..shelf.lent.min(40)],
+            ),
+            Command::ShowState => replies::state(&mut self.bytes, at, shelf.state),
+            Command::ShowUnit(unit) => named::unit(&mut self.bytes, at, shelf.state, unit),
+            _ => self.after(line, command, answer, buffer, good),
+        }
+    }
+
+    // Words for a person, on standard error; the answers so far are written first, so that both are read in order.
+    fn tell_person(&mut self, rt: &(impl Print + Eprint + Alloc), words: &str) {
+        self.write(rt);
+        let _ = rt.eprint(words);
+    }
 }
 
 // A command is done, and then answered.
-fn obey(
-    mut w: World,
-    state: &mut [u8; 2048],
-    memory: &mut [u8; 300000],
-    store: &mut [u8; 300000],
-    bytes: &[u8],
-    line: &[u8],
-    command: Command,
-    out: &mut [u8; 200000],
-) -> World
-    requires { w.at ≤ 180000 }
+fn obey(lab: &mut Lab, bytes: &[u8], line: &[u8], command: Command, out: &mut Output)
+    requires { out.old.at ≤ 180000 }
 {
+    let good = lab.set_up(bytes, command);
+    let Lab {
+        card,
+        rows,
+        lent,
+        ..
+    } = *lab;
+    let m = lab.memory.count.min(300000);
+    let s = lab.store.count.min(300000);
+    let memory = &mut lab.memory.bytes[..];
+    let store = &mut lab.store.bytes[..];
+    let mut shelf = Shelf {
+        card,
+        state: &mut lab.state,
+        memory: &mut memory[..m],
+        store: &mut store[..s],
+        rows,
+        lent,
+    };
     let mut buffer = [238u8; 1000];
-    w = set_up(w, state, memory, store, bytes, command);
-    let after = act(w, state, memory, store, bytes, &mut buffer, command);
-    let answer = after.answer;
-    let end = tell(w, answer, state, memory, store, &buffer, line, command, out);
-    let rows = after.rows;
-    w.rows = rows;
-    w.at = ended(out, end);
-    w
+    let n = wanted(command);
+    let answer = act(&mut shelf, bytes, &mut buffer[..n], command);
+    let end = out.tell(&shelf, line, command, answer, &buffer[..n], good);
+    out.end(end);
+    let after = shelf.rows;
+    lab.rows = after;
 }
 
-// The command of a line; one that was too long to be kept says none.
-fn reading_of(long: bool, line: &[u8]) -> Option<Command> {
-    if long { None } else { command::read(line) }
+// What was read and is not answered: its first line stands from `from`, or from the front where its start was too long to be kept, up to `to`, all of it up to `end`; more may come if `open`.
+#[derive(Drop)]
+struct Input {
+    bytes: [u8; 400000],
+    from: Option<usize>,
+    to: usize,
+    end: usize,
+    open: bool,
 }
 
-// Where the first line of what is not answered ends; at the end of it if no newline has come.
-fn line_end(input: &[u8], from: usize, end: usize) -> usize {
-    let e = end.min(input.len());
-    text::field_end(&input[..e], from.min(e), NEWLINE)
-}
-
-// The start of a line comes to the front, unless it is too long already; how many bytes are kept.
-fn kept(input: &mut [u8], from: usize, end: usize) -> usize {
-    let e = end.min(input.len());
-    let f = from.min(e);
-    if MOST < e - f {
-        return 0;
+impl Input {
+    fn start(&self) -> usize {
+        self.from.unwrap_or(0)
     }
-    input.copy_within(f..e, 0);
-    e - f
-}
 
-// The world after more was read; at the end of the input a last line without a newline gets one.
-fn refilled(mut w: World, input: &mut [u8], kept: usize, end: usize) -> World {
-    if kept == 0 && w.from < w.end {
-        w.long = true;
+    // Whether nothing is left: no more comes, and the last line is answered.
+    fn is_over(&self) -> bool {
+        !self.open && self.end <= self.start()
     }
-    w.from = 0;
-    w.at = 0;
-    w.end = end;
-    if end == kept {
-        w.open = false;
-        if w.long || 0 < kept {
-            w.end = ended(input, kept);
+
+    // Where the first line ends; at the end of all if no newline has come.
+    fn line_end(&self) -> usize {
+        let all = part_of(&self.bytes, 0, self.end);
+        text::field_end(all, self.start().min(all.len()), NEWLINE)
+    }
+
+    // The start of a line comes to the front, unless it is too long already; how many bytes are kept.
+    fn keep(&mut self) -> usize {
+        let e = self.end.min(400000);
+        let f = self.start().min(e);
+        if MOST < e - f {
+            return 0;
+        }
+        self.bytes.copy_within(f..e, 0);
+        e - f
+    }
+
+    // More was read behind what was kept, up to `end`; at the end of the input a last line without a newline gets one.
+    fn refill(&mut self, kept: usize, end: usize) {
+        if kept == 0 && self.start() < self.end {
+            self.from = None;
+        } else if self.from.is_some() {
+            self.from = Some(0);
+        }
+        self.end = end;
+        if end == kept {
+            self.open = false;
+            if self.from.is_none() || 0 < kept {
+                self.end = ended(&mut self.bytes, kept);
+            }
+        }
+        self.to = self.end;
+    }
+
+    // Reads into what is free behind the kept bytes.
+    fn read(&mut self, rt: &(impl Eprint + Alloc), source: &mut impl Read) -> bool {
+        let kept = self.keep().min(400000);
+        let all = &mut self.bytes[..];
+        let Some(got) = streams::get(rt, source, "standard input", &mut all[kept..]) else {
+            return false;
+        };
+        self.refill(kept, kept + got);
+        true
+    }
+
+    // The next line; where no whole one is left, the answers are written and more is read.
+    fn next(
+        &mut self,
+        rt: &(impl Print + Eprint + Alloc),
+        source: &mut impl Read,
+        out: &mut Output,
+    ) {
+        self.to = self.line_end();
+        if self.to < self.end {
+            return;
+        }
+        out.write(rt);
+        if !out.lost {
+            let read = self.read(rt, source);
+            out.lost = !read;
         }
     }
-    w.to = w.end;
-    w
 }
 
-// Reads into what is free behind the kept bytes.
-fn more(
-    rt: &(impl Eprint + Alloc),
-    source: &mut impl Read,
-    mut w: World,
-    input: &mut [u8],
-    kept: usize,
-) -> World {
-    let n = kept.min(input.len());
-    let Some(got) = streams::get(rt, source, "standard input", &mut input[n..]) else {
-        w.lost = true;
-        return w;
-    };
-    refilled(w, input, kept, n + got)
-}
-
-// The world with its next line; where no whole one is left, the answers are written and more is read.
-fn lined(
-    rt: &(impl Print + Eprint + Alloc),
-    source: &mut impl Read,
-    mut w: World,
-    input: &mut [u8; 400000],
-    out: &[u8; 200000],
-) -> World {
-    w.to = line_end(input, w.from, w.end);
-    if w.to < w.end {
-        return w;
+// The bytes that the last field of a line says in hex, to the front of text; how many there are. No command has 256 fields.
+fn unhexed(line: &[u8], text: &mut [u8; 75000]) -> usize {
+    let hex = text::field(line, (text::count(line) % 256) as u8);
+    if hex.len() / 2 <= 75000 && text::is_hex(hex) {
+        text::unhex(hex, text, 0);
+        return hex.len() / 2;
     }
-    w = written(rt, w, out);
-    if w.lost {
-        return w;
-    }
-    let n = kept(input, w.from, w.end);
-    more(rt, source, w, input, n)
-}
-
-// Words for a person, on standard error; the answers so far are written first, so that both are read in order.
-fn tell_person(
-    rt: &(impl Print + Eprint + Alloc),
-    w: World,
-    out: &[u8; 200000],
-    words: &str,
-) -> World {
-    let after = written(rt, w, out);
-    let _ = rt.eprint(words);
-    after
+    0
 }
 
 // What a person may have got wrong in a line that is bad.
-fn hint(rt: &(impl Print + Eprint + Alloc), w: World, out: &[u8; 200000], line: &[u8]) -> World {
-    match text::slip_in(line) {
-        Some(Slip::Blanks) => tell_person(
-            rt,
-            w,
-            out,
-            "hint: a blank stands in this line; fields are parted by one tab\n",
-        ),
-        Some(Slip::Return) => tell_person(
-            rt,
-            w,
-            out,
+fn hint(rt: &(impl Print + Eprint + Alloc), out: &mut Output, line: &[u8]) {
+    let words = match text::slip_in(line) {
+        Some(Slip::Blanks) => "hint: a blank stands in this line; fields are parted by one tab\n",
+        Some(Slip::Return) =>
             "hint: this line ends in a carriage return; a line ends in a newline alone\n",
-        ),
-        Some(Slip::Both) => tell_person(
-            rt,
-            w,
-            out,
+        Some(Slip::Both) =>
             "hint: a blank stands in this line, and a carriage return ends it; fields are parted by one tab, lines by a newline\n",
-        ),
-        None => w,
-    }
+        None => return,
+    };
+    out.tell_person(rt, words);
 }
 
 // After its answer `help` lists the commands for a person.
-fn list(
-    rt: &(impl Print + Eprint + Alloc),
-    w: World,
-    out: &[u8; 200000],
-    command: Command,
-) -> World {
-    match command {
-        Command::Help => tell_person(
+fn list(rt: &(impl Print + Eprint + Alloc), out: &mut Output, command: Command) {
+    if let Command::Help = command {
+        out.tell_person(
             rt,
-            w,
-            out,
             "Commands, one a line; fields are parted by one tab (here a blank), a line ends in a newline alone:\n\
               card narrow, card wide\n\
               lend memory LENGTH BYTE, lend store LENGTH BYTE, lend rows COUNT VALUE\n\
@@ -617,66 +464,44 @@ fn list(
               help\n\
               show memory, show store, show rows, show state, show unit UNIT\n\
               docs/CONSOLE.md has what each does and answers; docs/FORMATS.md has tables, fates and refusals.\n",
-        ),
-        _ => w,
+        );
     }
 }
 
 // What is no command is bad, and so is a line that was too long.
-fn say_bad(
-    rt: &(impl Print + Eprint + Alloc),
-    mut w: World,
-    line: &[u8],
-    out: &mut [u8; 200000],
-) -> World
-    requires { w.at ≤ 180000 }
+fn say_bad(rt: &(impl Print + Eprint + Alloc), line: &[u8], out: &mut Output)
+    requires { out.old.at ≤ 180000 }
 {
-    let end = text::put(out, w.at, b"bad");
-    w.at = ended(out, end);
-    w.long = false;
-    hint(rt, w, out, line)
+    let at = out.at;
+    let end = text::put(&mut out.bytes, at, b"bad");
+    out.end(end);
+    hint(rt, out, line);
 }
 
-// Answers the next line, if there is a whole one.
+// Answers the next line, if there is a whole one; one that was too long to be kept says no command.
 fn turn(
     rt: &(impl Print + Eprint + Alloc),
-    mut w: World,
-    state: &mut [u8; 2048],
-    memory: &mut [u8; 300000],
-    store: &mut [u8; 300000],
+    lab: &mut Lab,
     text: &mut [u8; 75000],
-    input: &[u8; 400000],
-    out: &mut [u8; 200000],
-) -> World {
-    if w.end <= w.to {
-        return w;
+    input: &mut Input,
+    out: &mut Output,
+) {
+    if input.end <= input.to {
+        return;
     }
-    let line = part_of(input, w.from, w.to);
+    let from = input.from;
+    let end = input.to;
+    input.from = Some(end + 1);
+    let line = part_of(&input.bytes, from.unwrap_or(0), end);
     let n = unhexed(line, text);
-    w.from = w.to + 1;
-    w = cleared(rt, w, out);
-    w.good = true;
-    match reading_of(w.long, line) {
+    out.clear(rt);
+    match from.and_then(|_| command::read(line)) {
         Some(command) => {
-            w = obey(
-                w,
-                state,
-                memory,
-                store,
-                part_of(text, 0, n),
-                line,
-                command,
-                out,
-            );
-            list(rt, w, out, command)
+            obey(lab, part_of(text, 0, n), line, command, out);
+            list(rt, out, command);
         }
-        None => say_bad(rt, w, line, out),
+        None => say_bad(rt, line, out),
     }
-}
-
-// Whether nothing is left to do: the input and its last line are at their end, or a read or a write failed.
-fn is_done(w: World) -> bool {
-    w.lost || (!w.open && w.end <= w.from)
 }
 
 // Where it is asked to, the program says on descriptor 3 that nothing was lost. `std` gives no descriptor by its number, and `io` writes to one.
@@ -692,44 +517,52 @@ fn say_kept(rt: &impl Env) {
 fn run(
     rt: &(impl Print + Eprint + Alloc + Env),
     source: &mut impl Read,
-    state: &mut [u8; 2048],
-    memory: &mut [u8; 300000],
-    store: &mut [u8; 300000],
-    text: &mut [u8; 75000],
-    input: &mut [u8; 400000],
-    out: &mut [u8; 200000],
+    lab: &mut Lab,
+    input: &mut Input,
+    out: &mut Output,
 ) {
-    let mut w = begun();
+    let mut text = [0; 75000];
     for _ in 0..u64::MAX {
-        w = lined(rt, source, w, input, out);
-        w = turn(rt, w, state, memory, store, text, input, out);
-        if is_done(w) {
+        input.next(rt, source, out);
+        turn(rt, lab, &mut text, input, out);
+        if out.lost || input.is_over() {
             break;
         }
     }
-    w = written(rt, w, out);
-    if !w.lost {
+    out.write(rt);
+    if !out.lost {
         say_kept(rt);
     }
 }
 
-// The state starts as a fresh 16 bus.
+// Nothing is lent and nothing is read yet. The state starts as a fresh 16 bus.
 fn main(rt: HostRuntime) {
-    let mut state = [0; 2048];
-    state::fresh(&mut state, 16);
-    let mut memory = [0; 300000];
-    let mut store = [0; 300000];
-    let mut text = [0; 75000];
-    let mut input = [0; 400000];
-    let mut out = [0; 200000];
-    run(
-        &rt,
-        &mut rt.stdin(),
-        &mut state,
-        &mut memory,
-        &mut store,
-        &mut text,
-        &mut input,
-        &mut out,
-    );
+    let mut lab = Lab {
+        card: Card::Wide,
+        state: [0; 2048],
+        memory: Lent {
+            bytes: [0; 300000],
+            count: 0,
+        },
+        store: Lent {
+            bytes: [0; 300000],
+            count: 0,
+        },
+        rows: [Counters::zero(); 40],
+        lent: 0,
+    };
+    state::fresh(&mut lab.state, 16);
+    let mut input = Input {
+        bytes: [0; 400000],
+        from: Some(0),
+        to: 0,
+        end: 0,
+        open: true,
+    };
+    let mut out = Output {
+        bytes: [0; 200000],
+        at: 0,
+        lost: false,
+    };
+    run(&rt, &mut rt.stdin(), &mut lab, &mut input, &mut out);
 }
