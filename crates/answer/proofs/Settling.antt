@@ -1,12 +1,12 @@
 -- What the definitions of the counters say: which field each counter is, which rows change and how. Assumes nothing.
-use Rattle.std.proofs.Common.{◌≡◌, ℕ, zero as none, suc, ◌+◌, ◌/◌, ◌%◌, ◌^◌, ◌<◌, ◌≤◌, Bool, true, false, cond, leb, ◌⊎◌, List, [], ◌∷◌, length, get_or, set, replicate, sym, refl, ap, ◌∙◌, ⊎_elim, le_antisymm, eq-or-lt_of_le, add-one, arith, length-set, get_or-set_other, get_or-set_same, ne_eqb, le-leb, leb-true}
+use Rattle.std.proofs.Common.{◌≡◌, ℕ, zero as none, suc, ◌+◌, ◌/◌, ◌%◌, ◌^◌, ◌<◌, ◌≤◌, Bool, true, false, cond, leb, ◌⊎◌, List, [], ◌∷◌, length, get_or, set, replicate, sym, refl, ap, ◌∙◌, ⊎_elim, le_antisymm, eq-or-lt_of_le, add-one, arith, Some, length-set, get_or-set_other, get_or-set_same, ne_eqb, le-leb, leb-true}
 use lib.ListN.{length-replicate}
 use borrow.Author.Tests.{lt-leb}
 use Rattle.answer.specs.declared.Rises.{Rises}
-use Rattle.answer.specs.declared.Single.{Single}
-use Rattle.answer.specs.Answers.{row, spread, outcome_by}
+use Rattle.answer.specs.declared.Rise.{Rise}
+use Rattle.answer.specs.Answers.{row, spread}
 use Rattle.answer.specs.declared.Counters.{Counters}
-use Rattle.answer.specs.Counting.{value, zeros, raised, row_after, rise_at, row_by, settled_to, settled, rises_to, raised_from, place_of, many_of}
+use Rattle.answer.specs.Counting.{value, zeros, raised, row_after, rise_at, row_by, settled_to, settled, rises_to, raised_from}
 
 -- each counter rises by its own bit, and no other
 pub raised_value : (c : Counters) (n k : ℕ) → k < 13 → value (raised c n) k ≡ (value c k + n / 2 ^ k % 2) % 2 ^ 32
@@ -254,48 +254,9 @@ one_row rows place n h =
     own : get_or (set zeroed place n) place 0 ≡ n
     own = get_or-set_same zeroed place n 0 (omega (arith, length-replicate {A = ℕ} 32 0))
 
-module _ (rows : List Counters) (done : Single) where
-  abbrev rising : Rises
-  rising = (outcome_by done).rises
-
-  pub counted_last : done.counted ≡ true → rising.to ≡ done.place + 1
-  unfolding spread
-  counted_last e = ap (λ (b : Bool). (spread b done.place done.counters).to) e
-
-  pub settled_one : done.counted ≡ true → done.place < 32 → set rows done.place (raised (get_or rows done.place zeros) done.counters) ≡ settled rows rising
-  unfolding spread
-  settled_one e h = sym (ap (λ (b : Bool). settled rows (spread b done.place done.counters)) e ∙ one_row rows done.place done.counters h)
-
-  -- one that is not counted changes no row
-  pub settled_uncounted : done.counted ≡ false → rows ≡ settled rows rising
-  unfolding spread settled_to
-  settled_uncounted e = sym (ap (λ (b : Bool). settled rows (spread b done.place done.counters)) e)
-
-  -- the rows that change end at the last
-  pub placed_last : place_of done + many_of done ≡ rising.to
-  unfolding place_of many_of spread
-  placed_last = by_counted done.counted
-    where
-      by_counted : (b : Bool) → cond b done.place 0 + cond b 1 0 ≡ (spread b done.place done.counters).to
-      by_counted true = refl
-      by_counted false = refl
-
-  -- and are one or none
-  pub few_rows : many_of done ≤ 1
-  unfolding many_of
-  few_rows = by_counted done.counted
-    where
-      by_counted : (b : Bool) → cond b 1 0 ≤ 1
-      by_counted true = omega arith
-      by_counted false = omega arith
-
-  -- raised by its one set, they are as they are to be
-  pub raised_one : rising.to ≤ 32 → raised_from rows (place_of done) (done.counters ∷ []) (many_of done) ≡ settled rows rising
-  unfolding place_of many_of raised_from
-  raised_one few = by_counted done.counted refl
-    where
-      by_counted : (b : Bool) → done.counted ≡ b → raised_from rows (cond b done.place 0) (done.counters ∷ []) (cond b 1 0) ≡ settled rows rising
-      by_counted true e =
-          let here : done.place + 0 ≡ done.place = omega arith in
-          ap (λ (i : ℕ). set rows i (raised (get_or rows i zeros) done.counters)) here ∙ settled_one e (omega (arith, counted_last e))
-      by_counted false e = settled_uncounted e
+-- raised by its one set, the rows are as they are to be
+pub raised_one : (rows : List Counters) (rise : Rise) → rise.place < 32 → raised_from rows rise.place (rise.counters ∷ []) 1 ≡ settled rows (spread (Some rise))
+unfolding raised_from spread
+raised_one rows rise h =
+    let here : rise.place + 0 ≡ rise.place = omega arith in
+    ap (λ (i : ℕ). set rows i (raised (get_or rows i zeros) rise.counters)) here ∙ sym (one_row rows rise.place rise.counters h)

@@ -1,5 +1,5 @@
 -- What an event answers, and which counters of which units rise by it. Assumes nothing.
-use Rattle.std.specs.Prelude.{ℕ, ◌+◌, Bool, true, false, List, [], ◌∷◌, replicate, slice_set}
+use Rattle.std.specs.Prelude.{ℕ, ◌+◌, Bool, true, false, List, [], ◌∷◌, replicate, slice_set, Option, Some, None}
 use Rattle.shelf.specs.Shelf.{Shelf}
 use Rattle.answer.specs.declared.Answer as A
 use Rattle.answer.specs.declared.Answer.TheVariants.{Loaded, Unloaded, Refused, Arrived, Framed, Heard, Taken, Empty, Handed}
@@ -9,6 +9,7 @@ use Rattle.answer.specs.declared.Hearing as He
 use Rattle.answer.specs.declared.Hearing.TheVariants as hearing
 use Rattle.answer.specs.declared.Rises.{Rises}
 use Rattle.answer.specs.declared.Outcome.{Outcome}
+use Rattle.answer.specs.declared.Rise.{Rise}
 use Rattle.answer.specs.declared.Single.{Single}
 use Rattle.answer.specs.Done.{Done}
 
@@ -149,15 +150,15 @@ refused_with number = record { answer = Refused number; rises = none }
 
 -- an event at one unit: nothing is counted; or these counters rise in the row of a place
 abbrev pub uncounted_with : A.Answer → Single
-uncounted_with answer = record { answer = answer; counted = false; place = 0; counters = 0 }
+uncounted_with answer = record { answer = answer; rise = None }
 
 abbrev pub counted_with : A.Answer → ℕ → ℕ → Single
-counted_with answer place counters = record { answer = answer; counted = true; place = place; counters = counters }
+counted_with answer place counters = record { answer = answer; rise = Some (record { place = place; counters = counters }) }
 
-unfoldable pub spread : Bool → ℕ → ℕ → Rises
-spread true place counters = row place counters
-spread false place counters = none
+unfoldable pub spread : Option Rise → Rises
+spread (Some rise) = row rise.place rise.counters
+spread None = none
 
 -- what it comes to, as of any event
 abbrev pub outcome_by : Single → Outcome
-outcome_by o = record { answer = o.answer; rises = spread o.counted o.place o.counters }
+outcome_by o = record { answer = o.answer; rises = spread o.rise }

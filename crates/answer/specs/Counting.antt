@@ -2,7 +2,6 @@
 use Rattle.std.specs.Prelude.{ℕ, zero as none, suc, ◌+◌, ◌/◌, ◌%◌, ◌^◌, false, cond, List, [], ◌∷◌, ◌==◌, nat_le, slice_index, slice_index_or, slice_set}
 use Rattle.answer.specs.Answers.{#arrived, #hec, #ignored, #misrouted, #inletfull, #sent, #unheard, #damaged, #queued, #full, #clp, #wide, #taken}
 use Rattle.answer.specs.declared.Rises.{Rises}
-use Rattle.answer.specs.declared.Single.{Single}
 use Rattle.answer.specs.declared.Counters.{Counters}
 
 -- "Thirteen counters a unit, each modulo 4,294,967,296: arrived, hec, ignored, misrouted, inletfull, sent, unheard, damaged, queued (outlet), full, clp, wide, taken."
@@ -82,10 +81,3 @@ rises_to to each = record { from = 0; to = to; anew = false; each = each }
 unfoldable pub raised_from : List Counters → ℕ → List ℕ → ℕ → List Counters
 raised_from rows at sets none = rows
 raised_from rows at sets (suc k) = slice_set (raised_from rows at sets k) (at + k) (raised (slice_index_or rows (at + k) zeros) (slice_index sets k))
-
--- of an event at one unit: the place of the row that changes, and how many do; none where it is not counted
-unfoldable pub place_of : Single → ℕ
-place_of done = cond done.counted done.place 0
-
-unfoldable pub many_of : Single → ℕ
-many_of done = cond done.counted 1 0

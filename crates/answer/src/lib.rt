@@ -3,7 +3,7 @@
 
 ghost use Rattle.std.specs.Prelude.{◌≡◌, ◌+◌, ◌<◌, ◌≤◌, length};
 ghost use Rattle.answer.specs.Answers.{arrival_rises, hearing_rises, uncounted_with, counted_with, outcome_by, #arrived, #queued, #taken};
-ghost use Rattle.answer.specs.Counting.{zeros, tick as ticked, raised as raised_by, rise_at, row_by, settled, raised_from, place_of, many_of};
+ghost use Rattle.answer.specs.Counting.{zeros, tick as ticked, raised as raised_by, rise_at, row_by, settled, raised_from};
 
 // The fates of an arriving cell.
 #[derive(Clone, Copy)]
@@ -98,13 +98,18 @@ pub struct Outcome {
     pub rises: Rises,
 }
 
-// The same of an event at one unit: the counters that rise in the row of its place, if it is counted at all. It goes by value in a few words.
+// The counters that rise in the row of one place.
+#[derive(Clone, Copy)]
+pub struct Rise {
+    pub place: usize,
+    pub counters: u16,
+}
+
+// The same of an event at one unit: what rises in the row of its place, if it is counted at all. It goes by value in a few words.
 #[derive(Clone, Copy)]
 pub struct Single {
     pub answer: Answer,
-    pub counted: bool,
-    pub place: usize,
-    pub counters: u16,
+    pub rise: Option<Rise>,
 }
 
 // The counters that rise by an arrival with this fate.
@@ -140,12 +145,7 @@ pub fn hearing_rises(fate: Hearing) -> u16
 pub fn uncounted(answer: Answer) -> Single
     ensures { result ≡ uncounted_with answer }
 {
-    Single {
-        answer,
-        counted: false,
-        place: 0,
-        counters: 0,
-    }
+    Single { answer, rise: None }
 }
 
 // It answers this, and these counters rise in the row of a place.
@@ -154,9 +154,7 @@ pub fn counted(answer: Answer, place: usize, counters: u16) -> Single
 {
     Single {
         answer,
-        counted: true,
-        place,
-        counters,
+        rise: Some(Rise { place, counters }),
     }
 }
 
@@ -335,27 +333,6 @@ pub fn raise(rows: &mut [Counters], at: usize, sets: &[u16], n: usize)
     }
 }
 
-// What an event at one unit raises: the place of the row; in how many rows, one or none.
-#[tactic(auto, unfolding(crate::specs::Counting::place_of))]
-pub fn place_of(done: Single) -> usize
-    ensures { result ≡ place_of done }
-{
-    if done.counted {
-        return done.place;
-    }
-    0
-}
-
-#[tactic(auto, unfolding(crate::specs::Counting::many_of))]
-pub fn many_of(done: Single) -> usize
-    ensures { result ≡ many_of done }
-{
-    if done.counted {
-        return 1;
-    }
-    0
-}
-
 // What it answers.
 pub fn answer_by(done: Single) -> Answer
     ensures { result ≡ (outcome_by done).answer }
@@ -364,9 +341,12 @@ pub fn answer_by(done: Single) -> Answer
 }
 
 // The counters of an event at one unit: `raise` is given a row of one set. It writes no row itself.
+#[tactic(auto, unfolding(crate::specs::Answers::spread, crate::specs::Counting::settled_to), using(crate::proofs::Settling::raised_one))]
 pub fn raise_one(rows: &mut [Counters], done: Single)
     requires { ((outcome_by done).rises.to ≤ 32) × ((outcome_by done).rises.to ≤ length rows.old) }
     ensures { rows.new ≡ settled rows.old (outcome_by done).rises }
 {
-    raise(rows, place_of(done), &[done.counters], many_of(done));
+    if let Some(rise) = done.rise {
+        raise(rows, rise.place, &[rise.counters], 1);
+    }
 }
