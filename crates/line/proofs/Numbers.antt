@@ -1,19 +1,31 @@
--- A decimal number in its range is read, and a number that is read is in its range. Assumes nothing.
+-- Each answer of a number from what was found, and that a number which is read is in its range. Assumes nothing.
 use mathlib.Core.Path.{◌≡◌, refl}
-use mathlib.Core.Bool.{Bool, true, false, ◌&&◌, cond}
+use mathlib.Core.Bool.{Bool, true, false, ◌&&◌, cond, and-false}
 use mathlib.Core.List.{List}
-use Prim.Native.Nat.{ℕ, ◌≤◌}
+use Prim.Native.Nat.{ℕ, ◌≤◌, ◌<◌}
 use native.Mathlib.Omega.{arith}
 use lib.Dec.{leb}
-use borrow.Author.Tests.{leb-true, le-leb}
+use borrow.Author.Tests.{leb-true, le-leb, lt-leb}
 use Rattle.text.specs.Digits.{decimal_of, value}
 use Rattle.text.proofs.Numbers.{first, second}
 use Rattle.line.specs.declared.Wrong.TheVariants.{Number, Range}
 use Rattle.std.specs.Prelude.{Ok, Err}
 use Rattle.line.specs.Ranged.{ranged}
 
+-- each answer
 module _ (f lo hi : ℕ) (s : List ℕ) where
-  -- a number that is in its range is read
+  pub no_number : decimal_of s ≡ false → Err (Number f) ≡ ranged f lo hi s
+  unfolding ranged
+  no_number d = simp d
+
+  pub too_big : decimal_of s ≡ true → hi < value 0 s → Err (Range f) ≡ ranged f lo hi s
+  unfolding ranged
+  too_big d h = simp (d, lt-leb _ _ h, and-false)
+
+  pub too_small : decimal_of s ≡ true → value 0 s < lo → Err (Range f) ≡ ranged f lo hi s
+  unfolding ranged
+  too_small d h = simp (d, lt-leb _ _ h)
+
   pub in_range : (v : ℕ) → decimal_of s ≡ true → value 0 s ≡ v → lo ≤ v → v ≤ hi → Ok v ≡ ranged f lo hi s
   unfolding ranged
   in_range v d e h k = simp (d, e, le-leb _ _ h, le-leb _ _ k)

@@ -12,7 +12,6 @@ use bus::Target;
 use header::Link;
 use outlet::{Limits, Mode, Outlet};
 use shelf::Settings;
-use text::NotNumber;
 
 // What is wrong with a line, and in which field, counted from the word as 1.
 #[derive(Clone, Copy)]
@@ -25,15 +24,25 @@ pub enum Wrong {
 }
 
 // The number that the text s of field f says.
-#[tactic(auto, unfolding(crate::specs::Ranged::ranged, text::specs::Decimals::number_of))]
+#[tactic(auto, using(text::proofs::Numbers::has_digits, text::proofs::Numbers::digit_at, text::proofs::Numbers::at_least, text::proofs::Numbers::digits_on, text::proofs::Numbers::value_on, text::proofs::Numbers::value_end, text::proofs::Numbers::grows, crate::proofs::Numbers::no_number, crate::proofs::Numbers::too_big, crate::proofs::Numbers::too_small, crate::proofs::Numbers::in_range))]
 pub fn number(s: &[u8], f: u8, lo: u16, hi: u16) -> Result<u16, Wrong>
     ensures { result ≡ ranged_of f lo hi s.now }
 {
-    match text::number(s, u64::from(hi)) {
-        Ok(n) if u64::from(lo) <= n => Ok(n as u16),
-        Ok(_) | Err(NotNumber::Above) => Err(Wrong::Range(f)),
-        Err(NotNumber::Malformed) => Err(Wrong::Number(f)),
+    if !text::decimal(s) {
+        return Err(Wrong::Number(f));
     }
+    let mut v: u32 = 0;
+    for digit in s {
+        v = v * 10 + (*digit - b'0') as u32;
+        // more digits make no smaller number
+        if (hi as u32) < v {
+            return Err(Wrong::Range(f));
+        }
+    }
+    if v < (lo as u32) {
+        return Err(Wrong::Range(f));
+    }
+    Ok(v as u16)
 }
 
 // The number in the first field of s, which is field f of its line.
