@@ -333,6 +333,7 @@ fn obey(lab: &mut Lab, bytes: &[u8], line: &[u8], command: Command, out: &mut Ou
     let answer = act(&mut shelf, bytes, &mut buffer[..n], command);
     let end = out.tell(&shelf, line, command, answer, &buffer[..n], good);
     out.end(end);
+    // a field that is an array takes no other field's value but by a variable
     let after = shelf.rows;
     lab.rows = after;
 }

@@ -1,5 +1,5 @@
 -- What is answered, field by field. Assumes nothing.
-use Rattle.std.specs.Prelude.{ℕ, List, [], ◌∷◌, get_or}
+use Rattle.std.specs.Prelude.{ℕ, List, [], ◌∷◌, get_or, codes}
 use Rattle.text.specs.Hex.{hex_of}
 use Rattle.text.specs.Decimals.{decimal}
 use Rattle.answer.specs.Answers.{arrival_word, hearing_word}
@@ -8,13 +8,13 @@ use Rattle.answer.specs.declared.Answer.TheVariants.{Loaded, Unloaded, Refused, 
 use Rattle.replies.specs.LineFields.{who}
 
 abbrev pub w_ok : List ℕ
-w_ok = 111 ∷ 107 ∷ []
+w_ok = codes "ok"
 
 abbrev pub w_refused : List ℕ
-w_refused = 114 ∷ 101 ∷ 102 ∷ 117 ∷ 115 ∷ 101 ∷ 100 ∷ []
+w_refused = codes "refused"
 
 abbrev pub w_empty : List ℕ
-w_empty = 101 ∷ 109 ∷ 112 ∷ 116 ∷ 121 ∷ []
+w_empty = codes "empty"
 
 -- the byte at a place of a cell, 0 past its end; the header and its check
 abbrev pub byte_at : List ℕ → ℕ → ℕ

@@ -1,5 +1,5 @@
 -- The answer lines of docs/CONSOLE.md up to their newline, as bytes. Assumes nothing.
-use Rattle.std.specs.Prelude.{ℕ, List, [], ◌∷◌, ◌++◌, length}
+use Rattle.std.specs.Prelude.{ℕ, List, [], ◌∷◌, ◌++◌, length, codes}
 use Rattle.octets.specs.Octets.{be4, cat}
 use Rattle.text.specs.Decimals.{number_field, number_fields}
 use Rattle.text.specs.Hex.{hex_of}
@@ -13,55 +13,55 @@ use Rattle.answer.specs.Counting.{listed}
 -- the words; a blank in a comment is a tab
 -- `load ok`
 abbrev pub t_load_ok : List ℕ
-t_load_ok = 108 ∷ 111 ∷ 97 ∷ 100 ∷ 9 ∷ 111 ∷ 107 ∷ []
+t_load_ok = codes "load\tok"
 
 -- `load refused`
 abbrev pub t_load_refused : List ℕ
-t_load_refused = 108 ∷ 111 ∷ 97 ∷ 100 ∷ 9 ∷ 114 ∷ 101 ∷ 102 ∷ 117 ∷ 115 ∷ 101 ∷ 100 ∷ []
+t_load_refused = codes "load\trefused"
 
 -- ` refused`
 abbrev pub t_refused : List ℕ
-t_refused = 9 ∷ 114 ∷ 101 ∷ 102 ∷ 117 ∷ 115 ∷ 101 ∷ 100 ∷ []
+t_refused = codes "\trefused"
 
 -- `arrive`
 abbrev pub t_arrive : List ℕ
-t_arrive = 97 ∷ 114 ∷ 114 ∷ 105 ∷ 118 ∷ 101 ∷ []
+t_arrive = codes "arrive"
 
 -- `hear`
 abbrev pub t_hear : List ℕ
-t_hear = 104 ∷ 101 ∷ 97 ∷ 114 ∷ []
+t_hear = codes "hear"
 
 -- `frame`
 abbrev pub t_frame : List ℕ
-t_frame = 102 ∷ 114 ∷ 97 ∷ 109 ∷ 101 ∷ []
+t_frame = codes "frame"
 
 -- `hand`
 abbrev pub t_hand : List ℕ
-t_hand = 104 ∷ 97 ∷ 110 ∷ 100 ∷ []
+t_hand = codes "hand"
 
 -- ` cell`
 abbrev pub t_cell : List ℕ
-t_cell = 9 ∷ 99 ∷ 101 ∷ 108 ∷ 108 ∷ []
+t_cell = codes "\tcell"
 
 -- ` empty`
 abbrev pub t_empty : List ℕ
-t_empty = 9 ∷ 101 ∷ 109 ∷ 112 ∷ 116 ∷ 121 ∷ []
+t_empty = codes "\tempty"
 
 -- ` ok`
 abbrev pub t_ok : List ℕ
-t_ok = 9 ∷ 111 ∷ 107 ∷ []
+t_ok = codes "\tok"
 
 -- `count`
 abbrev pub t_count : List ℕ
-t_count = 99 ∷ 111 ∷ 117 ∷ 110 ∷ 116 ∷ []
+t_count = codes "count"
 
 -- `show rows`
 abbrev pub t_show_rows : List ℕ
-t_show_rows = 115 ∷ 104 ∷ 111 ∷ 119 ∷ 9 ∷ 114 ∷ 111 ∷ 119 ∷ 115 ∷ []
+t_show_rows = codes "show\trows"
 
 -- `show state`
 abbrev pub t_show_state : List ℕ
-t_show_state = 115 ∷ 104 ∷ 111 ∷ 119 ∷ 9 ∷ 115 ∷ 116 ∷ 97 ∷ 116 ∷ 101 ∷ []
+t_show_state = codes "show\tstate"
 
 -- `frame NUMBER SENDER GRANTED COPIES`: "SENDER and GRANTED are `-` where there is none"
 abbrev pub frame_text : ℕ → ℕ → ℕ → ℕ → List ℕ
