@@ -1,5 +1,5 @@
 -- What an event answers, and which counters of which units rise by it. Assumes nothing.
-use Rattle.std.specs.Prelude.{ℕ, ◌+◌, Bool, true, false, List, [], ◌∷◌, replicate, slice_set, Option, Some, None}
+use Rattle.std.specs.Prelude.{ℕ, ◌+◌, Bool, true, false, List, [], ◌∷◌, codes, replicate, slice_set, Option, Some, None}
 use Rattle.shelf.specs.Shelf.{Shelf}
 use Rattle.answer.specs.declared.Answer as A
 use Rattle.answer.specs.declared.Answer.TheVariants.{Loaded, Unloaded, Refused, Arrived, Framed, Heard, Taken, Empty, Handed}
@@ -91,20 +91,20 @@ is_addressed hearing.Queued = true
 
 -- 01's words for the fates, as bytes: of an arrival
 unfoldable pub arrival_word : Ar.Arrival → List ℕ
-arrival_word arrival.Hec = 104 ∷ 101 ∷ 99 ∷ []
-arrival_word arrival.Ignored = 105 ∷ 103 ∷ 110 ∷ 111 ∷ 114 ∷ 101 ∷ 100 ∷ []
-arrival_word arrival.Misrouted = 109 ∷ 105 ∷ 115 ∷ 114 ∷ 111 ∷ 117 ∷ 116 ∷ 101 ∷ 100 ∷ []
-arrival_word arrival.Inletfull = 105 ∷ 110 ∷ 108 ∷ 101 ∷ 116 ∷ 102 ∷ 117 ∷ 108 ∷ 108 ∷ []
-arrival_word arrival.Queued = 113 ∷ 117 ∷ 101 ∷ 117 ∷ 101 ∷ 100 ∷ []
+arrival_word arrival.Hec = codes "hec"
+arrival_word arrival.Ignored = codes "ignored"
+arrival_word arrival.Misrouted = codes "misrouted"
+arrival_word arrival.Inletfull = codes "inletfull"
+arrival_word arrival.Queued = codes "queued"
 
 -- of a frame that is heard
 unfoldable pub hearing_word : He.Hearing → List ℕ
-hearing_word hearing.Damaged = 100 ∷ 97 ∷ 109 ∷ 97 ∷ 103 ∷ 101 ∷ 100 ∷ []
-hearing_word hearing.Other = 111 ∷ 116 ∷ 104 ∷ 101 ∷ 114 ∷ []
-hearing_word hearing.Wide = 119 ∷ 105 ∷ 100 ∷ 101 ∷ []
-hearing_word hearing.Full = 102 ∷ 117 ∷ 108 ∷ 108 ∷ []
-hearing_word hearing.Clp = 99 ∷ 108 ∷ 112 ∷ []
-hearing_word hearing.Queued = 113 ∷ 117 ∷ 101 ∷ 117 ∷ 101 ∷ 100 ∷ []
+hearing_word hearing.Damaged = codes "damaged"
+hearing_word hearing.Other = codes "other"
+hearing_word hearing.Wide = codes "wide"
+hearing_word hearing.Full = codes "full"
+hearing_word hearing.Clp = codes "clp"
+hearing_word hearing.Queued = codes "queued"
 
 -- 01's "Numbers given back" for each answer and 02's "11 Busy", 0 where nothing is refused
 unfoldable pub number_of : A.Answer → ℕ
