@@ -295,12 +295,7 @@ fn turn_on(
     let heeded = send_granted(s, store, buffer, each);
     let grant = requests.grant();
     let arbiter = grant.arbiter;
-    state::put_turn(
-        s,
-        arbiter,
-        grant.unit,
-        std::num::wrapping_add_u16(number, 1),
-    );
+    state::put_turn(s, arbiter, grant.unit, number.wrapping_add(1));
     let answer = Answer::Framed {
         number,
         sender,

@@ -81,8 +81,5 @@ pub fn get_all<R: Read>(
 pub fn argument(rt: &impl Env, word: &mut [u8]) -> usize
     ensures { result ≤ length word.new }
 {
-    match rt.arg(1, word) {
-        Ok(n) => n,
-        Err(_) => 0,
-    }
+    rt.arg(1, word).unwrap_or(0)
 }

@@ -10,7 +10,7 @@ returns c =
     let n = c.frame_at-number.ensures in
     let g = c.grant-grant.ensures ∙ ap granted_by c.renew_all-requests.ensures in
     let w = c.send_granted-heeded.ensures in
-    let next = c.wrapping_add_u16.ensures.value ∙ ap (λ k. (k + 1) % 2 ^ 16) n in record {
+    let next = ap (λ k. (k + 1) % 2 ^ 16) n in record {
       each_after = (λ i.
           record {
             answer = Framed (n i) (get_or b 803 0) (g i).unit (w.each_after i).copies;
