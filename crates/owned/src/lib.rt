@@ -210,9 +210,10 @@ impl<'a> Shelf<'a> {
         ensures stays { (self.new.card ≡ self.old.card) × (self.new.memory.now ≡ self.old.memory.now) × (self.new.lent ≡ self.old.lent) }
         ensures keeps { (self.new.state.ghost_name ≡ self.old.state.ghost_name) × (self.new.memory.ghost_name ≡ self.old.memory.ghost_name) × (self.new.store.ghost_name ≡ self.old.store.ghost_name) }
     {
-        let after = crate::frame(
-            self.card, self.state, self.store, self.rows, self.lent, buffer,
-        );
+        let card = self.card;
+        let rows = self.rows;
+        let lent = self.lent;
+        let after = crate::frame(card, self.state, self.store, rows, lent, buffer);
         let rows = after.rows;
         self.rows = rows;
         after.answer
@@ -224,9 +225,10 @@ impl<'a> Shelf<'a> {
         ensures stays { (self.new.card ≡ self.old.card) × (self.new.memory.now ≡ self.old.memory.now) × (self.new.lent ≡ self.old.lent) }
         ensures keeps { (self.new.state.ghost_name ≡ self.old.state.ghost_name) × (self.new.memory.ghost_name ≡ self.old.memory.ghost_name) × (self.new.store.ghost_name ≡ self.old.store.ghost_name) }
     {
-        let after = crate::hear(
-            self.card, self.state, self.store, self.rows, self.lent, unit, frame,
-        );
+        let card = self.card;
+        let rows = self.rows;
+        let lent = self.lent;
+        let after = crate::hear(card, self.state, self.store, rows, lent, unit, frame);
         let rows = after.rows;
         self.rows = rows;
         after.answer
