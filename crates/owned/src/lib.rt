@@ -1,5 +1,5 @@
-// The entry points for a program that keeps 40 counter rows in an array and lends the first so many of them: rows go in by value and come back. `Shelf`
-// has all that they are lent together, and each as a method.
+// The entry points for a program that keeps 40 counter rows in an array and lends the first so many of them: as functions, where the rows go in by value
+// and come back, and as methods of a shelf, which has all that they are lent together.
 #![tactic(auto)]
 
 ghost use Rattle.std.specs.Prelude.{◌≡◌, min};
@@ -171,6 +171,7 @@ pub struct Shelf<'a> {
     pub lent: usize,
 }
 
+// The rows go by a copy: the proof does not follow a part of a field that is lent beside other fields.
 impl<'a> Shelf<'a> {
     // A route table is loaded.
     pub fn load(&mut self, text: &[u8]) -> Answer
@@ -178,14 +179,13 @@ impl<'a> Shelf<'a> {
         ensures stays { (self.new.card ≡ self.old.card) × (self.new.store.now ≡ self.old.store.now) × (self.new.lent ≡ self.old.lent) }
         ensures keeps { (self.new.state.ghost_name ≡ self.old.state.ghost_name) × (self.new.memory.ghost_name ≡ self.old.memory.ghost_name) × (self.new.store.ghost_name ≡ self.old.store.ghost_name) }
     {
+        let n = within(self.lent);
+        let mut rows = self.rows;
         let card = self.card;
-        let rows = self.rows;
-        let lent = self.lent;
         let store = &mut *self.store;
-        let after = crate::load(card, text, self.memory, self.state, store, rows, lent);
-        let rows = after.rows;
+        let answer = entry::load(card, text, self.memory, self.state, store, &mut rows[..n]);
         self.rows = rows;
-        after.answer
+        answer
     }
 
     // A cell arrives at a unit.
@@ -194,14 +194,21 @@ impl<'a> Shelf<'a> {
         ensures stays { (self.new.card ≡ self.old.card) × (self.new.memory.now ≡ self.old.memory.now) × (self.new.lent ≡ self.old.lent) }
         ensures keeps { (self.new.state.ghost_name ≡ self.old.state.ghost_name) × (self.new.memory.ghost_name ≡ self.old.memory.ghost_name) × (self.new.store.ghost_name ≡ self.old.store.ghost_name) }
     {
+        let n = within(self.lent);
+        let mut rows = self.rows;
         let card = self.card;
-        let rows = self.rows;
-        let lent = self.lent;
         let memory = &mut *self.memory;
-        let after = crate::arrive(card, self.state, memory, self.store, rows, lent, unit, cell);
-        let rows = after.rows;
+        let answer = entry::arrive(
+            card,
+            self.state,
+            memory,
+            self.store,
+            &mut rows[..n],
+            unit,
+            cell,
+        );
         self.rows = rows;
-        after.answer
+        answer
     }
 
     // A frame on the bus.
@@ -210,13 +217,11 @@ impl<'a> Shelf<'a> {
         ensures stays { (self.new.card ≡ self.old.card) × (self.new.memory.now ≡ self.old.memory.now) × (self.new.lent ≡ self.old.lent) }
         ensures keeps { (self.new.state.ghost_name ≡ self.old.state.ghost_name) × (self.new.memory.ghost_name ≡ self.old.memory.ghost_name) × (self.new.store.ghost_name ≡ self.old.store.ghost_name) }
     {
-        let card = self.card;
-        let rows = self.rows;
-        let lent = self.lent;
-        let after = crate::frame(card, self.state, self.store, rows, lent, buffer);
-        let rows = after.rows;
+        let n = within(self.lent);
+        let mut rows = self.rows;
+        let answer = entry::frame(self.card, self.state, self.store, &mut rows[..n], buffer);
         self.rows = rows;
-        after.answer
+        answer
     }
 
     // A frame is handed in to a unit.
@@ -225,13 +230,18 @@ impl<'a> Shelf<'a> {
         ensures stays { (self.new.card ≡ self.old.card) × (self.new.memory.now ≡ self.old.memory.now) × (self.new.lent ≡ self.old.lent) }
         ensures keeps { (self.new.state.ghost_name ≡ self.old.state.ghost_name) × (self.new.memory.ghost_name ≡ self.old.memory.ghost_name) × (self.new.store.ghost_name ≡ self.old.store.ghost_name) }
     {
-        let card = self.card;
-        let rows = self.rows;
-        let lent = self.lent;
-        let after = crate::hear(card, self.state, self.store, rows, lent, unit, frame);
-        let rows = after.rows;
+        let n = within(self.lent);
+        let mut rows = self.rows;
+        let answer = entry::hear(
+            self.card,
+            self.state,
+            self.store,
+            &mut rows[..n],
+            unit,
+            frame,
+        );
         self.rows = rows;
-        after.answer
+        answer
     }
 
     // The oldest cell is taken from a unit.
@@ -240,14 +250,13 @@ impl<'a> Shelf<'a> {
         ensures stays { (self.new.card ≡ self.old.card) × (self.new.memory.now ≡ self.old.memory.now) × (self.new.store.now ≡ self.old.store.now) × (self.new.lent ≡ self.old.lent) }
         ensures keeps { (self.new.state.ghost_name ≡ self.old.state.ghost_name) × (self.new.memory.ghost_name ≡ self.old.memory.ghost_name) × (self.new.store.ghost_name ≡ self.old.store.ghost_name) }
     {
+        let n = within(self.lent);
+        let mut rows = self.rows;
         let card = self.card;
-        let rows = self.rows;
-        let lent = self.lent;
         let store = &mut *self.store;
-        let after = crate::take(card, self.state, store, rows, lent, unit, buffer);
-        let rows = after.rows;
+        let answer = entry::take(card, self.state, store, &mut rows[..n], unit, buffer);
         self.rows = rows;
-        after.answer
+        answer
     }
 
     // A unit's processor hands in a cell: the rows are as they were.
@@ -256,8 +265,14 @@ impl<'a> Shelf<'a> {
         ensures stays { (self.new.card ≡ self.old.card) × (self.new.memory.now ≡ self.old.memory.now) × (self.new.rows ≡ self.old.rows) × (self.new.lent ≡ self.old.lent) }
         ensures keeps { (self.new.state.ghost_name ≡ self.old.state.ghost_name) × (self.new.memory.ghost_name ≡ self.old.memory.ghost_name) × (self.new.store.ghost_name ≡ self.old.store.ghost_name) }
     {
-        crate::hand(
-            self.card, self.state, self.store, self.rows, self.lent, unit, cell,
+        let n = within(self.lent);
+        entry::hand(
+            self.card,
+            self.state,
+            self.store,
+            &self.rows[..n],
+            unit,
+            cell,
         )
     }
 
@@ -267,22 +282,26 @@ impl<'a> Shelf<'a> {
         ensures stays { (self.new.card ≡ self.old.card) × (self.new.memory.now ≡ self.old.memory.now) × (self.new.store.now ≡ self.old.store.now) × (self.new.lent ≡ self.old.lent) }
         ensures keeps { (self.new.state.ghost_name ≡ self.old.state.ghost_name) × (self.new.memory.ghost_name ≡ self.old.memory.ghost_name) × (self.new.store.ghost_name ≡ self.old.store.ghost_name) }
     {
+        let n = within(self.lent);
+        let mut rows = self.rows;
         let card = self.card;
-        let rows = self.rows;
-        let lent = self.lent;
         let store = &mut *self.store;
-        let after = crate::collect(card, self.state, store, rows, lent, unit, buffer);
-        let rows = after.rows;
+        let answer = entry::collect(card, self.state, store, &mut rows[..n], unit, buffer);
         self.rows = rows;
-        after.answer
+        answer
     }
 
     // The counters of a unit, or the number of the refusal.
+    #[tactic(auto, using(crate::proofs::Few::counts_few))]
     pub fn count(&self, unit: u8) -> Result<Counters, u8>
         ensures { let is = self.now in result ≡ counts_of is.card is.state.now is.store.now is.rows is.lent unit }
     {
-        crate::count(
-            self.card, self.state, self.store, self.rows, self.lent, unit,
+        entry::count(
+            self.card,
+            self.state,
+            self.store,
+            &self.rows[..within(self.lent)],
+            unit,
         )
     }
 }

@@ -1,0 +1,11 @@
+-- `Shelf::arrive` meets its contract. Assumes nothing.
+use Rattle.std.proofs.Common.{rules}
+use Rattle.owned.proofs.Few.{arrives_few}
+use Rattle.owned.proofs.Shelf.arrive.Goals as goal
+
+pub returns-clause-leaves : goal.returns-clause-leaves
+returns-clause-leaves c =
+    let a = c.args in
+    let s = c.args.self.now in
+    let w = c.arrive-answer in
+    arrives_few s.rows s.lent c.within-n.result (search rules) c.within-n.ensures s.card w.result w.new.rows s.state.now s.store.now w.new.state s.memory.now a.unit a.cell.now w.new.store w.ensures

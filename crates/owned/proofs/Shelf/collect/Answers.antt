@@ -1,0 +1,11 @@
+-- `Shelf::collect` meets its contract. Assumes nothing.
+use Rattle.std.proofs.Common.{rules}
+use Rattle.owned.proofs.Few.{collects_few}
+use Rattle.owned.proofs.Shelf.collect.Goals as goal
+
+pub returns-clause-leaves : goal.returns-clause-leaves
+returns-clause-leaves c =
+    let a = c.args in
+    let s = c.args.self.now in
+    let w = c.collect-answer in
+    collects_few s.rows s.lent c.within-n.result (search rules) c.within-n.ensures s.card w.result w.new.rows s.state.now s.store.now w.new.state a.unit a.buffer.now w.new.buffer w.ensures
