@@ -257,8 +257,8 @@ pub fn risen(c: Counters, rise: u16) -> Counters
     c.raised(rise)
 }
 
-// By the empty set a row stays as it is. It does nothing: what writes rows calls it where a row is left alone, for what it says. A function that answers the row,
-// or None where it stays, makes a frame of 16 units 1,741 instructions, this 1,548.
+// By the empty set a row stays as it is. It does nothing: what writes rows calls it where a row is left alone, for what it says. A function that answers
+// the row, or None where it stays, makes a frame of 16 units 1,741 instructions, this 1,548.
 #[tactic(auto, unfolding(crate::specs::Counting::raised))]
 fn unraised(_c: Counters)
     ensures { raised_by _c 0 ≡ _c }
@@ -315,8 +315,8 @@ pub fn last(rises: Rises) -> usize
     rises.to
 }
 
-// The counters of a load. It is given no more than the rises, which are read once for each row; a row in which nothing rises is left
-// alone. It and `raise` are all that write rows, and a load only starts them anew.
+// The counters of a load. It is given no more than the rises, which are read once for each row; a row in which nothing rises is left alone. It and
+// `raise` are all that write rows, and a load only starts them anew.
 pub fn settle(rows: &mut [Counters], rises: Rises)
     requires { (rises.to ≤ 32) × (rises.to ≤ length rows.old) }
     ensures { rows.new ≡ settled rows.old rises }
