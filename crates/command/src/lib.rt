@@ -323,7 +323,7 @@ fn event_line(s: &[u8], word: &[u8], fields: usize) -> Option<Command>
     None
 }
 
-// A line by its word and how many fields it has.
+// A line by its word and how many fields it has (no `match` on its bytes: `event::read` says why).
 #[tactic(auto, unfolding(crate::specs::Commands::spoken))]
 fn spoken(s: &[u8], word: &[u8], fields: usize) -> Option<Command>
     ensures { result ≡ spoken s.now word.now fields }
