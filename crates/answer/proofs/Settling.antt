@@ -1,12 +1,13 @@
 -- What the definitions of the counters say: which field each counter is, which rows change and how. Assumes nothing.
-use Rattle.std.proofs.Common.{◌≡◌, ℕ, zero as none, suc, ◌+◌, ◌/◌, ◌%◌, ◌^◌, ◌<◌, ◌≤◌, Bool, true, false, cond, leb, ◌⊎◌, List, [], ◌∷◌, length, get_or, set, replicate, sym, refl, ap, ◌∙◌, ⊎_elim, le_antisymm, eq-or-lt_of_le, add-one, arith, Some, length-set, get_or-set_other, get_or-set_same, ne_eqb, le-leb, leb-true}
+use Rattle.std.proofs.Common.{◌≡◌, ℕ, zero as none, suc, ◌+◌, ◌/◌, ◌%◌, ◌^◌, ◌<◌, ◌≤◌, Bool, true, false, cond, leb, ◌⊎◌, List, [], ◌∷◌, length, get_or, set, replicate, sym, refl, ap, ◌∙◌, ⊎_elim, le_antisymm, eq-or-lt_of_le, add-one, arith, Option, Some, None, length-set, get_or-set_other, get_or-set_same, ne_eqb, le-leb, leb-true}
 use lib.ListN.{length-replicate}
 use borrow.Author.Tests.{lt-leb}
 use Rattle.answer.specs.declared.Rises.{Rises}
 use Rattle.answer.specs.declared.Rise.{Rise}
-use Rattle.answer.specs.Answers.{row, spread}
+use Rattle.answer.specs.declared.Single.{Single}
+use Rattle.answer.specs.Answers.{row, spread, outcome_by}
 use Rattle.answer.specs.declared.Counters.{Counters}
-use Rattle.answer.specs.Counting.{value, zeros, raised, row_after, rise_at, row_by, settled_to, settled, rises_to, raised_from}
+use Rattle.answer.specs.Counting.{value, zeros, raised, row_after, rise_at, row_by, settled_to, settled, rises_to, raised_from, place_in, many_in, place_of, many_of}
 
 -- each counter rises by its own bit, and no other
 pub raised_value : (c : Counters) (n k : ℕ) → k < 13 → value (raised c n) k ≡ (value c k + n / 2 ^ k % 2) % 2 ^ 32
@@ -260,3 +261,16 @@ unfolding raised_from spread
 raised_one rows rise h =
     let here : rise.place + 0 ≡ rise.place = omega arith in
     ap (λ (i : ℕ). set rows i (raised (get_or rows i zeros) rise.counters)) here ∙ sym (one_row rows rise.place rise.counters h)
+
+module _ (done : Single) where
+  abbrev rising : Rises
+  rising = (outcome_by done).rises
+
+  -- the rows that change end at the last
+  pub placed_last : place_of done + many_of done ≡ rising.to
+  unfolding place_in many_in spread
+  placed_last = by_rise done.rise
+    where
+      by_rise : (o : Option Rise) → place_in o + many_in o ≡ (spread o).to
+      by_rise (Some rise) = refl
+      by_rise None = refl

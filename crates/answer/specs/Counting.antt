@@ -1,7 +1,9 @@
 -- The thirteen counters of a unit, and what an event does to the rows of them. Assumes nothing.
-use Rattle.std.specs.Prelude.{ℕ, zero as none, suc, ◌+◌, ◌/◌, ◌%◌, ◌^◌, false, cond, List, [], ◌∷◌, ◌==◌, nat_le, slice_index, slice_index_or, slice_set}
+use Rattle.std.specs.Prelude.{ℕ, zero as none, suc, ◌+◌, ◌/◌, ◌%◌, ◌^◌, false, cond, List, [], ◌∷◌, ◌==◌, nat_le, slice_index, slice_index_or, slice_set, Option, Some, None}
 use Rattle.answer.specs.Answers.{#arrived, #hec, #ignored, #misrouted, #inletfull, #sent, #unheard, #damaged, #queued, #full, #clp, #wide, #taken}
 use Rattle.answer.specs.declared.Rises.{Rises}
+use Rattle.answer.specs.declared.Rise.{Rise}
+use Rattle.answer.specs.declared.Single.{Single}
 use Rattle.answer.specs.declared.Counters.{Counters}
 
 -- "Thirteen counters a unit, each modulo 4,294,967,296: arrived, hec, ignored, misrouted, inletfull, sent, unheard, damaged, queued (outlet), full, clp, wide, taken."
@@ -81,3 +83,25 @@ rises_to to each = record { from = 0; to = to; anew = false; each = each }
 unfoldable pub raised_from : List Counters → ℕ → List ℕ → ℕ → List Counters
 raised_from rows at sets none = rows
 raised_from rows at sets (suc k) = slice_set (raised_from rows at sets k) (at + k) (raised (slice_index_or rows (at + k) zeros) (slice_index sets k))
+
+-- of an event at one unit: the set of counters that rise, the place of the row that changes, and how many do; none where it is not counted
+unfoldable pub set_in : Option Rise → ℕ
+set_in (Some rise) = rise.counters
+set_in None = 0
+
+unfoldable pub place_in : Option Rise → ℕ
+place_in (Some rise) = rise.place
+place_in None = 0
+
+unfoldable pub many_in : Option Rise → ℕ
+many_in (Some rise) = 1
+many_in None = 0
+
+abbrev pub set_of : Single → ℕ
+set_of done = set_in done.rise
+
+abbrev pub place_of : Single → ℕ
+place_of done = place_in done.rise
+
+abbrev pub many_of : Single → ℕ
+many_of done = many_in done.rise

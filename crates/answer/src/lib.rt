@@ -3,7 +3,7 @@
 
 ghost use Rattle.std.specs.Prelude.{◌≡◌, ◌+◌, ◌<◌, ◌≤◌, length};
 ghost use Rattle.answer.specs.Answers.{arrival_rises, hearing_rises, uncounted_with, counted_with, outcome_by, #arrived, #queued, #taken};
-ghost use Rattle.answer.specs.Counting.{zeros, tick as ticked, raised as raised_by, rise_at, row_by, settled, raised_from};
+ghost use Rattle.answer.specs.Counting.{zeros, tick as ticked, raised as raised_by, rise_at, row_by, settled, raised_from, set_of, place_of, many_of};
 
 // The fates of an arriving cell.
 #[derive(Clone, Copy)]
@@ -257,8 +257,8 @@ pub fn risen(c: Counters, rise: u16) -> Counters
     c.raised(rise)
 }
 
-// By the empty set a row stays as it is. It does nothing: `raise` calls it where a row is left alone, for what it says. A function that answers the row,
-// or None where it stays, makes a frame of 16 units 1,741 instructions, this 1,548.
+// By the empty set a row stays as it is. It does nothing: what writes rows calls it where a row is left alone, for what it says. A function that answers
+// the row, or None where it stays, makes a frame of 16 units 1,741 instructions, this 1,548.
 #[tactic(auto, unfolding(crate::specs::Counting::raised))]
 fn unraised(_c: Counters)
     ensures { raised_by _c 0 ≡ _c }
@@ -302,15 +302,32 @@ pub fn answer_of(o: Outcome) -> Answer
     o.answer
 }
 
-// The counters of a load. It is given no more than the rises, which are read once for each row. It and `raise` are all that write rows, and a load only
-// starts them anew.
+// The first place whose row changes, and the place after the last.
+pub fn first(rises: Rises) -> usize
+    ensures { result ≡ rises.from }
+{
+    rises.from
+}
+
+pub fn last(rises: Rises) -> usize
+    ensures { result ≡ rises.to }
+{
+    rises.to
+}
+
+// The counters of a load. It is given no more than the rises, which are read once for each row; a row in which nothing rises is left alone. It and
+// `raise` are all that write rows, and a load only starts them anew.
 pub fn settle(rows: &mut [Counters], rises: Rises)
     requires { (rises.to ≤ 32) × (rises.to ≤ length rows.old) }
     ensures { rows.new ≡ settled rows.old rises }
 {
     for i in rises.from..rises.to {
         let rise = rise_at(rises, i);
-        rows[i] = row_by(rows[i], rise);
+        if rise != 0 {
+            rows[i] = row_by(rows[i], rise);
+        } else {
+            unraised(rows[i]);
+        }
     }
 }
 
@@ -331,6 +348,37 @@ pub fn raise(rows: &mut [Counters], at: usize, sets: &[u16], n: usize)
             unraised(rows[i]);
         }
     }
+}
+
+// What an event at one unit raises: the set of counters; the place of the row; in how many rows, one or none.
+#[tactic(auto, unfolding(crate::specs::Counting::set_in))]
+pub fn set_of(done: Single) -> u16
+    ensures { result ≡ set_of done }
+{
+    if let Some(rise) = done.rise {
+        return rise.counters;
+    }
+    0
+}
+
+#[tactic(auto, unfolding(crate::specs::Counting::place_in))]
+pub fn place_of(done: Single) -> usize
+    ensures { result ≡ place_of done }
+{
+    if let Some(rise) = done.rise {
+        return rise.place;
+    }
+    0
+}
+
+#[tactic(auto, unfolding(crate::specs::Counting::many_in))]
+pub fn many_of(done: Single) -> usize
+    ensures { result ≡ many_of done }
+{
+    if done.rise.is_some() {
+        return 1;
+    }
+    0
 }
 
 // What it answers.

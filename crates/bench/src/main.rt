@@ -28,7 +28,7 @@ fn print(rt: &impl Print, out: &[u8; 512], n: usize) {
 // Prints the line of an event.
 fn say(rt: &impl Print, event: Event, outcome: Outcome, cell: &[u8]) {
     let mut out = [0u8; 512];
-    let n = replies::event_line(event, outcome, cell, &mut out);
+    let n = replies::event_line(Some(event), Some(outcome), cell, &mut out);
     print(rt, &out, n);
 }
 

@@ -1,5 +1,5 @@
 -- What a field of a console line says. Assumes nothing.
-use Rattle.std.specs.Prelude.{ℕ, ◌-◌, ◌/◌, ◌&&◌, cond, codes, List, eqb, leb, length, get_or, Option, Some, None, Result, Ok, Err, option_and_then}
+use Rattle.std.specs.Prelude.{ℕ, suc, ◌-◌, ◌/◌, ◌&&◌, cond, codes, List, [], ◌∷◌, eqb, leb, length, get_or, Option, Some, None, Result, Ok, Err, option_and_then}
 use Rattle.text.specs.Text.{fields_of, field_of, same}
 use Rattle.text.specs.Hex.{is_hex, unhex}
 use Rattle.text.specs.Decimals.{number_of}
@@ -12,6 +12,14 @@ use Rattle.command.specs.declared.Bank.TheVariants.{Memory, Store}
 infixl 10 ◌>>=◌
 abbrev pub ◌>>=◌ : {A B : Type 0} → Option A → (A → Option B) → Option B
 o >>= f = option_and_then f o
+
+-- the place of a word among names, and how many there are where it is none of them
+unfoldable pub place_from : ℕ → List (List ℕ) → List ℕ → ℕ
+place_from k [] w = k
+place_from k (n ∷ ns) w = cond (same n w) k (place_from (suc k) ns w)
+
+abbrev pub place_in : List (List ℕ) → List ℕ → ℕ
+place_in names w = place_from 0 names w
 
 -- a number up to the most that is said
 abbrev pub up_to : Result ℕ NotNumber → Option ℕ

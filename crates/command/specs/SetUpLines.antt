@@ -1,5 +1,5 @@
 -- The lines of docs/CONSOLE.md that choose a card, lend, poke and show. Assumes nothing.
-use Rattle.std.specs.Prelude.{ℕ, cond, codes, List, Option, Some, None, option_map}
+use Rattle.std.specs.Prelude.{ℕ, cond, codes, List, eqb, length, Option, Some, None, option_map}
 use Rattle.card.specs.declared.Card.TheVariants.{Narrow, Wide}
 use Rattle.text.specs.Text.{fields_of, field_of, same}
 use Rattle.command.specs.declared.Bank.{Bank}
@@ -45,3 +45,7 @@ show_lent fs =
 -- `show unit UNIT`
 unfoldable pub show_unit : List (List ℕ) → Option Command
 show_unit fs = cond (same (field_of 2 fs) (codes "unit")) (option_map command.ShowUnit (unit_in fs 3)) None
+
+-- those have two fields, this has three
+unfoldable pub show_line : List (List ℕ) → Option Command
+show_line fs = cond (eqb (length fs) 2) (show_lent fs) (cond (eqb (length fs) 3) (show_unit fs) None)

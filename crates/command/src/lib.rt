@@ -3,12 +3,33 @@
 
 ghost use Rattle.std.specs.Prelude.{◌≡◌, ◌≤◌, IfSome};
 ghost use Rattle.text.specs.Text.{fields_of};
-ghost use Rattle.command.specs.Fields.{number_in, unit_in, byte_in, span_in, bank_of, place_and_span, unit_and_span, unit_and_length};
-ghost use Rattle.command.specs.SetUpLines.{card_line, lend_bank, lend_rows, lend_line, poke_line, show_lent, show_unit};
+ghost use Rattle.command.specs.Fields.{place_in, number_in, unit_in, byte_in, span_in, bank_of, place_and_span, unit_and_span, unit_and_length};
+ghost use Rattle.command.specs.SetUpLines.{card_line, lend_bank, lend_rows, lend_line, poke_line, show_lent, show_unit, show_line};
 ghost use Rattle.command.specs.EventLines.{load_line, arrive_line, hear_line, frame_line, take_line, hand_line, collect_line, count_line};
 ghost use Rattle.command.specs.Commands.{event_line, spoken, reading_of};
 
 use card::Card;
+
+const TAB: u8 = b'\t';
+
+// The place of a word among names that are parted by tabs, and how many there are where it is none of them.
+pub fn find(names: &[u8], w: &[u8]) -> usize
+    ensures { result ≡ place_in (fields_of names.now) w.now }
+{
+    let mut from: usize = 0;
+    let mut k: usize = 0;
+    loop {
+        let e = text::field_end(names, from, TAB);
+        if text::is(&names[from..e], w) {
+            return k;
+        }
+        k += 1;
+        if names.len() <= e {
+            return k;
+        }
+        from = e + 1;
+    }
+}
 
 // The number in field f, up to the most that it may be.
 pub fn number_at(s: &[u8], f: u8, most: u64) -> Option<u64>
@@ -183,6 +204,18 @@ fn show_unit(s: &[u8]) -> Option<Command>
     None
 }
 
+// The one command whose lines have two fields or three.
+#[tactic(auto, unfolding(crate::specs::SetUpLines::show_line))]
+pub fn show_line(s: &[u8]) -> Option<Command>
+    ensures { result ≡ show_line (fields_of s.now) }
+{
+    match text::count(s) {
+        2 => show_lent(s),
+        3 => show_unit(s),
+        _ => None,
+    }
+}
+
 #[tactic(auto, unfolding(crate::specs::EventLines::load_line))]
 pub fn load_line(s: &[u8]) -> Option<Command>
     ensures { result ≡ load_line s.now }
@@ -290,7 +323,7 @@ fn event_line(s: &[u8], word: &[u8], fields: usize) -> Option<Command>
     None
 }
 
-// A line by its word and how many fields it has.
+// A line by its word and how many fields it has (no `match` on its bytes: `event::read` says why).
 #[tactic(auto, unfolding(crate::specs::Commands::spoken))]
 fn spoken(s: &[u8], word: &[u8], fields: usize) -> Option<Command>
     ensures { result ≡ spoken s.now word.now fields }

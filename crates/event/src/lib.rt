@@ -21,7 +21,7 @@ pub enum Event {
     Count(u8),
 }
 
-// The unit that s names.
+// The unit that s names; 255, as in the definition, for a number that no byte holds.
 pub fn unit_of(s: &[u8]) -> Option<u8>
     ensures { result ≡ unit_of s.now }
 {

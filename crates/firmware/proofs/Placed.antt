@@ -14,6 +14,12 @@ use Rattle.entry.specs.Counts.{count_of}
 use Rattle.entry.specs.Outcomes.{counts_of}
 use Rattle.firmware.specs.Codes.{pack, place_code}
 
+-- a place is told by its number
+module _ (at : ℕ) where
+  pub place_told : pack 9 0 0 0 at ≡ place_code (Ok at)
+  unfolding place_code
+  place_told = refl
+
 -- a place told is that of the row that `entry` counts, and the row is there; a refusal told is that refusal
 module _ (card : Card) (b store : List ℕ) (rows : List C.Counters) (unit : ℕ) where
   abbrev place : Result ℕ ℕ

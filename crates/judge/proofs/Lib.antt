@@ -1,1 +1,2 @@
 pub mod Owning
+pub mod Chains

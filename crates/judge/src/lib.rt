@@ -5,7 +5,7 @@ ghost use Rattle.std.specs.Prelude.{◌≡◌, ◌*◌, ◌+◌, ◌<◌, ◌≤
 ghost use Rattle.lookup.specs.Record.{size, record_at};
 ghost use Rattle.state.specs.Bytes.{shelf_in};
 ghost use Rattle.shelf.specs.Sessions.{hears};
-ghost use Rattle.judge.specs.Verdicts.{fine, asked, room_for, off_bus as off_bus_is, taken as taken_is, page_in, number_of};
+ghost use Rattle.judge.specs.Verdicts.{fine, asked, room_for, off_bus as off_bus_is, taken as taken_is, page_in, number_of, is_fine};
 ghost use Rattle.judge.specs.Owners.{unit_of, owner_of, sessions_at, spot as spot_of};
 ghost use Rattle.judge.specs.Judge.{judge_unit, judge_vp, judge_drop, judge_page, judge_mc};
 ghost use Rattle.judge.specs.Standing.{judge_vc_at, judge_first, judge_by};
@@ -144,6 +144,13 @@ pub fn page_in(got: Option<Record>) -> Option<Paged>
         Some(Record::Page { top, place }) => Some(Paged { top, place }),
         _ => None,
     }
+}
+
+// Whether a line is fine.
+pub fn is_fine(verdict: Verdict) -> bool
+    ensures { result ≡ is_fine verdict }
+{
+    verdict.is_ok()
 }
 
 // Document 01's number of a verdict.

@@ -9,7 +9,7 @@ ghost use Rattle.lookup.specs.Lookup.{sound_header, goes_by, by_vci, by_vpi, tra
 use card::Card;
 use header::{Header, Link};
 
-// The bytes of a record.
+// The bytes of a record: its eight bytes in a lent memory are 01's.
 pub const SIZE: usize = 8;
 
 // The most bytes of a memory that a table uses.

@@ -2,7 +2,7 @@
 use Rattle.std.specs.Prelude.{None, Option, Some}
 use mathlib.Core.Path.{◌≡◌, refl, ap, subst, ◌∙◌}
 use mathlib.Core.Logic.{◌↔◌, inr}
-use mathlib.Core.Bool.{Bool, true, false, cond}
+use mathlib.Core.Bool.{Bool, true, false, ◌&&◌, cond}
 use Prim.Native.Nat.{ℕ, zero, suc, ◌+◌, ◌-◌, ◌≤◌, ◌<◌}
 use native.Mathlib.Omega.{arith}
 use lib.Dec.{eqb, ltb}
@@ -14,6 +14,11 @@ use Rattle.outlet.specs.declared.Outlet.{Outlet}
 use Rattle.outlet.specs.Hearing.{limit, held, at_limit}
 use Rattle.outlet.specs.Taking.{queues, lowest, leaving, LeavingOf, congested_in, marks, CongestedIn}
 use Rattle.outlet.proofs.Fates.{limit_in}
+
+-- in each mode
+pub marks_in : (outlet : Outlet) (mode : Mode) → outlet.limits.mode ≡ mode → marks outlet ≡ (outlet.limits.mark && congested_in mode outlet)
+unfolding marks
+marks_in outlet mode e = ap (λ m. outlet.limits.mark && congested_in m outlet) e
 
 pub leaving_first : (outlet : Outlet) → 0 < held outlet 0 → leaving outlet ≡ Some 0
 unfolding leaving lowest

@@ -1,5 +1,6 @@
--- How a walk lends rows: the first so many of 40 rows in a local array are lent to an entry point, and the array is whole again afterwards.
+-- What the walks of `owned` share: the first so many of 40 rows in a local array are lent to an entry point, and the array is whole again afterwards.
 --     to_write, to_read     how they are lent and come back, as a `&mut` slice and as a `&` one.        lends_to     the call of an entry point with them
+--     withins, joins     the other two calls
 -- Assumes `Logic`, and that the table of calls is monotone under a frame.
 pub use Rattle.entry.proofs.Walking.{◌≡◌, refl, none, ℕ, List, [], ◌∷◌, ◌++◌, length, Ura, full_share, named, imm, mut, w8, w64, ty_ref, Val, vint, vptr, SProp, ent, emp, id⊢, via, fst∗, Lft, Share, Memory, Routine, Heap, Env, WpFn, Tables, Atoms, Fun, tables, Item, ‵, raw, runs, at_ret, Sq, ◌$◌, ◌∵◌, !, qed, by, move, look, init, stop, hop, fld, from, load, addr, of_opd, and_then, no_more, assigns, land, returns, enter, alloc1, alloc0, params1, pass1, pass0, agg, whole, sub, look_in, fm_of, owns, Is, u8, usize, slice_ty, shr_slice_vals, mut_slice_vals, mut_slice_Tells, shr_slice_Tells, shr_vals, mut_vals, mut_Tells, shr_Tells, uint_vals, uint_Tells, on_entry, Meets, triple_of, Contract, Triple, entered, cited}
 unfoldable pub use contract.Running.{tables_of}
@@ -55,6 +56,17 @@ use Rattle.answer.proofs.Calls.{calls_of, calls_plain}
 use Rattle.entry.proofs.Arguments.{the_array, the_number, the_rows, ref, shown, Typed}
 use Rattle.entry.proofs.Entering.{answer_owned}
 use Rattle.entry.proofs.Ending.{owning, tokened}
+use Rattle.owned.specs.declared.After.{After}
+use Rattle.owned.specs.contracts.After as F
+use Rattle.owned.proofs.After.TheLaws as F'
+use Rattle.owned.specs.contracts.within as within
+use Rattle.owned.proofs.within.Symbol as within_def
+use Rattle.owned.proofs.within.Symbol.{name as #within}
+use Rattle.owned.proofs.within.Met as within_thm
+use Rattle.owned.specs.contracts.joined as joined
+use Rattle.owned.proofs.joined.Symbol as joined_def
+use Rattle.owned.proofs.joined.Symbol.{name as #joined}
+use Rattle.owned.proofs.joined.Met as joined_thm
 
 -- ---- of what parameters own, or of what is said of their last values: the rows in place of the array and the number, and two that say nothing in place of the rows. Likewise of tokens
 module _ {M : Type 1} {𝓤 : Ura M} {𝓛 : Logic 𝓤} {K : Type 0} where
@@ -83,6 +95,9 @@ array = ty_array T'.mir 40
 abbrev pub array_again : Ty
 array_again = again (pointee Row40.written)
 
+abbrev pub after_mir : Ty
+after_mir = F'.mir
+
 -- the arguments of `owned`: those before the rows, the rows and how many are lent, those after
 abbrev pub had : List Arg → Got Row40 → Got usize → List Arg → List Arg
 had before rows lent after = before ++ the_array rows ∷ the_number lent ∷ after
@@ -96,6 +111,12 @@ rest rows lent = dropped (min lent 40) rows
 
 pub All-there : (rows : List Counters) (lent : ℕ) → length rows ≡ 40 → (zs : List Counters) → length zs ≡ length (few rows lent) → length (zs ++ rest rows lent) ≡ 40
 All-there rows lent long zs e = omega (arith, length-append zs (rest rows lent), length-drop (min lent 40) rows, length-take (min lent 40) rows, long, e)
+
+many : (rows : List Counters) (lent : ℕ) → length rows ≡ 40 → length (few rows lent) ≡ min lent 40
+many rows lent long = omega (arith, length-take (min lent 40) rows, long)
+
+abbrev pub after_with : Got Row40 → Got usize → Answer → List Counters → After
+after_with rows lent r zs = record { answer = r; rows = zs ++ rest rows.x lent.x }
 
 -- ---- the rows that are lent, of an array of rows at l: the first so many
 module _ (rows : Got Row40) (lent : Got usize) (l : ℕ) where
@@ -194,11 +215,73 @@ fits rows lent = (out rows lent 0 0).room.0
 abbrev pub written : Lent u8 → List ℕ → Fml
 written x zs = fsep (finally u8 x.γ zs) (feq ℕ (length zs) (length x.at))
 
+-- ---- the other two calls
+module _ {M : Type 1} {𝓤 : Ura M} (𝓛 : Logic 𝓤) (mem : Memory → SProp 𝓤) (run : Routine → Fun 𝓤) where
+  open 𝓛 use {H}
+
+  abbrev pub Within : Contract 𝓤
+  Within = Of 𝓛 within.ended (within.clauses 𝓛 mem run)
+
+  abbrev pub Joined : Contract 𝓤
+  Joined = Of 𝓛 joined.ended (joined.clauses 𝓛 mem run)
+
+  -- each is proved of the routine that a table of calls has for it
+  abbrev pub Within-known : Calls 𝓤 H → Type 1
+  Within-known C = Triple 𝓤 (C #within) Within
+
+  abbrev pub Joined-known : Calls 𝓤 H → Type 1
+  Joined-known C = Triple 𝓤 (C #joined) Joined
+
+  abbrev pub to_within : Got usize → Within.Ghost
+  to_within n = ((tt, tt, tt, (n.x, tt), (n.v ∷ [], tt)), tt)
+
+  abbrev pub to_joined : Answer → List Counters → Val → Val → Joined.Ghost
+  to_joined r zs nv rv = ((tt, tt, tt, (r, (zs, tt)), (nv ∷ [], (rv ∷ [], tt))), tt)
+
+  goes_within : (n : Got usize) → ent 𝓤 (emp 𝓤) (Within.pre (to_within n))
+  goes_within n = qed 𝓛 [] ∵ nothing ! $ owned ! usize (Is usize) (uint_Makes 𝓛 w64) n.x _ n.ok $ fjoin ! $ nothing ! $ join ! $ frame ! $ done !
+
+  goes_joined : (r : Answer) (zs : List Counters) (nv rv : Val) → Is N.the_row r (nv ∷ []) → Is Row40 zs (rv ∷ []) → ent 𝓤 (emp 𝓤) (Joined.pre (to_joined r zs nv rv))
+  goes_joined r zs nv rv n_ok r_ok =
+      qed 𝓛 [] ∵ nothing ! $ owned ! Row40 (Is Row40) (makes40 𝓛) zs _ r_ok $ fjoin ! $ answer_owned ! r _ n_ok $ fjoin ! $ nothing ! $ join ! $ frame ! $ done !
+
 module _ {M : Type 1} {𝓤 : Ura M} {𝓛 : Logic 𝓤} {K : Type 0} {Γ : List (Item 𝓤)} {G : Goal 𝓤 𝓛.H} where
   -- what an entry point that answers has told
   pub answered : K → (φ : Type 0) (r : Answer) (v : Val) → (φ → Is N.the_row r (v ∷ []) → Seq K 𝓛 Γ G) → Seq K 𝓛 (raw (fact 𝓤 φ) ∷ ‵ ((N.the_row).own_val r (v ∷ [])) ∷ Γ) G
   answered t φ r v k = heard t φ (λ told. facts t N.the_row (Is N.the_row) (shows 𝓛 N.the_row) r (v ∷ []) (λ ok. k told ok))
 
+module _ {M : Type 1} {𝓤 : Ura M} {𝓛 : Logic 𝓤} {K : Type 0} {Γ : List (Item 𝓤)} {E : Env 𝓤 𝓛.H} {ops : List Operand} {q : Post 𝓤 𝓛.H} {d : Place} {on : Body} where
+  open 𝓛 use {H}
+
+  pub withins : K → (𝓣 : Tables 𝓤 H) (mem : Memory → SProp 𝓤) (run : Routine → Fun 𝓤) → Within-known 𝓛 mem run 𝓣.C → (rows : Got Row40) (lent : Got usize)
+      → Opds K 𝓛 (raw ((Within 𝓛 mem run).pre (to_within 𝓛 mem run lent)) ∷ Γ) E ops (lent.v ∷ [])
+      → Step K 𝓛 Γ (lands 𝓣.C 𝓣.Λ E d (vint w64 (length (few rows.x lent.x))) on q) Γ (runs 𝓣.C 𝓣.Λ E (seq (call #within ops d) on) q)
+  withins t 𝓣 mem run known rows lent os =
+      step (λ k. calls_plain t (fm_of 𝓤 H 𝓛.laws 𝓣) within.ended (within.clauses 𝓛 mem run) known (to_within 𝓛 mem run lent) (goes_within 𝓛 mem run lent) (λ r. r ≡ min lent.x 40) (λ r e. id⊢ 𝓤 _) os
+      (λ v r e ok. subst (λ (u : Val). Seq K 𝓛 Γ (lands 𝓣.C 𝓣.Λ E d u on q)) (sym (ap only ok.0 ∙ ap (vint w64) (e ∙ sym (many rows.x lent.x rows.ok.1.0.1)))) k))
+
+  pub joins : K → (𝓣 : Tables 𝓤 H) (mem : Memory → SProp 𝓤) (run : Routine → Fun 𝓤) → Joined-known 𝓛 mem run 𝓣.C
+      → (r : Answer) (zs : List Counters) (nv rv : Val) → Is N.the_row r (nv ∷ []) → Is Row40 zs (rv ∷ []) → Opds K 𝓛 (raw ((Joined 𝓛 mem run).pre (to_joined 𝓛 mem run r zs nv rv)) ∷ Γ) E ops (nv ∷ rv ∷ [])
+      → ((v : Val) → Is F.the_row (record { answer = r; rows = zs }) (v ∷ []) → Seq K 𝓛 Γ (lands 𝓣.C 𝓣.Λ E d v on q)) → Seq K 𝓛 Γ (runs 𝓣.C 𝓣.Λ E (seq (call #joined ops d) on) q)
+  joins t 𝓣 mem run known r zs nv rv n_ok r_ok os k =
+      calls_plain t (fm_of 𝓤 H 𝓛.laws 𝓣) joined.ended (joined.clauses 𝓛 mem run) known (to_joined 𝓛 mem run r zs nv rv) (goes_joined 𝓛 mem run r zs nv rv n_ok r_ok) (λ h. (h.answer ≡ r) × (h.rows ≡ zs)) (λ h _. id⊢ 𝓤 _) os
+      (λ v h e ok. k v (subst (λ (x : After). Is F.the_row x (v ∷ [])) (λ i. record { answer = e.0 i; rows = e.1 i }) ok))
+
 module _ {M : Type 1} {𝓤 : Ura M} (𝓛 : Logic 𝓤) where
   pub number_typed : (n : Got usize) → Typed word n.v
   number_typed n = ((uint_Lawful 𝓛 w64).typed n.x (n.v ∷ []) n.ok).0
+
+  pub after_owned : (x : After) (v : Val) → Is F.the_row x (v ∷ []) → ent 𝓤 (emp 𝓤) (sem 𝓛 ((F.the_row).own_val x (v ∷ [])))
+  after_owned x v ok = LL.makes F.the_type F'.the_plain 𝓛 x (v ∷ []) ok
+
+  pub after_typed : (x : After) (v : Val) → Is F.the_row x (v ∷ []) → Typed F'.mir v
+  after_typed x v ok = ((LL.lawful F.the_type F'.the_laws 𝓛).typed x _ ok).0
+
+module _ {M : Type 1} {𝓤 : Ura M} (𝓛 : Logic 𝓤) (𝓜 : Model 𝓤 𝓛.H) (𝓡 : Running 𝓤 𝓛.H 𝓜) (γ : Names) where
+  open 𝓛 use {H}
+
+  pub knows_within : Wired γ within_def.code → Within-known 𝓛 𝓜.mem 𝓡.run (tables 𝓤 H 𝓜 𝓡 γ).C
+  knows_within w = cited 𝓤 H (Within 𝓛 𝓜.mem 𝓡.run) 𝓜 𝓡 γ #within (γ #within) refl (within_thm.met 𝓤 𝓛 𝓜 (in_names 𝓤 H 𝓜 𝓡 γ) w)
+
+  pub knows_joined : Wired γ joined_def.code → Joined-known 𝓛 𝓜.mem 𝓡.run (tables 𝓤 H 𝓜 𝓡 γ).C
+  knows_joined w = cited 𝓤 H (Joined 𝓛 𝓜.mem 𝓡.run) 𝓜 𝓡 γ #joined (γ #joined) refl (joined_thm.met 𝓤 𝓛 𝓜 (in_names 𝓤 H 𝓜 𝓡 γ) w)

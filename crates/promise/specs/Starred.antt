@@ -10,7 +10,7 @@ use Rattle.bus.specs.declared.Target.TheVariants.{Unit as unit, Session as sessi
 use Rattle.card.specs.declared.Card.{Card}
 use Rattle.card.specs.declared.Card.TheVariants.{Narrow}
 use Rattle.table.specs.Load.{load}
-use Rattle.table.specs.Loading.{LoadOutcome, refusal_of}
+use Rattle.table.specs.Loading.{LoadOutcome}
 
 -- a case, and the value that the document gives
 pub data Case : Type 0 where
@@ -61,5 +61,5 @@ starred =
     routing_of 3 (session 17) 0x711d ∷
     -- "Outgoing VPI 255 is good on the narrow card; 256 is Wide."
     load_of Narrow (path (50 ∷ 53 ∷ 53 ∷ [])) (Ok 8) ∷
-    load_of Narrow (path (50 ∷ 53 ∷ 54 ∷ [])) (refusal_of 5 3) ∷
+    load_of Narrow (path (50 ∷ 53 ∷ 54 ∷ [])) (Err (record { number = 5; line = 3 })) ∷
     []

@@ -250,43 +250,50 @@ fn put_counters(out: &mut [u8], at: usize, unit: u8, c: Counters) -> usize
 
 // Writes what is said of an event behind its word.
 #[tactic(auto, unfolding(crate::specs::Lines::outcome_text))]
-fn put_outcome(out: &mut [u8], at: usize, unit: u8, outcome: Outcome, cell: &[u8]) -> usize
+fn put_outcome(out: &mut [u8], at: usize, unit: u8, outcome: Option<Outcome>, cell: &[u8]) -> usize
     requires { at + 294 ≤ length out.old }
     ensures { Wrote out.old at (outcome_text unit outcome cell.now) result out.new × (result ≤ at + 294) }
 {
     match outcome {
-        Outcome::Answered(answer) => put_answer(out, at, unit, answer, cell),
-        Outcome::Counted(c) => put_counters(out, at, unit, c),
+        None => at,
+        Some(Outcome::Answered(answer)) => put_answer(out, at, unit, answer, cell),
+        Some(Outcome::Counted(c)) => put_counters(out, at, unit, c),
     }
 }
 
-// Writes the word of an event.
+// Writes the word of an event, or of what is none.
 #[tactic(auto, unfolding(crate::specs::Lines::word_of))]
-fn put_word(out: &mut [u8], event: Event) -> usize
+fn put_word(out: &mut [u8], event: Option<Event>) -> usize
     requires { 6 ≤ length out.old }
     ensures { Wrote out.old 0 (word_of event) result out.new × (result ≤ 6) }
 {
     match event {
-        Event::Arrive { .. } => text::put(out, 0, b"arrive"),
-        Event::Frame => text::put(out, 0, b"frame"),
-        Event::Take(_) => text::put(out, 0, b"take"),
-        Event::Count(_) => text::put(out, 0, b"count"),
+        Some(Event::Arrive { .. }) => text::put(out, 0, b"arrive"),
+        Some(Event::Frame) => text::put(out, 0, b"frame"),
+        Some(Event::Take(_)) => text::put(out, 0, b"take"),
+        Some(Event::Count(_)) => text::put(out, 0, b"count"),
+        None => text::put(out, 0, b"bad"),
     }
 }
 
 // The unit that an event names; 0 where it names none.
 #[tactic(auto, unfolding(crate::specs::Lines::unit_of))]
-fn unit_of(event: Event) -> u8
+fn unit_of(event: Option<Event>) -> u8
     ensures { result ≡ unit_of event }
 {
     match event {
-        Event::Arrive { unit, .. } | Event::Take(unit) | Event::Count(unit) => unit,
-        Event::Frame => 0,
+        Some(Event::Arrive { unit, .. } | Event::Take(unit) | Event::Count(unit)) => unit,
+        Some(Event::Frame) | None => 0,
     }
 }
 
-// Writes the line of an event to the front of out, and says how long it is.
-pub fn event_line(event: Event, outcome: Outcome, cell: &[u8], out: &mut [u8]) -> usize
+// Writes the line of an event, or of what is none, to the front of out, and says how long it is. Of the event nothing may be said behind its word.
+pub fn event_line(
+    event: Option<Event>,
+    outcome: Option<Outcome>,
+    cell: &[u8],
+    out: &mut [u8],
+) -> usize
     ensures { Wrote out.old 0 (fitting out.old (event_line event outcome cell.now)) result out.new }
 {
     if out.len() < ROOM {

@@ -218,7 +218,8 @@ fn cells(s: &[u8; 2048], i: usize) -> u8
         .wrapping_add(loopback)
 }
 
-// What is noted of the unit in a place: 128, 4 times the place, and how it stands; 0 past the declared units.
+// What is noted of the unit in a place: 128, 4 times the place, and how it stands; 0 past the declared units. Bytes and no Option: 16 places are noted
+// in one go.
 fn note(s: &[u8; 2048], i: usize, granted: u8, count: u8) -> u8
     requires { i < 32 }
     ensures { result ≡ note_at granted count s.now i }

@@ -8,7 +8,7 @@ ghost use Rattle.store.specs.Rings.{next as next_of, tail as tail_of, pushed as 
 
 use outlet::{Limits, Mode, Outlet, Ring};
 
-// The bytes of a slot: a cell before its parity.
+// The bytes of a slot in the lent store (01's sizes): a cell before its parity.
 pub const CELL: usize = 56;
 
 // The bytes of a unit's part of the store.

@@ -141,8 +141,17 @@ module _ (tab : ℕ) (s : List ℕ) (i : ℕ) (h : i < length s) where
   pub end_byte : (get_or s i 0 ≡ tab → ⊥) → length (at (split tab (drop i s)) 0) ≡ suc (length (at (split tab (drop (i + 1) s)) 0))
   end_byte e = rw (split_byte tab s i h e)
 
+  pub count_tab : get_or s i 0 ≡ tab → length (split tab (drop i s)) ≡ suc (length (split tab (drop (i + 1) s)))
+  count_tab e = rw (split_tab tab s i h e)
+
+  pub count_byte : (get_or s i 0 ≡ tab → ⊥) → length (split tab (drop i s)) ≡ length (split tab (drop (i + 1) s))
+  count_byte e = rw (split_byte tab s i h e) (length_push (get_or s i 0) tab (drop (i + 1) s))
+
 pub end_end : (tab : ℕ) (s : List ℕ) (i : ℕ) → length s ≤ i → length (at (split tab (drop i s)) 0) ≡ 0
 end_end tab s i h = rw (split_end tab s i h)
+
+pub count_end : (tab : ℕ) (s : List ℕ) (i : ℕ) → length s ≤ i → length (split tab (drop i s)) ≡ 1
+count_end tab s i h = rw (split_end tab s i h)
 
 -- how many fields the line from here on has, byte by byte
 module _ (s : List ℕ) (i : ℕ) (h : i < length s) where

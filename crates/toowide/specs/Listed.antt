@@ -1,5 +1,5 @@
 -- What is listed of a table that the wide card takes: exactly its lines of 01's Wide, in order. Assumes nothing.
-use Rattle.std.specs.Prelude.{ℕ, ◌+◌, ◌-◌, ◌<◌, ◌≡◌, true, List, [], ◌∷◌, ◌++◌, map, ◌↔◌, length, take, drop, Ok, Option, Some, None}
+use Rattle.std.specs.Prelude.{ℕ, ◌+◌, ◌-◌, ◌<◌, ◌≡◌, true, List, [], ◌∷◌, ◌++◌, map, ◌↔◌, length, take, drop, Ok, Err, Option, Some, None}
 use Rattle.header.specs.declared.Link.TheVariants.{Nni}
 use Rattle.card.specs.declared.Ask.{Ask}
 use Rattle.card.specs.declared.Ask.TheVariants.{Bus as A-as-Bus, On, Out}
@@ -12,7 +12,6 @@ use Rattle.promise.specs.Refusals.{Accepts}
 use Rattle.promise.specs.Says.{IsWide}
 use Rattle.toowide.specs.Asks.{ask_of, beyond}
 use Rattle.toowide.specs.Listing.{Wide, wide_lines, following}
-use Rattle.table.specs.Loading.{refusal_of}
 
 -- who asks for the next one until there is none gets the list
 abbrev pub NextByNext : Type 0
@@ -64,7 +63,7 @@ module _ (text memory : List ℕ) (store rows : ℕ) (told : List Line) where
   abbrev pub FirstNamed : Type 0
   FirstNamed =
       Accepts W text memory store rows told → (line : ℕ) →
-      ((load Narrow text memory store rows).outcome ≡ refusal_of 5 line) ↔ ((w : Wide) × (rest : List Wide) × (wide_lines text ≡ w ∷ rest) × (w.number ≡ line))
+      ((load Narrow text memory store rows).outcome ≡ Err (record { number = 5; line = line })) ↔ ((w : Wide) × (rest : List Wide) × (wide_lines text ≡ w ∷ rest) × (w.number ≡ line))
 
   -- and there is none exactly if the narrow card takes it too
   abbrev pub NoneIfTaken : Type 0
@@ -75,5 +74,5 @@ module _ (text memory : List ℕ) (store rows : ℕ) (told : List Line) where
 -- also where the wide card does not take it: what the narrow card names for 5 is the first line of the list
 abbrev pub NamedFirst : Type 0
 NamedFirst =
-    (text memory : List ℕ) (store rows line : ℕ) → (load Narrow text memory store rows).outcome ≡ refusal_of 5 line →
+    (text memory : List ℕ) (store rows line : ℕ) → (load Narrow text memory store rows).outcome ≡ Err (record { number = 5; line = line }) →
     (w : Wide) × (rest : List Wide) × (wide_lines text ≡ w ∷ rest) × (w.number ≡ line)
